@@ -1,29 +1,88 @@
 """Conditions of Argo Rollouts, as far as `canary argo` takes them: what they say of a value, what
 an agent has to report for them, and as what it is reported. All of it comes from Argo's text.
 
-A value is a Fraction, NAN, INFINITE, or a list of these."""
+A value is a Fraction, NAN, INFINITE, MINUS_INFINITE, NULL, or a list of these."""
+import collections
+import functools
+import math
 import re
 from fractions import Fraction
 
-NAN, INFINITE = "NaN", "+Inf"
-# The greatest number that is reported of a value, and what is reported of NaN.
-MOST, NAN_NUMBER = 9_223_372_036_854_775_803, -2 ** 63
+NAN, INFINITE, MINUS_INFINITE, NULL = "NaN", "+Inf", "-Inf", "null"
+# The greatest number that is reported of a decimal, and what is reported of what is none.
+MOST = 9_223_372_036_854_775_803
+NUMBERS = {NAN: -2 ** 63, MINUS_INFINITE: -2 ** 63 + 1, NULL: -2 ** 63 + 2, INFINITE: 2 ** 63 - 1}
+# What is reported beside decimals, by the letter of a label.
+BESIDE = {"": (), "n": (NAN,), "i": (NAN, INFINITE, MINUS_INFINITE), "s": tuple(NUMBERS)}
 LEAST_PLACES = 6
 COMPARISONS = ("==", "!=", "<", "<=", ">", ">=")
-TOKEN = re.compile(r"[ \t\r\n]*(-?[0-9]+(?:\.[0-9]+)?|[A-Za-z]+|[=!<>]=|&&|\|\||[<>!()\[\]])")
+DIGITS = "[0-9][0-9_]*"
+NUMBER = (rf"-?(?:0[xX][0-9A-Fa-f][0-9A-Fa-f_]*|(?:{DIGITS}(?:\.{DIGITS})?|\.{DIGITS})"
+          rf"(?:[eE][+-]?{DIGITS})?)(?![0-9A-Za-z_.])")
+TOKEN = re.compile(rf"[ \t\r\n]*({NUMBER}|[A-Za-z]+|[=!<>]=|&&|\|\||[<>!()\[\],])")
 TURNED = {"==": "==", "!=": "!=", "<": ">", "<=": ">=", ">": "<", ">=": "<="}
+# What is looked at: "whole", "length" or the number of a place, the function round it, and the
+# number of a `default`.
+Look = collections.namedtuple("Look", "place function number")
 
 
 class Fault(Exception):
     """A condition looks for what the value does not have."""
 
 
+# ---- numbers
+
+def parts_of_number(text):
+    """The sign, the digits before the point and after it, and the exponent of a decimal."""
+    sign, whole, after, power = re.fullmatch(
+        r"(-?)([0-9]*)\.?([0-9]*)(?:[eE]([+-]?[0-9]+))?", text.replace("_", "")).groups()
+    return -1 if sign else 1, whole, after, int(power or 0)
+
+
+def is_hexadecimal(text):
+    return text.lstrip("-")[:2] in ("0x", "0X")
+
+
+@functools.cache
+def exact(text):
+    """The number that a text spells."""
+    if is_hexadecimal(text):
+        return Fraction(int(text.replace("_", ""), 16))
+    sign, whole, after, power = parts_of_number(text)
+    return sign * int(whole + after) * Fraction(10) ** (power - len(after))
+
+
+@functools.cache
+def digits_after_point(text):
+    """The digits after the point, as many as are written, and those that an exponent adds."""
+    if is_hexadecimal(text):
+        return 0
+    _, _, after, power = parts_of_number(text)
+    return len(after) + max(0, -power)
+
+
 # ---- reading
+
+def condition(tree):
+    """The tree, if it is no operand."""
+    if tree[0] in ("value", "number"):
+        raise ValueError(f"{tree} alone")
+    return tree
+
+
+def comparison(left, sign, right):
+    """The tree of a comparison, with its value first."""
+    if (left[0], right[0]) == ("value", "number"):
+        return ("compare", left[1], sign, right[1])
+    if (left[0], right[0]) == ("number", "value"):
+        return ("compare", right[1], TURNED[sign], left[1])
+    raise ValueError(f"{left} {sign} {right}")
+
 
 class Reader:
     """Reads a text to a tree: ("or", left, right), ("and", left, right), ("not", inner),
-    ("is-nan", place), ("compare", place, sign, number), where a place is "whole", "length" or a
-    number, and the number of a comparison is a text."""
+    ("ask", look), ("compare", look, sign, number), where the number is a text. What stands in
+    brackets is a tree, too, or an operand: ("value", look) or ("number", text)."""
 
     def __init__(self, text):
         text = text.rstrip(" \t\r\n")
@@ -53,7 +112,7 @@ class Reader:
         return found
 
     def whole(self):
-        tree = self.either()
+        tree = condition(self.either())
         if self.next():
             raise ValueError(f"{self.words}: more at {self.at}")
         return tree
@@ -61,58 +120,59 @@ class Reader:
     def either(self):
         tree = self.both()
         while self.take("||", "or"):
-            tree = ("or", tree, self.both())
+            tree = ("or", condition(tree), condition(self.both()))
         return tree
 
     def both(self):
-        tree = self.part()
+        tree = self.compared()
         while self.take("&&", "and"):
-            tree = ("and", tree, self.part())
+            tree = ("and", condition(tree), condition(self.compared()))
         return tree
+
+    def compared(self):
+        left = self.part()
+        sign = self.take(*COMPARISONS)
+        return comparison(left, sign, self.part()) if sign else left
 
     def part(self):
         if self.take("!", "not"):
-            return ("not", self.part())
+            return ("not", condition(self.part()))
         if self.take("("):
             tree = self.either()
             self.need(")")
             return tree
-        if self.take("isNaN"):
-            self.need("(")
-            place = self.place()
-            self.need(")")
-            return ("is-nan", place)
-        return self.comparison()
+        return ("number", self.number()) if self.is_number() else self.call()
 
-    def comparison(self):
-        if re.match(r"-?[0-9]", self.next()):
-            number, sign = self.number(), self.need(*COMPARISONS)
-            return ("compare", self.value(), TURNED[sign], number)
-        place, sign = self.value(), self.need(*COMPARISONS)
-        return ("compare", place, sign, self.number())
-
-    def value(self):
-        if self.take("asFloat"):
-            self.need("(")
-            place = self.place()
-            self.need(")")
-            return place
-        if self.take("len"):
-            self.need("(")
-            self.need("result")
-            self.need(")")
-            return "length"
-        return self.place()
+    def call(self):
+        """A value, or a question for one."""
+        function = self.take("isNaN", "isInf", "asFloat", "asInt", "default", "len")
+        if function is None:
+            return ("value", Look(self.place(), "", None))
+        self.need("(")
+        place, number = self.place(), None
+        if function == "default":
+            self.need(",")
+            number = self.number()
+        self.need(")")
+        if function == "len" and place == "whole":
+            return ("value", Look("length", "", None))
+        kind = "ask" if function in ("isNaN", "isInf") else "value"
+        return (kind, Look(place, function, number))
 
     def place(self):
         self.need("result")
         if not self.take("["):
             return "whole"
-        place = int(self.number())
+        place = exact(self.number())
         self.need("]")
-        return place
+        return int(place)
+
+    def is_number(self):
+        return re.match(r"-?[.0-9]", self.next()) is not None
 
     def number(self):
+        if not self.is_number():
+            raise ValueError(f"{self.words}: no number at {self.at}")
         self.at += 1
         return self.words[self.at - 1]
 
@@ -137,9 +197,14 @@ def at_place(place, value):
 
 
 def compared(left, sign, right):
-    """Whether a comparison holds; of those with NaN only `!=` does."""
+    """Whether a comparison holds; of those with NaN only `!=` does. An infinity is beyond each
+    number, and null is compared with none."""
+    if left == NULL:
+        raise Fault
     if left == NAN:
         return sign == "!="
+    if left in (INFINITE, MINUS_INFINITE):
+        left, right = 1 if left == INFINITE else -1, 0
     return {"==": left == right, "!=": left != right, "<": left < right, "<=": left <= right,
             ">": left > right, ">=": left >= right}[sign]
 
@@ -149,11 +214,38 @@ class Meaning:
 
     @staticmethod
     def constant(text):
-        return Fraction(text)
+        return exact(text)
 
     @staticmethod
     def compares(left, sign, right):
         return compared(left, sign, right)
+
+    @staticmethod
+    def whole(value):
+        """What `asInt` makes of a decimal: it is cut off towards 0."""
+        return Fraction(math.trunc(value))
+
+    def instead(self, number):
+        """What stands in place of null, by the number of a `default`."""
+        return self.constant(number)
+
+    def seen(self, look, value):
+        """What a comparison sees of a value, by the function round it."""
+        found = at_place(look.place, value)
+        if look.function == "default" and found == NULL:
+            return self.instead(look.number)
+        if look.function != "asInt":
+            return found
+        if not isinstance(found, Fraction):
+            raise Fault
+        return self.whole(found)
+
+    @staticmethod
+    def asked(function, found):
+        """What `isNaN` or `isInf` says."""
+        if found == NULL:
+            raise Fault
+        return found in ((NAN,) if function == "isNaN" else (INFINITE, MINUS_INFINITE))
 
     def joined(self, tree, value):
         """The right side counts only if the left one does not decide."""
@@ -167,19 +259,19 @@ class Meaning:
             return self.joined(tree, value)
         if kind == "not":
             return not self.says(tree[1], value)
-        if kind == "is-nan":
-            return at_place(tree[1], value) == NAN
-        _, place, sign, number = tree
-        return self.compares(at_place(place, value), sign, self.constant(number))
+        if kind == "ask":
+            return self.asked(tree[1].function, at_place(tree[1].place, value))
+        _, look, sign, number = tree
+        return self.compares(self.seen(look, value), sign, self.constant(number))
 
     @staticmethod
     def cannot_report(form, value):
         return form.cannot_report(value)
 
-    def phase(self, trees, value):
+    def phase(self, trees, form, value):
         """The phase of a measurement of this value, by its success and failure conditions, of
         which one may be none."""
-        if self.cannot_report(Form(trees), value):
+        if self.cannot_report(form, value):
             return "Error"
         try:
             success, failure = (tree and self.says(tree, value) for tree in trees)
@@ -195,7 +287,7 @@ class Meaning:
 # ---- what is reported
 
 def parts_of(tree):
-    """The comparisons and the calls of isNaN in a tree."""
+    """The comparisons and the calls of isNaN and isInf in a tree."""
     if tree[0] in ("or", "and", "not"):
         for part in tree[1:]:
             yield from parts_of(part)
@@ -203,8 +295,12 @@ def parts_of(tree):
         yield tree
 
 
-def digits_after_point(number):
-    return len(number.partition(".")[2])
+def numbers_of(part):
+    """The numbers to which a value is compared, or that stand in place of null."""
+    if part[1].place != "length":
+        yield from part[3:]
+    if part[1].number is not None:
+        yield part[1].number
 
 
 class Form:
@@ -212,13 +308,14 @@ class Form:
 
     def __init__(self, trees):
         parts = [part for tree in trees if tree for part in parts_of(tree)]
-        named = {part[1] for part in parts}
+        named = {part[1].place for part in parts}
         self.is_list = "whole" not in named
         self.has_length = "length" in named
         self.count = max((place + 1 for place in named if isinstance(place, int)), default=0)
-        self.has_nan = any(part[0] == "is-nan" for part in parts)
-        digits = [digits_after_point(part[3]) + 1 for part in parts
-                  if part[0] == "compare" and part[1] != "length"]
+        functions = {part[1].function for part in parts}
+        self.letter = ("s" if "default" in functions else "i" if "isInf" in functions
+                       else "n" if "isNaN" in functions else "")
+        digits = [digits_after_point(number) + 1 for part in parts for number in numbers_of(part)]
         self.places = max([LEAST_PLACES, *digits])
 
     def suffix(self):
@@ -228,12 +325,12 @@ class Form:
             shape = f"l{self.count}"
         elif self.is_list:
             shape = "f" if self.count == 1 else f"p{self.count}"
-        return f".e{self.places}{'n' if self.has_nan else ''}{shape}"
+        return f".e{self.places}{self.letter}{shape}"
 
     def is_number(self, value):
         """Whether a number is reported of what is no list."""
-        return not isinstance(value, list) and value != INFINITE and (
-            self.has_nan or value != NAN)
+        return isinstance(value, Fraction) or (
+            not isinstance(value, list) and value in BESIDE[self.letter])
 
     def cannot_report(self, value):
         """Whether a failure is reported of a value."""
@@ -243,23 +340,21 @@ class Form:
             return True
         return not all(map(self.is_number, value[:self.count]))
 
-    def reported(self, value, multiple):
-        """What is reported of a value, with that multiple of each number; none for a failure."""
-        def number_of(one):
-            return NAN_NUMBER if one == NAN else multiple(one, self.places)
-
+    def reported(self, value, to_number):
+        """What is reported of a value, with that number of each decimal and word; none for a
+        failure."""
         if self.cannot_report(value):
             return None
         if not self.is_list:
-            return number_of(value)
-        numbers = [number_of(one) for one in value[:self.count]]
+            return to_number(value, self.places)
+        numbers = [to_number(one, self.places) for one in value[:self.count]]
         if self.has_length:
             return [len(value), *numbers]
         return numbers[0] if self.count == 1 else numbers
 
 
 def multiple(value, places):
-    """The number that is reported of a value: in units of 10^-places, cut off towards 0. If
+    """The number that is reported of a decimal: in units of 10^-places, cut off towards 0. If
     anything was cut off, and the last digit that is left is 0, that digit is 1."""
     scaled = abs(value) * 10 ** places
     number = scaled.numerator // scaled.denominator
@@ -267,3 +362,8 @@ def multiple(value, places):
         number += 1
     number = min(number, MOST)
     return -number if value < 0 else number
+
+
+def number_of(value, places):
+    """The number that is reported of a value."""
+    return multiple(value, places) if isinstance(value, Fraction) else NUMBERS[value]

@@ -1,16 +1,78 @@
 """Random metrics with Argo's conditions, and values for them. Each function takes the random
 numbers from `rng`."""
+import math
 from fractions import Fraction
 
 import conditions
-from conditions import COMPARISONS, INFINITE, NAN, Form
+from conditions import COMPARISONS, INFINITE, MINUS_INFINITE, NAN, NULL, Form, digits_after_point
 
-# The most digits of a constant, and the most of the number that a desk compares with.
-MOST_DIGITS, DESK_DIGITS = 15, 18
+# The most digits of a constant, the most of them after the point, and the most of the number that
+# a desk compares with.
+MOST_DIGITS, MOST_AFTER, DESK_DIGITS = 15, 17, 18
+# What the conditions of a metric have beside comparisons of values: `asInt`, `isNaN`, `isInf` and
+# `isNaN`, or `default` round each value.
+KINDS = ["plain", "plain", "plain", "whole", "whole", "nan", "infinite", "infinite", "null", "null"]
+# Words that are measured: by kind, and in each of them.
+WORDS = {"nan": [NAN], "infinite": [NAN, INFINITE, MINUS_INFINITE],
+         "null": [NULL, NULL, NULL, NAN, INFINITE, MINUS_INFINITE]}
+ANY_WORD = [NAN, INFINITE, MINUS_INFINITE, NULL]
 # Constants of people, and one that just fits a desk.
 USUAL = ["0", "1", "0.95", "0.05", "0.99", "0.999", "95", "-1", "-0.5", "1.5", "500", "100.25",
-         "0.950", "300.0", "9223372036854.77", "-9223372036854.7"]
+         "0.950", "300.0", "9223372036854.77", "-9223372036854.7", "9223372036853", "1e-3", ".5",
+         "-.25", "1_000", "0x1F", "-0x1_f", "0X10", "1.4E1", "-1.5e+2", "9.5e-1", "5e-9", "1e12",
+         "1_2.5_0", "5.5", "-5", "80"]
 STEPS = [0, 0, 0, 1, -1, 2, -2, 5, 10, -10]
+# Values that are cut off to 0, and beside these.
+NEAR_ZERO = [Fraction(sign * size, 10 ** 7) for sign in (1, -1)
+             for size in (1, 5_000_000, 9_999_999, 10_000_000, 10_000_001)]
+
+
+# ---- the forms of a number
+
+def digits_of(text):
+    """The sign and the digits of a decimal without an exponent, and how many stand after the
+    point; of a whole number without the zeros at its end, that are less than none."""
+    sign, whole, after, _ = conditions.parts_of_number(text)
+    digits = (whole + after).lstrip("0") or "0"
+    short = digits if after else digits.rstrip("0") or "0"
+    return sign, short, len(after) - len(digits) + len(short)
+
+
+def with_power(rng, text):
+    """The number with an exponent."""
+    sign, digits, places = digits_of(text)
+    after = rng.randint(0, max(2, places + 2))
+    digits = digits.rjust(after + 1, "0")
+    mantissa = digits[:len(digits) - after] + ("." + digits[len(digits) - after:] if after else "")
+    power = after - places
+    plus = rng.choice(["", "+"]) if power >= 0 else ""
+    return f"{'-' if sign < 0 else ''}{mantissa}{rng.choice('eE')}{plus}{power}"
+
+
+def hexadecimal(rng, text):
+    """The number in hexadecimal, if it is whole."""
+    number = int(text) if text.lstrip("-").isdigit() else None
+    if number is None:
+        return text
+    digits = rng.choice([str.upper, str.lower])(f"{abs(number):x}")
+    return f"{'-' if text[0] == '-' else ''}0{rng.choice('xX')}{digits}"
+
+
+def without_zero(_, text):
+    """The number without a 0 before its point."""
+    return text.replace("0.", ".", 1) if text.lstrip("-").startswith("0.") else text
+
+
+def with_lines(rng, text):
+    """The number with `_` between some digits."""
+    made = text[:1]
+    for last, digit in zip(text, text[1:]):
+        is_between = last.isdigit() and digit.isdigit() and rng.random() < 0.4
+        made += ("_" if is_between else "") + digit
+    return made
+
+
+SPELLINGS = [with_power, with_power, hexadecimal, hexadecimal, without_zero, with_lines]
 
 
 class Metric:
@@ -40,8 +102,8 @@ class Maker:
 
     def __init__(self, rng):
         self.rng, self.constants = rng, []
-        self.digits = rng.choice([0, 1, 2, 2, 2, 3, 4, 5, 6, 7, 9, 11, 14])
-        self.has_nan = rng.random() < 0.3
+        self.digits = rng.choice([0, 1, 2, 2, 2, 3, 4, 5, 6, 7, 9, 11, 14, MOST_AFTER])
+        self.kind = rng.choice(KINDS)
         self.places = self.places_of(rng.choice(["number", "number", "first", "first", "list",
                                                  "length"]))
 
@@ -57,62 +119,105 @@ class Maker:
             places += ["len(result)"] * max(1, len(places))
         return places
 
-    # ---- conditions
+    # ---- numbers
 
     def constant(self):
-        """A decimal that fits, and is one of those near which values are."""
+        """A number that fits, and is one of those near which values are."""
         text = self.rng.choice(USUAL)
         if self.rng.random() < 0.6 or not self.fits(text):
-            text = self.made_constant()
-        self.constants.append(Fraction(text))
+            text = self.spelled(self.made_constant())
+        self.constants.append(conditions.exact(text))
         return text
+
+    def spelled(self, plain):
+        """The number in one of its forms that fits."""
+        text = self.rng.choice(SPELLINGS)(self.rng, plain) if self.rng.random() < 0.5 else plain
+        return text if self.fits(text) else plain
 
     def most_places(self):
         return max(conditions.LEAST_PLACES, self.digits + 1)
 
     def fits(self, text):
-        is_short = conditions.digits_after_point(text) <= self.digits
-        return is_short and abs(Fraction(text)) * 10 ** self.most_places() < 2 ** 63
+        """Whether a number is held, and a desk's number holds it, or the next whole one."""
+        size, after = abs(conditions.exact(text)), digits_after_point(text)
+        most = (size + (self.kind == "whole")) * 10 ** self.most_places()
+        return after <= self.digits and size * 10 ** after < 10 ** MOST_DIGITS and most < 2 ** 63
 
     def made_constant(self):
         rng = self.rng
         after = rng.randint(0, self.digits)
-        before = rng.randint(0, min(MOST_DIGITS - after, DESK_DIGITS - self.most_places()))
-        text = rng.choice(["", "", "", "-"]) + str(rng.randrange(10 ** before))
-        return text + (f".{rng.randrange(10 ** after):0{after}}" if after else "")
+        before = rng.randint(0, max(0, min(MOST_DIGITS - after, DESK_DIGITS - self.most_places())))
+        is_below = rng.random() < (0.5 if self.kind == "whole" else 0.25)
+        text = ("-" if is_below else "") + str(rng.randrange(10 ** before))
+        most = min(after, MOST_DIGITS)
+        return text + (f".{rng.randrange(10 ** most):0{after}}" if after else "")
+
+    def length(self):
+        """A number to which a length is compared."""
+        plain = str(self.rng.randint(0, 4))
+        text = self.rng.choice([hexadecimal, with_power, with_lines])(self.rng, plain)
+        return text if self.rng.random() < 0.2 and not digits_after_point(text) else plain
+
+    # ---- conditions
 
     def comparison(self):
         """The words of a comparison."""
         rng, place = self.rng, self.rng.choice(self.places)
         if place == "len(result)":
-            left, right = ["len", "(", "result", ")"], str(rng.randint(0, 4))
+            left, right = ["len", "(", "result", ")"], self.length()
         else:
-            left, right = self.words_of(place), self.constant()
-            if rng.random() < 0.2:
-                left = ["asFloat", "(", *left, ")"]
+            left, right = self.looked(place), self.constant()
+        left, right = self.bracketed(left), self.bracketed([right])
         if rng.random() < 0.25:
-            return [right, rng.choice(COMPARISONS), *left]
-        return [*left, rng.choice(COMPARISONS), right]
+            left, right = right, left
+        return [*left, rng.choice(COMPARISONS), *right]
 
-    @staticmethod
-    def words_of(place):
+    def looked(self, place):
+        """A value, in a function or not."""
+        words, chance = self.words_of(place), self.rng.random()
+        if self.kind == "null":
+            return ["default", "(", *words, ",", self.constant(), ")"]
+        if self.kind == "whole" and chance < 0.6:
+            return ["asInt", "(", *words, ")"]
+        return ["asFloat", "(", *words, ")"] if chance > 0.8 else words
+
+    def bracketed(self, words):
+        return ["(", *words, ")"] if self.rng.random() < 0.12 else words
+
+    def words_of(self, place):
         if place == "result":
             return ["result"]
-        return ["result", "[", place[7:-1], "]"]
+        number = place[7:-1]
+        return ["result", "[", f"0x{number:0>2}" if self.rng.random() < 0.05 and len(number) < 2
+                else number, "]"]
 
-    def is_nan(self):
+    def asked(self):
+        """`isNaN` or `isInf` of a place."""
         named = [place for place in self.places if place != "len(result)"]
         if not named:
             return self.comparison()
-        return ["isNaN", "(", *self.words_of(self.rng.choice(named)), ")"]
+        is_nan = self.kind == "nan" or self.rng.random() < 0.3
+        words = self.words_of(self.rng.choice(named))
+        return ["isNaN" if is_nan else "isInf", "(", *words, ")"]
+
+    def atom(self):
+        is_asked = self.kind in ("nan", "infinite") and self.rng.random() < 0.4
+        return self.asked() if is_asked else self.comparison()
+
+    def negated(self, words):
+        """The condition with a sign before it, and brackets where they are needed."""
+        sign, is_closed = self.rng.choice(["!", "not"]), words.count("(") == 1
+        if words[0] in ("isNaN", "isInf") and is_closed and self.rng.random() < 0.5:
+            return [sign, *words]
+        return [sign, "(", *words, ")"]
 
     def condition(self, depth):
         rng = self.rng
         if depth == 0 or rng.random() < 0.25:
-            return self.is_nan() if self.has_nan and rng.random() < 0.4 else self.comparison()
+            return self.atom()
         kind = rng.randrange(6)
         if kind == 0:
-            return [rng.choice(["!", "not"]), "(", *self.condition(depth - 1), ")"]
+            return self.negated(self.condition(depth - 1))
         if kind == 1:
             return ["(", *self.condition(depth - 1), ")"]
         sign = rng.choice(["||", "or", "&&", "and"])
@@ -122,7 +227,7 @@ class Maker:
         """A text of words, with blanks where they are needed, and mostly where they are not."""
         text = ""
         for word in words:
-            is_needed = text[-1:].isalnum() and word[0].isalnum()
+            is_needed = text[-1:].isalnum() and (word[0].isalnum() or word[0] == ".")
             blank = self.rng.choice([" ", " ", " ", "", "  ", "\t", "\n"])
             text += (blank or " ") if is_needed else blank if text else ""
             text += word
@@ -141,16 +246,25 @@ class Maker:
     def number(self):
         """A number at a constant, beside one, far away, or anywhere; rarely none."""
         rng, kind = self.rng, self.rng.random()
-        if kind < (0.25 if self.has_nan else 0.03):
-            return NAN
-        if kind < (0.28 if self.has_nan else 0.06):
-            return INFINITE if rng.random() < 0.3 else Fraction(rng.randrange(-10, 10))
+        if kind < 0.04:
+            return rng.choice(ANY_WORD) if rng.random() < 0.6 else Fraction(rng.randrange(-9, 10))
+        if kind < 0.25 and self.kind in WORDS:
+            return rng.choice(WORDS[self.kind])
         if kind < 0.8 and self.constants:
-            step = Fraction(rng.choice(STEPS)) / 10 ** rng.choice([*range(14), 17, 18, 20, 25, 30])
-            return rng.choice(self.constants) + step
+            return self.near(rng.choice(self.constants))
         if kind < 0.9:
             return rng.choice([1, -1]) * Fraction(10) ** rng.randint(-30, 40) * rng.randint(1, 99)
         return Fraction(rng.randrange(-10 ** 9, 10 ** 9), 10 ** rng.randint(0, 12))
+
+    def near(self, constant):
+        """A number at a constant or beside it, or, where values are cut off, at a whole one."""
+        rng = self.rng
+        if self.kind == "whole" and rng.random() < 0.2:
+            return rng.choice(NEAR_ZERO)
+        if self.kind == "whole" and rng.random() < 0.7:
+            constant = Fraction(math.floor(constant) + rng.choice([-1, 0, 0, 1, 1, 2]))
+        step = Fraction(rng.choice(STEPS)) / 10 ** rng.choice([*range(14), 17, 18, 20, 25, 30])
+        return constant + step
 
     def value(self):
         rng, is_list = self.rng, self.places != ["result"]

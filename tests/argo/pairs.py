@@ -8,14 +8,21 @@ from fractions import Fraction
 
 import conditions
 import making
+import mistakes
 from asked import Wrong, run
-from conditions import MOST, NAN, Form, Meaning
+from conditions import Meaning
 from story_words import B, put, replies
 
 METRICS, VALUES, TEMPLATES = 32, 8, 16
 LIMIT, SECONDS, MOST_PAIRS = 1_000_000, 20, 100_000
+PHASES = ("Error", "Failed", "Inconclusive", "Successful")
+# What the conditions and the values must have.
+FUNCTIONS = ("asFloat", "asInt", "default", "isInf", "isNaN", "len")
+FORMS = (*FUNCTIONS, "(result)", "(number)", "0x", "exponent", "point first", "_",
+         *conditions.NUMBERS)
 # Of the mistakes that are planted.
 PLANTED_TEMPLATES, MOST_LOTS = 8, 6
+MISTAKES = (*mistakes.MEANINGS, *mistakes.DECIMALS, *mistakes.WORDS)
 
 
 # ---- Argo's manifests, and what the program makes of them
@@ -75,7 +82,7 @@ class Lot:
 
     # ---- what a desk says
 
-    def messages(self, multiple):
+    def messages(self, number_of):
         """The requests of each template: it, its service, a start, and the reports."""
         services = {it["metadata"]["name"]: it for it in self.made["services"]}
         templates = {it["metadata"]["name"]: it for it in self.made["templates"]}
@@ -86,14 +93,14 @@ class Lot:
             yield {"start": {"service": f"s{at}", "version": "v2"}}
             number += 3
             for ordinal in range(VALUES):
-                entries = [entry(metric, ordinal, B + number, multiple) for metric in metrics]
+                entries = [entry(metric, ordinal, B + number, number_of) for metric in metrics]
                 yield {"report": {"service": f"s{at}", "run": 1, "entries": entries}}
                 number += 1
 
-    def phases(self, multiple):
+    def phases(self, number_of):
         """The phase of each measurement, by template, ordinal and metric."""
         asked = [put("ops", at, json.dumps(it).encode())
-                 for at, it in enumerate(self.messages(multiple), 1)]
+                 for at, it in enumerate(self.messages(number_of), 1)]
         done = run(self.trial.program, ["pipe", "--at", str(B), "--step", "1"], b"".join(asked))
         got = replies(done.output)
         if done.status or done.errors or len(got) != len(asked):
@@ -112,16 +119,16 @@ class Lot:
         for at, metrics in enumerate(self.metrics):
             for place, metric in enumerate(metrics):
                 for ordinal, value in enumerate(metric.values):
-                    wanted = meaning.phase(metric.trees, value)
+                    wanted = meaning.phase(metric.trees, metric.form, value)
                     counts[wanted] += 1
                     if phases[at][ordinal][place] != wanted:
                         found.append((metric, value, phases[at][ordinal][place], wanted))
         return found, counts
 
 
-def entry(metric, ordinal, taken, multiple):
+def entry(metric, ordinal, taken, number_of):
     made = {"metric": metric.label(), "ordinal": ordinal + 1, "taken": taken}
-    number = metric.form.reported(metric.values[ordinal], multiple)
+    number = metric.form.reported(metric.values[ordinal], number_of)
     return made | ({"failure": "no number"} if number is None else {"result": number})
 
 
@@ -143,6 +150,58 @@ def smallest(differences):
     return min(differences, key=lambda it: sum(len(text or "") for text in it[0].texts))
 
 
+# ---- what was tried
+
+def forms_of_number(word):
+    """The forms of a number that a word has."""
+    if conditions.is_hexadecimal(word):
+        yield "0x"
+    elif "e" in word.lower():
+        yield "exponent"
+    if word.lstrip("-").startswith("."):
+        yield "point first"
+    if "_" in word:
+        yield "_"
+
+
+def forms_of(text):
+    """What a condition has of what may be hardly there."""
+    words = conditions.Reader(text).words
+    for at, word in enumerate(words):
+        if word in FUNCTIONS:
+            yield word
+        if word[-1:].isalnum() and not word.isalpha():
+            yield from forms_of_number(word)
+        is_alone = words[at - 1:at] == ["("] and words[at + 1:at + 2] == [")"]
+        if is_alone and (at < 2 or words[at - 2] not in FUNCTIONS):
+            yield "(result)" if word == "result" else "(number)"
+
+
+def words_in(metric):
+    """The words that are reported in place of a decimal."""
+    values = [it for it in metric.values if not metric.form.cannot_report(it)]
+    for value in values:
+        many = value[:metric.form.count] if isinstance(value, list) else [value]
+        yield from {one for one in many if isinstance(one, str)}
+
+
+def forms_in(lot):
+    """How many metrics have each form, and how many values each word."""
+    found = collections.Counter()
+    for metric in (metric for metrics in lot.metrics for metric in metrics):
+        found.update({form for text in metric.texts if text for form in forms_of(text)})
+        found.update(words_in(metric))
+    return found
+
+
+def want_all(tried, counts):
+    """Each phase is meant often enough, and each form is there."""
+    rare = [phase for phase in PHASES if counts[phase] * 100 < tried]
+    rare += [form for form in FORMS if counts[form] * 2000 < tried]
+    if rare:
+        raise Wrong(f"of {tried} pairs hardly one has {rare}")
+
+
 def try_pairs(trial):
     """Conditions and values, as many as there is time for."""
     tried, counts, until = 0, collections.Counter(), time.monotonic() + SECONDS
@@ -150,112 +209,35 @@ def try_pairs(trial):
     while tried < MOST_PAIRS and (trial.is_whole or time.monotonic() < until):
         lot = Lot(trial, f"{trial.seed} {number}")
         lot.want_labels()
-        found, more = lot.differences(lot.phases(conditions.multiple), Meaning())
+        found, more = lot.differences(lot.phases(conditions.number_of), Meaning())
         if found:
             raise Wrong(f"lot {number}: {len(found)} differ: {told(smallest(found))}")
-        tried, number, counts = tried + lot.pairs(), number + 1, counts + more
-    phases = ", ".join(f"{count} {phase}" for phase, count in sorted(counts.items()))
-    rare = [phase for phase in ("Successful", "Failed", "Inconclusive", "Error")
-            if counts[phase] * 100 < tried]
-    if rare:
-        raise Wrong(f"of {tried} pairs hardly one is {rare}")
+        tried, number, counts = tried + lot.pairs(), number + 1, counts + more + forms_in(lot)
+    want_all(tried, counts)
+    phases = ", ".join(f"{counts[phase]} {phase}" for phase in PHASES)
     return f"{tried} conditions with a value: {phases}"
 
 
 # ---- mistakes that the comparison must find
 
-class GreaterForAtLeast(Meaning):
-    """`>=` read as `>`."""
-
-    @staticmethod
-    def compares(left, sign, right):
-        return conditions.compared(left, ">" if sign == ">=" else sign, right)
-
-
-class RoundedConstant(Meaning):
-    """Constants with three digits after the point."""
-
-    @staticmethod
-    def constant(text):
-        return round(Fraction(text), 3)
-
-
-class BothSides(Meaning):
-    """Both sides of && and || looked at."""
-
-    def joined(self, tree, value):
-        left, right = self.says(tree[1], value), self.says(tree[2], value)
-        return left or right if tree[0] == "or" else left and right
-
-
-class NotANumberCompared(Meaning):
-    """NaN compared, where nothing asks for it."""
-
-    @staticmethod
-    def cannot_report(form, value):
-        asking = Form(())
-        asking.__dict__.update(form.__dict__, has_nan=True)
-        return asking.cannot_report(value)
-
-
-class NotANumberBelow(Meaning):
-    """NaN less than each number, as its number is."""
-
-    @staticmethod
-    def compares(left, sign, right):
-        return conditions.compared(-2 ** 63 if left == NAN else left, sign, right)
-
-
-class OrBeforeAnd(Meaning):
-    """|| and && mixed up."""
-
-    def joined(self, tree, value):
-        return super().joined(("and" if tree[0] == "or" else "or", *tree[1:]), value)
-
-
-def floored(value, places):
-    """The floor of a value: a constant may be reached from above alone."""
-    return max(-MOST, min(MOST, value.numerator * 10 ** places // value.denominator))
-
-
-def cut_off(value, places):
-    """Cut off towards 0, with a last digit of 0."""
-    number = min(MOST, abs(value).numerator * 10 ** places // value.denominator)
-    return -number if value < 0 else number
-
-
-def with_a_place_less(value, places):
-    return conditions.multiple(value, places - 1)
-
-
-def without_a_limit(value, places):
-    """Beyond the greatest number, the next one."""
-    number = conditions.multiple(value, places)
-    return number if abs(number) < MOST else -number // abs(number)
-
-
-MEANINGS = (GreaterForAtLeast, RoundedConstant, BothSides, NotANumberCompared, NotANumberBelow,
-            OrBeforeAnd)
-REPORTS = (floored, cut_off, with_a_place_less, without_a_limit)
-
-
 def shows(lot, phases, mistake):
     """Whether a mistake shows as a difference."""
-    if mistake in MEANINGS:
+    if mistake in mistakes.MEANINGS:
         return bool(lot.differences(phases, mistake())[0])
-    return bool(lot.differences(lot.phases(mistake), Meaning())[0])
+    phases = lot.phases(mistakes.with_mistake(mistake))
+    return bool(lot.differences(phases, Meaning())[0])
 
 
 def try_planted(trial):
     """Each of some mistakes, of what is meant or of what is reported, shows as a difference."""
-    missed, tried = [*MEANINGS, *REPORTS], 0
+    missed, tried = list(MISTAKES), 0
     for number in range(MOST_LOTS):
         lot = Lot(trial, f"{trial.seed} planted {number}", PLANTED_TEMPLATES)
-        phases = lot.phases(conditions.multiple)
+        phases = lot.phases(conditions.number_of)
         if found := lot.differences(phases, Meaning())[0]:
             raise Wrong(f"{len(found)} differ without a mistake: {told(smallest(found))}")
         missed = [mistake for mistake in missed if not shows(lot, phases, mistake)]
         tried += lot.pairs()
         if not missed:
-            return f"{len(MEANINGS) + len(REPORTS)} mistakes show in {tried} pairs"
+            return f"{len(MISTAKES)} mistakes show in {tried} pairs"
     raise Wrong(f"{tried} pairs do not show {[mistake.__name__ for mistake in missed]}")
