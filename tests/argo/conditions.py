@@ -151,6 +151,8 @@ class Reader:
         self.need("(")
         place, number = self.place(), None
         if function == "default":
+            if place != "whole":
+                raise ValueError(f"{self.words}: default gives the whole result, as Argo has it")
             self.need(",")
             number = self.number()
         self.need(")")

@@ -104,8 +104,9 @@ class Maker:
         self.rng, self.constants = rng, []
         self.digits = rng.choice([0, 1, 2, 2, 2, 3, 4, 5, 6, 7, 9, 11, 14, MOST_AFTER])
         self.kind = rng.choice(KINDS)
-        self.places = self.places_of(rng.choice(["number", "number", "first", "first", "list",
-                                                 "length"]))
+        # `default` gives the whole result.
+        shape = rng.choice(["number", "number", "first", "first", "list", "length"])
+        self.places = self.places_of("number" if self.kind == "null" else shape)
 
     def places_of(self, shape):
         """What the conditions look at."""

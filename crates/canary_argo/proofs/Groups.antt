@@ -64,16 +64,15 @@ int_holds place ts (Close ∷ rest) e =
     (refl, ap (λ (r : List Token). AsIntWord ∷ Open ∷ r) (e ∙ sym (append_assoc (place_tokens place) (Close ∷ []) rest)))
 int_holds place ts rest e = tt
 
-default_holds : (place : Place) (ts rest : List Token) → ResultWord ∷ ts ≡ place_tokens place ++ rest → ValueAt (DefaultWord ∷ Open ∷ ResultWord ∷ ts) (defaulted place rest)
-default_holds place ts (Comma ∷ Number d ∷ Close ∷ rest) e =
-    (refl, ap (λ (r : List Token). DefaultWord ∷ Open ∷ r) (e ∙ sym (append_assoc (place_tokens place) (Comma ∷ Number d ∷ Close ∷ []) rest)))
-default_holds place ts rest e = tt
+default_holds : (ts : List Token) → ValueAt (DefaultWord ∷ Open ∷ ResultWord ∷ ts) (defaulted ts)
+default_holds (Comma ∷ Number d ∷ Close ∷ rest) = (refl, refl)
+default_holds ts = tt
 
 value_holds : (ts : List Token) → ValueAt ts (front_value ts)
 value_holds (ResultWord ∷ ts) = (refl, after_holds ts)
 value_holds (AsFloatWord ∷ Open ∷ ResultWord ∷ ts) = float_holds (after_result ts).0 ts (after_result ts).1 (after_holds ts)
 value_holds (AsIntWord ∷ Open ∷ ResultWord ∷ ts) = int_holds (after_result ts).0 ts (after_result ts).1 (after_holds ts)
-value_holds (DefaultWord ∷ Open ∷ ResultWord ∷ ts) = default_holds (after_result ts).0 ts (after_result ts).1 (after_holds ts)
+value_holds (DefaultWord ∷ Open ∷ ResultWord ∷ ts) = default_holds ts
 value_holds (LenWord ∷ Open ∷ ResultWord ∷ Close ∷ ts) = (refl, refl)
 value_holds ts = tt
 

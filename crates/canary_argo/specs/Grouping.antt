@@ -47,9 +47,9 @@ abbrev pub closed : Function → Place → List Token → Option (Look × List T
 closed function place (Close ∷ ts) = Some (plain_look function place, ts)
 closed function place ts = None
 
-abbrev pub defaulted : Place → List Token → Option (Look × List Token)
-defaulted place (Comma ∷ Number d ∷ Close ∷ ts) = Some (plain_look (Default d) place, ts)
-defaulted place ts = None
+abbrev pub defaulted : List Token → Option (Look × List Token)
+defaulted (Comma ∷ Number d ∷ Close ∷ ts) = Some (plain_look (Default d) Whole, ts)
+defaulted ts = None
 
 abbrev pub front_value : List Token → Option (Look × List Token)
 front_value (ResultWord ∷ ts) = Some (plain_look Plain (after_result ts).0, (after_result ts).1)
@@ -57,8 +57,7 @@ front_value (AsFloatWord ∷ Open ∷ ResultWord ∷ ts) =
     closed AsFloat (after_result ts).0 (after_result ts).1
 front_value (AsIntWord ∷ Open ∷ ResultWord ∷ ts) =
     closed AsInt (after_result ts).0 (after_result ts).1
-front_value (DefaultWord ∷ Open ∷ ResultWord ∷ ts) =
-    defaulted (after_result ts).0 (after_result ts).1
+front_value (DefaultWord ∷ Open ∷ ResultWord ∷ ts) = defaulted ts
 front_value (LenWord ∷ Open ∷ ResultWord ∷ Close ∷ ts) = Some (plain_look Plain Length, ts)
 front_value ts = None
 

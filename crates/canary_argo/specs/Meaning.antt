@@ -69,7 +69,8 @@ abbrev pub cut_off : Fraction → Fraction
 cut_off x = record { whole = whole_of x.whole (10 ^ x.places); places = 0 }
 
 -- What a function makes of a value, or none if that is a fault. `asFloat` of a number is that
--- number, and `asInt` of what is no decimal a fault.
+-- number, and `asInt` of what is no decimal a fault. `default` stands round the whole result alone:
+-- in Argo it gives the whole result, whatever it stands round.
 abbrev pub applied : Function → Option Given → Option Given
 applied Plain given = given
 applied AsFloat given = given

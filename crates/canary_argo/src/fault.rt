@@ -8,8 +8,8 @@ use std::alloc::AllocFailed;
 pub enum Refusal {
     /// A byte that begins nothing of a condition.
     Byte,
-    /// A number in another form, or with more than 15 digits, or with more than 17 after the point,
-    /// once it is written out.
+    /// A number in another form, or with more than 15 digits, or with more than 17 after the point.
+    /// An exponent counts as so many digits more.
     Number,
     /// `+`, `-`, `*`, `/`, `%` or `^`.
     Arithmetic,
@@ -59,6 +59,8 @@ pub enum Refusal {
     AsInt,
     /// `default` beside a value without it.
     Default,
+    /// `default` round a place of a list.
+    DefaultPlace,
     /// More than 1,024 bytes once it is translated, or more than 32 brackets open at one place.
     Length,
 }
@@ -95,6 +97,9 @@ impl Refusal {
             Refusal::Fraction => "a length is whole: write a whole number",
             Refusal::AsInt => "asInt beside isNaN or isInf: leave asInt out",
             Refusal::Default => "default beside a value without it: write it at each value",
+            Refusal::DefaultPlace => {
+                "default of a place, which gives the whole result in Argo: write default(result, 0)"
+            }
             Refusal::Length => "this condition is too long: write it shorter",
         }
     }

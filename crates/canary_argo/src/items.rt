@@ -65,13 +65,13 @@ fn closed(function: Function, place: Place, tokens: &[Token]) -> Option<(Look, &
     }
 }
 
-// The place in `default(..)`, and what follows it.
-fn defaulted(place: Place, tokens: &[Token]) -> Option<(Look, &[Token])>
-    ensures { option_map (λ r. (r.0, r.1.now)) result ≡ defaulted place tokens.now }
+// The whole result in `default(..)`, and what follows it.
+fn defaulted(tokens: &[Token]) -> Option<(Look, &[Token])>
+    ensures { option_map (λ r. (r.0, r.1.now)) result ≡ defaulted tokens.now }
 {
     match tokens {
         [Token::Comma, Token::Number(number), Token::Close, rest @ ..] => {
-            Some((plain_look(Function::Default(*number), place), rest))
+            Some((plain_look(Function::Default(*number), Place::Whole), rest))
         }
         _ => None,
     }
@@ -104,10 +104,7 @@ fn front_value(tokens: &[Token]) -> Option<(Look, &[Token])>
             Token::Open,
             Token::ResultWord,
             rest @ ..,
-        ] => {
-            let (place, rest) = after_result(rest);
-            defaulted(place, rest)
-        }
+        ] => defaulted(rest),
         [
             Token::LenWord,
             Token::Open,

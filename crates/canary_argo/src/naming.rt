@@ -86,8 +86,30 @@ fn has_place(tokens: &[Token]) -> bool {
     matches!(after_result(tokens).0, Place::Item(_))
 }
 
+// Whether `default` stands round a place of a list, before `&&`, `||` or `!`.
+fn has_default_of_place(tokens: &[Token]) -> bool {
+    for (at, token) in tokens.iter().enumerate() {
+        match *token {
+            Token::DefaultWord => return is_default_of_place(tokens.get(at..)),
+            Token::OrSign | Token::AndSign | Token::NotSign => return false,
+            _ => {}
+        }
+    }
+    false
+}
+
+fn is_default_of_place(tokens: Option<&[Token]>) -> bool {
+    match tokens {
+        Some([_, Token::Open, Token::ResultWord, rest @ ..]) => has_place(rest),
+        _ => false,
+    }
+}
+
 // What stands at the front of tokens where a group must begin, after so many others.
 pub(crate) fn of_tokens(tokens: &[Token], others: usize) -> Refusal {
+    if has_default_of_place(tokens) {
+        return Refusal::DefaultPlace;
+    }
     match tokens {
         [Token::Compares(_), ..] if others > 0 => Refusal::Chain,
         [Token::Number(_), Token::Compares(_), Token::Number(_), ..] => Refusal::TwoNumbers,
