@@ -464,11 +464,12 @@ fn push_translation(
     if text.is_empty() {
         return Ok(());
     }
-    if !form.has_nan() && compares_decimals(alloc, text)? {
-        work.see_nan(spot.place);
-    }
+    let fails_nan = !form.has_nan() && compares_decimals(alloc, text)?;
     match quoted_translation(alloc, text, form) {
         Ok(condition) => {
+            if fails_nan {
+                work.see_nan(spot.place);
+            }
             push_key(out, key)?;
             Ok(out.push_str(condition.as_str())?)
         }
