@@ -3,8 +3,11 @@ import collections
 import os
 import resource
 import subprocess
+import time
 
 SECONDS = 120
+# What so many steps take on a quiet machine, in seconds of a processor.
+STEPS, QUIET = 1_000_000, 0.107
 Ended = collections.namedtuple("Ended", "status output errors")
 Trial = collections.namedtuple("Trial", "program examples folder seed is_whole")
 
@@ -56,6 +59,14 @@ def timed(program, words, given):
     ended = run(program, words, given)
     after = resource.getrusage(resource.RUSAGE_CHILDREN)
     return ended, after.ru_utime - before.ru_utime + after.ru_stime - before.ru_stime
+
+
+def slowness():
+    """How many times slower than a quiet one this machine is now; 1 if it is as quick."""
+    begun, made = time.process_time(), 0
+    for step in range(STEPS):
+        made += step * step % 7
+    return max(1.0, (time.process_time() - begun) / QUIET)
 
 
 def write(file, content):
