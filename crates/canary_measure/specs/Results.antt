@@ -21,10 +21,14 @@ IsInForm label m v =
 abbrev pub HasNoEnding : List ℕ → Type 0
 HasNoEnding label = (name : List ℕ) (units : Units) → IsLabelOf label name units → ⊥
 
+-- a whole number, if the label has no ending
+abbrev pub IsAsItStands : List ℕ → Measured → Value → Type 0
+IsAsItStands label m v = HasNoEnding label × IsWhole m v
+
 -- What is reported under a label: in its form; or a whole number as it stands, if it has no ending.
 -- Under an ending that is of no form nothing is reported.
 abbrev pub IsUnder : List ℕ → Measured → Value → Type 0
-IsUnder label m v = IsInForm label m v ⊎ (HasNoEnding label × IsWhole m v)
+IsUnder label m v = IsInForm label m v ⊎ IsAsItStands label m v
 
 -- a result is what is reported under the label, and a failure comes only if there is no result
 abbrev pub IsOutcomeOf : List ℕ → Measured → Outcome → Type 0

@@ -9,14 +9,14 @@
 //! The places are 6 to 18. A count is written with no 0 before it; of `p` it is 2 to 16, of `l` 0
 //! to 15. canary_argo's `Form::suffix` writes such endings and no others.
 ghost use Rattle.std.specs.Prelude.{◌≡◌, ℕ, ◌+◌, ◌<◌, ◌≤◌, List, length, drop, MatchOption};
-ghost use Rattle.std.specs.Fmt.{decimal};
 ghost use Rattle.canary_argo.specs.declared.form.Form.{Form};
-ghost use Rattle.canary_argo.specs.declared.form.Shape.{Shape};
-ghost use Rattle.canary_argo.specs.Labels.{shape_text};
 ghost use Rattle.canary_decimal.specs.Endings.{beside_text};
-ghost use Rattle.canary_measure.specs.Labelled.{IsLabelIn, IsShapeWithin, front_of};
+ghost use Rattle.canary_measure.specs.Labelled.{IsLabelIn, front_of, shape_in, by_letter};
+ghost use Rattle.canary_measure.specs.Labelled.{several, with_length, count_in, digit_in};
+ghost use Rattle.canary_measure.specs.Labelled.{teen_in};
 
-use canary_argo::form::{Form, MOST_VALUES, Shape};
+use canary_argo::form::{Form, Shape};
+use canary_decimal::laws;
 use canary_decimal::shown::{Beside, Shown, Units};
 
 /// What a label says.
@@ -34,6 +34,7 @@ pub fn form_of(label: &str) -> Option<Ending<'_>>
         ((name : List ℕ) (form : Form) → IsLabelIn label.now name form → ⊥)
         (λ ending. IsLabelIn label.now ending.name.now ending.form) }
 {
+    laws::one_ending();
     let shown = Shown::of(label)?;
     let at = shown.name.len() + front_len(shown.units);
     let shape = shape_of(behind(label.as_bytes(), at))?;
@@ -53,8 +54,12 @@ fn front_len(units: Units) -> usize
     ensures value { result ≡ length (front_of units) }
     ensures few { result ≤ 5 }
 {
-    let places = if units.places < 10 { 3 } else { 4 };
-    places + letter_len(units.beside)
+    let letter = letter_len(units.beside);
+    if units.places < 10 {
+        3 + letter
+    } else {
+        4 + letter
+    }
 }
 
 fn letter_len(beside: Beside) -> usize
@@ -77,65 +82,76 @@ fn behind(label: &[u8], at: usize) -> &[u8]
 
 // The shape that is written so.
 fn shape_of(text: &[u8]) -> Option<Shape>
-    ensures { MatchOption result
-        ((shape : Shape) → IsShapeWithin shape → text.now ≡ shape_text shape → ⊥)
-        (λ shape. IsShapeWithin shape × (text.now ≡ shape_text shape)) }
+    ensures { result ≡ shape_in text.now }
 {
     match text {
         [] => Some(Shape::One),
-        [b'f'] => Some(Shape::First),
-        [b'p', digits @ ..] => several(count_of(digits)?),
-        [b'l', digits @ ..] => with_length(count_of(digits)?),
+        [letter, rest @ ..] => by_letter(*letter, rest),
+    }
+}
+
+fn by_letter(letter: u8, rest: &[u8]) -> Option<Shape>
+    ensures { result ≡ by_letter letter rest.now }
+{
+    if letter == b'f' && rest.is_empty() {
+        return Some(Shape::First);
+    }
+    if letter == b'p' {
+        return several(count_of(rest));
+    }
+    if letter == b'l' {
+        with_length(count_of(rest))
+    } else {
+        None
+    }
+}
+
+// The shape of the first values of a list, so many at most.
+fn several(most: Option<u64>) -> Option<Shape>
+    ensures { result ≡ several most }
+{
+    match most {
+        Some(most) if 2 <= most => Some(Shape::Several(most)),
         _ => None,
     }
 }
 
-// The shape of the first values of a list, so many.
-fn several(most: u64) -> Option<Shape>
-    requires { most ≤ 16 }
-    ensures { MatchOption result (IsShapeWithin (Shape.Several most) → ⊥)
-        (λ shape. (shape ≡ Shape.Several most) × IsShapeWithin shape) }
+// The shape of the length of a list and its first values, so many at most.
+fn with_length(most: Option<u64>) -> Option<Shape>
+    ensures { result ≡ with_length most }
 {
-    if most < 2 {
-        None
-    } else {
-        Some(Shape::Several(most))
+    match most {
+        Some(most) if most <= 15 => Some(Shape::Length(most)),
+        _ => None,
     }
 }
 
-// The shape of the length of a list and its first values, so many.
-fn with_length(most: u64) -> Option<Shape>
-    ensures { MatchOption result (IsShapeWithin (Shape.Length most) → ⊥)
-        (λ shape. (shape ≡ Shape.Length most) × IsShapeWithin shape) }
-{
-    if most < MOST_VALUES {
-        Some(Shape::Length(most))
-    } else {
-        None
-    }
-}
-
-// The number up to 16 that is written so.
+// The count up to 16 that is written so.
 fn count_of(digits: &[u8]) -> Option<u64>
-    ensures { MatchOption result
-        ((count : ℕ) → count ≤ 16 → digits.now ≡ decimal count → ⊥)
-        (λ count. (count ≤ 16) × (digits.now ≡ decimal count)) }
+    ensures { result ≡ count_in digits.now }
 {
     match digits {
-        [units] => units_of(*units),
-        [b'1', units] if *units <= b'6' => Some(10 + units_of(*units)?),
+        [digit] => digit_of(*digit),
+        [b'1', digit] => teen_of(*digit),
         _ => None,
     }
 }
 
-// The number of a digit.
-fn units_of(digit: u8) -> Option<u64>
-    ensures { MatchOption result
-        ((units : ℕ) → units < 10 → digit ≡ 48 + units → ⊥)
-        (λ units. (units < 10) × (digit ≡ 48 + units)) }
+fn digit_of(digit: u8) -> Option<u64>
+    ensures { result ≡ digit_in digit }
 {
-    if digit.is_ascii_digit() {
-        Some(u64::from(digit - b'0'))
+    if b'0' <= digit && digit <= b'9' {
+        Some((digit - b'0') as u64)
+    } else {
+        None
+    }
+}
+
+fn teen_of(digit: u8) -> Option<u64>
+    ensures { result ≡ teen_in digit }
+{
+    if b'0' <= digit && digit <= b'6' {
+        Some(10 + (digit - b'0') as u64)
     } else {
         None
     }

@@ -2,12 +2,11 @@
 ghost use Rattle.std.specs.Prelude.{◌≡◌, ◌<◌, ◌≤◌, ◌^◌, ℤ, List, length, map, take, MatchOption};
 ghost use Rattle.std.specs.Prelude.{MatchResult, IfOk};
 ghost use Rattle.arrayvec.specs.ArrayVec.{array_vec_len};
-ghost use Rattle.canary_condition.specs.declared.outcome.Value.{Value};
-ghost use Rattle.canary_condition.specs.Results.{IsResult};
 ghost use Rattle.canary_argo.specs.Meaning.Measured.{One as OneValue, Several as SeveralValues};
 ghost use Rattle.canary_argo.specs.Reporting.{Stands, AllStand, IsReported, IsReportedAs};
-ghost use Rattle.canary_measure.specs.Measures.{seen, measured_of, IsListOf, IsListAfter};
-ghost use Rattle.canary_measure.specs.Results.{IsUnder, IsOutcomeOf};
+ghost use Rattle.canary_measure.specs.Measures.{seen, measured_of, IsAnswer, IsOf, IsFirstOf};
+ghost use Rattle.canary_measure.specs.Measures.{IsListOf, IsListAfter};
+ghost use Rattle.canary_measure.specs.Results.{IsUnder, IsAsItStands, IsOutcomeOf};
 
 use crate::label::form_of;
 use crate::measured::{Given, Measured};
@@ -38,14 +37,20 @@ pub fn outcome_of(alloc: Global, label: &str, measured: &Measured) -> Result<Out
 
 /// What is reported under a label of what was measured, or why nothing is.
 pub fn result_of(label: &str, measured: &Measured) -> Result<Value, NotReported>
-    ensures { MatchResult result
-        (λ value. IsUnder label.now (measured_of measured.now) value)
-        (λ _. (value : Value) → IsResult value
-        → IsUnder label.now (measured_of measured.now) value → ⊥) }
+    ensures { IsAnswer result (IsUnder label.now (measured_of measured.now)) }
 {
     match form_of(label) {
         Some(ending) => reported_of(ending.form, measured),
-        None if Shown::of(label).is_some() => Err(NotReported::Label),
+        None => as_it_stands(label, measured),
+    }
+}
+
+// What is reported under a label with no ending.
+fn as_it_stands(label: &str, measured: &Measured) -> Result<Value, NotReported>
+    ensures { IsAnswer result (IsAsItStands label.now (measured_of measured.now)) }
+{
+    match Shown::of(label) {
+        Some(_) => Err(NotReported::Label),
         None => whole_of(measured),
     }
 }
@@ -53,10 +58,7 @@ pub fn result_of(label: &str, measured: &Measured) -> Result<Value, NotReported>
 /// What is reported in a form of what was measured, or why nothing is.
 pub fn reported_of(form: Form, measured: &Measured) -> Result<Value, NotReported>
     requires { form.places ≤ 18 }
-    ensures { MatchResult result
-        (λ value. IsReported form (measured_of measured.now) value)
-        (λ _. (value : Value) → IsResult value
-        → IsReported form (measured_of measured.now) value → ⊥) }
+    ensures { IsAnswer result (IsReported form (measured_of measured.now)) }
 {
     match measured {
         Measured::One(given) => of_one(form, given),
@@ -67,9 +69,7 @@ pub fn reported_of(form: Form, measured: &Measured) -> Result<Value, NotReported
 // What is reported of one value.
 fn of_one(form: Form, given: &Given) -> Result<Value, NotReported>
     requires { form.places ≤ 18 }
-    ensures { MatchResult result
-        (λ value. IsReported form (OneValue (seen given.now)) value)
-        (λ _. (value : Value) → IsReported form (OneValue (seen given.now)) value → ⊥) }
+    ensures { IsAnswer result (IsReported form (OneValue (seen given.now))) }
 {
     match form.shape {
         Shape::One => whole(form, given),
@@ -80,25 +80,30 @@ fn of_one(form: Form, given: &Given) -> Result<Value, NotReported>
 // What is reported of a list.
 fn of_several(form: Form, values: &[Given]) -> Result<Value, NotReported>
     requires { form.places ≤ 18 }
-    ensures { MatchResult result
-        (λ value. IsReported form (SeveralValues (map seen values.now)) value)
-        (λ _. (value : Value) → IsResult value
-        → IsReported form (SeveralValues (map seen values.now)) value → ⊥) }
+    ensures { IsAnswer result (IsReported form (SeveralValues (map seen values.now))) }
 {
     match form.shape {
         Shape::One => Err(NotReported::List),
         Shape::First => of_first(form, values),
         Shape::Several(most) => list(form, first(values, most)),
-        Shape::Length(most) => with_length(form, first(values, most), values.len()),
+        Shape::Length(most) => with_first(form, values, most),
     }
+}
+
+// The length of a list and its first values, so many at most.
+fn with_first(form: Form, values: &[Given], most: u64) -> Result<Value, NotReported>
+    requires { form.places ≤ 18 }
+    ensures { IsAnswer result (IsReportedAs form.beside form.places (Shape.Length most)
+        (SeveralValues (map seen values.now))) }
+{
+    let first = first(values, most);
+    with_length(form, first, values.len())
 }
 
 // The number that stands for a value, as a result.
 fn whole(form: Form, given: &Given) -> Result<Value, NotReported>
     requires { form.places ≤ 18 }
-    ensures { MatchResult result
-        (λ value. IsReportedAs form.beside form.places Shape.One (OneValue (seen given.now)) value)
-        (λ _. (z : ℤ) → Stands form.beside form.places (seen given.now) z → ⊥) }
+    ensures { IsAnswer result (IsOf form.beside form.places (seen given.now)) }
 {
     match number(form, given) {
         Some(number) => Ok(Value::Whole(number)),
@@ -109,11 +114,7 @@ fn whole(form: Form, given: &Given) -> Result<Value, NotReported>
 // The number that stands for the first value of a list, as a result.
 fn of_first(form: Form, values: &[Given]) -> Result<Value, NotReported>
     requires { form.places ≤ 18 }
-    ensures { MatchResult result
-        (λ value. IsReportedAs form.beside form.places Shape.First
-        (SeveralValues (map seen values.now)) value)
-        (λ _. (value : Value) → IsReportedAs form.beside form.places Shape.First
-        (SeveralValues (map seen values.now)) value → ⊥) }
+    ensures { IsAnswer result (IsFirstOf form.beside form.places (map seen values.now)) }
 {
     match values {
         [] => Err(NotReported::Empty),
@@ -167,10 +168,7 @@ fn numbers(form: Form, values: &[Given]) -> Result<Numbers, NotReported>
 // The list of the numbers that stand for values.
 fn list(form: Form, values: &[Given]) -> Result<Value, NotReported>
     requires { form.places ≤ 18 }
-    ensures { MatchResult result
-        (λ value. IsListOf form.beside form.places (map seen values.now) value)
-        (λ _. (value : Value) → IsResult value
-        → IsListOf form.beside form.places (map seen values.now) value → ⊥) }
+    ensures { IsAnswer result (IsListOf form.beside form.places (map seen values.now)) }
 {
     if values.len() > MOST_VALUES {
         return Err(NotReported::TooMany);
@@ -183,10 +181,7 @@ fn list(form: Form, values: &[Given]) -> Result<Value, NotReported>
 fn with_length(form: Form, values: &[Given], len: usize) -> Result<Value, NotReported>
     requires places { form.places ≤ 18 }
     requires fits { len < 2 ^ 63 }
-    ensures { MatchResult result
-        (λ value. IsListAfter form.beside form.places len (map seen values.now) value)
-        (λ _. (value : Value) → IsResult value
-        → IsListAfter form.beside form.places len (map seen values.now) value → ⊥) }
+    ensures { IsAnswer result (IsListAfter form.beside form.places len (map seen values.now)) }
 {
     if values.len() >= MOST_VALUES {
         return Err(NotReported::TooMany);

@@ -1,7 +1,6 @@
 //! Whole numbers as they stand.
-ghost use Rattle.std.specs.Prelude.{ℤ, MatchOption, MatchResult};
-ghost use Rattle.canary_condition.specs.declared.outcome.Value.{Value};
-ghost use Rattle.canary_measure.specs.Measures.{measured_of};
+ghost use Rattle.std.specs.Prelude.{ℤ, MatchOption};
+ghost use Rattle.canary_measure.specs.Measures.{measured_of, IsAnswer};
 ghost use Rattle.canary_measure.specs.Wholes.{IsWholeOf, IsWhole};
 
 use crate::measured::{Given, Measured};
@@ -13,9 +12,7 @@ use canary_decimal::reading::Reading;
 /// The one whole number that was measured, as it stands. It is of a label with no ending. A number
 /// of which ten times does not fit an `i64` is refused.
 pub fn whole_of(measured: &Measured) -> Result<Value, NotReported>
-    ensures { MatchResult result
-        (λ value. IsWhole (measured_of measured.now) value)
-        (λ _. (value : Value) → IsWhole (measured_of measured.now) value → ⊥) }
+    ensures { IsAnswer result (IsWhole (measured_of measured.now)) }
 {
     match measured {
         Measured::One(Given::Read(Reading::Number(decimal))) => match number(decimal) {
