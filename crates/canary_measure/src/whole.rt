@@ -20,7 +20,7 @@ pub fn whole_of(measured: &Measured) -> Result<Value, NotReported>
             None => Err(NotReported::NotWhole),
         },
         Measured::One(given) => Err(NotReported::of(given)),
-        Measured::Several(_) => Err(NotReported::List),
+        Measured::Several(_) => Err(NotReported::NotWhole),
     }
 }
 

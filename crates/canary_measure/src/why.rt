@@ -27,7 +27,7 @@ pub enum NotReported {
     Infinite,
     /// Null, for a label without it.
     Null,
-    /// No whole number that fits, for a label with no ending.
+    /// No whole number that fits, or several, for a label with no ending.
     NotWhole,
 }
 
@@ -48,15 +48,19 @@ impl NotReported {
         ensures few { length result.now ≤ MOST_FAILURE_BYTES }
     {
         match self {
-            NotReported::Label => "this ending of a label is of no form",
-            NotReported::List => "a list, where one value is wanted: ask for result[0]",
-            NotReported::One => "one value, where a list is wanted: ask for result",
+            NotReported::Label => "the label has an ending that is of no form",
+            NotReported::List => {
+                "a list, where one value is wanted: write result[0] in the condition"
+            }
+            NotReported::One => "one value, where a list is wanted: write result in the condition",
             NotReported::Empty => "a list with no value",
             NotReported::TooMany => "more than 16 values",
-            NotReported::NaN => "NaN: no condition asks isNaN(result)",
-            NotReported::Infinite => "an infinity: no condition asks isInf(result)",
+            NotReported::NaN => "NaN: no condition has isNaN(result)",
+            NotReported::Infinite => "an infinity: no condition has isInf(result)",
             NotReported::Null => "null: no condition has default(result, 0)",
-            NotReported::NotWhole => "no whole number of 18 digits: end the label in .e6",
+            NotReported::NotWhole => {
+                "not one whole number that fits: a label that ends in .e6 takes decimals"
+            }
         }
     }
 
