@@ -1,6 +1,6 @@
 -- Results that are reported, and that there is none.
-use Rattle.std.proofs.Common.{◌≡◌, ℕ, suc, ◌+◌, ◌<◌, ◌≤◌, ℤ, pos, List, [], ◌∷◌, length, take, map, Option, Some, None, Result, Ok, Err, ok_or, SomeIff, refl, sym, ap, ◌∙◌, subst, inl, inr, arith, length-map}
-use Rattle.std.proofs.lemmas.List.{take-map}
+use Rattle.std.proofs.Common.{◌≡◌, ℕ, suc, ◌+◌, ◌<◌, ◌≤◌, ℤ, pos, List, [], ◌∷◌, length, take, map, Option, Some, None, Result, Ok, Err, ok_or, SomeIff, refl, sym, ap, ◌∙◌, subst, inl, inr, arith}
+use Rattle.std.proofs.lemmas.List.{take-map, length-map}
 use Rattle.canary_condition.specs.declared.outcome.Value.{Value}
 use Rattle.canary_condition.specs.declared.outcome.Value.TheVariants.{Whole, List as ListResult}
 use Rattle.canary_condition.specs.Results.{IsResult, list_result}

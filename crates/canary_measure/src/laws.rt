@@ -4,7 +4,6 @@ ghost use Rattle.canary_measure.specs.Labelled.{OneForm};
 use canary_decimal::laws::one_ending;
 
 /// A label has one name and one form at most.
-#[tactic(auto, using(crate::proofs::Forms::one_form))]
 pub fn one_form()
     ensures { OneForm }
 {

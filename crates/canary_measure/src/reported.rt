@@ -9,6 +9,7 @@ ghost use Rattle.canary_measure.specs.Measures.{IsListOf, IsListAfter};
 ghost use Rattle.canary_measure.specs.Results.{IsUnder, IsAsItStands, IsOutcomeOf};
 
 use crate::label::form_of;
+use crate::laws;
 use crate::measured::{Given, Measured};
 use crate::whole::whole_of;
 use crate::why::NotReported;
@@ -39,6 +40,7 @@ pub fn outcome_of(alloc: Global, label: &str, measured: &Measured) -> Result<Out
 pub fn result_of(label: &str, measured: &Measured) -> Result<Value, NotReported>
     ensures { IsAnswer result (IsUnder label.now (measured_of measured.now)) }
 {
+    laws::one_form();
     match form_of(label) {
         Some(ending) => reported_of(ending.form, measured),
         None => as_it_stands(label, measured),

@@ -67,6 +67,6 @@ impl NotReported {
     /// The same as a failure of a measurement; `Memory` if an allocation is refused.
     pub fn failure(self, alloc: Global) -> Result<FailureText, Memory> {
         let text = Text::of(String::from_str(alloc, self.text())?);
-        FailureText::of(text).ok_or(Memory)
+        Ok(FailureText::of(text).unwrap())
     }
 }
