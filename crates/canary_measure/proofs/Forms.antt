@@ -1,23 +1,22 @@
 -- Labels and forms: a form's label is one of canary_decimal's, and the shape stands at its end.
-use Rattle.std.proofs.Common.{◌≡◌, ℕ, ◌+◌, ◌^◌, ◌<◌, ◌≤◌, true, List, [], ◌∷◌, ◌++◌, length, drop, Option, Some, None, refl, sym, ap, ◌∙◌, inl, inr, arith, rules, append_assoc, length-append}
+use Rattle.std.proofs.Common.{◌≡◌, ℕ, ◌+◌, ◌^◌, ◌<◌, ◌≤◌, true, List, [], ◌∷◌, ◌++◌, length, drop, Some, None, refl, sym, ap, ◌∙◌, inl, inr, arith, rules, append_assoc, length-append}
 use Rattle.std.specs.Prelude.{◌/◌, ◌%◌, codes}
 use Rattle.std.specs.Char.{is_ascii_digit}
 use Rattle.std.specs.Fmt.{decimal}
 use Rattle.std.specs.List.{list_all}
 use Rattle.std.specs.Str.Parse.{digits_value}
-use Rattle.std.proofs.lemmas.Bool.{cases_lt}
 use Rattle.std.proofs.lemmas.Fmt.{decimal_digit, decimal_step, decimal_nonempty, digits_decimal}
 use Rattle.std.proofs.lemmas.List.{drop_at}
 use Rattle.std.proofs.lemmas.Option.{none-some, same_Some}
 use Rattle.std.proofs.lemmas.Str.Parse.{IsNumeralModel, numerals_by_value}
 use Rattle.canary_decimal.specs.declared.shown.Units.{Units}
 use Rattle.canary_decimal.specs.Spelling.{IsDigits}
-use Rattle.canary_decimal.specs.Endings.{beside_text, IsShape, IsEnding, IsLabelOf, OneEnding}
+use Rattle.canary_decimal.specs.Endings.{beside_text, IsShape, IsLabelOf, OneEnding}
 use Rattle.canary_argo.specs.declared.form.Form.{Form}
 use Rattle.canary_argo.specs.declared.form.Shape.{Shape}
 use Rattle.canary_argo.specs.declared.form.Shape.TheVariants.{One, First, Several, Length}
 use Rattle.canary_argo.specs.Labels.{shape_text, has_length, suffix_of, units_of}
-use Rattle.canary_measure.specs.Labelled.{IsShapeWithin, IsWithin, IsLabelIn, OneForm, front_of, shape_in}
+use Rattle.canary_measure.specs.Labelled.{IsShapeWithin, IsLabelIn, OneForm, front_of, shape_in}
 use Rattle.canary_measure.proofs.Shapes.{shape_read, shape_sound}
 
 own : IsNumeralModel (λ ds. list_all is_ascii_digit ds ≡ true) (digits_value 10)
@@ -50,12 +49,6 @@ shape_at : (label name ending shape : List ℕ) (u : Units) → label ≡ name +
 shape_at label name ending shape u e f =
     ap (drop (length name + length (front_of u))) (in_parts label name ending shape u e f)
     ∙ drop_at (name ++ front_of u) shape (length name + length (front_of u)) (length-append name (front_of u))
-
--- there is room for the front
-pub front_within : (label name : List ℕ) (u : Units) → IsLabelOf label name u → length name + length (front_of u) ≤ length label
-front_within label name u (some, (ending, e, (low, high, (shape, is, f)))) =
-    let whole : length label ≡ length name + length (front_of u) + length shape = ap length (in_parts label name ending shape u e f) ∙ length-append (name ++ front_of u) shape ∙ ap (λ (n : ℕ). n + length shape) (length-append name (front_of u)) in
-    omega arith
 
 -- ---- the form of a label
 

@@ -9,7 +9,7 @@ use Rattle.std.proofs.lemmas.Option.{none-some, same_Some}
 use Rattle.canary_argo.specs.declared.form.Shape.{Shape}
 use Rattle.canary_argo.specs.declared.form.Shape.TheVariants.{One, First, Several, Length}
 use Rattle.canary_argo.specs.Labels.{shape_text}
-use Rattle.canary_measure.specs.Labelled.{IsShapeWithin, digit_in, teen_in, count_in, several, with_length, by_letter, shape_in}
+use Rattle.canary_measure.specs.Labelled.{IsShapeWithin, digit_in, teen_in, count_in, several, with_length, shape_in}
 
 -- ---- each shape is read
 
