@@ -9,5 +9,5 @@ pub mod label;
 pub mod laws;
 pub mod measured;
 pub mod reported;
-mod whole;
+pub mod whole;
 pub mod why;
