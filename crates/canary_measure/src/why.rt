@@ -49,10 +49,8 @@ impl NotReported {
     {
         match self {
             NotReported::Label => "the label has an ending that is of no form",
-            NotReported::List => {
-                "a list, where one value is wanted: write result[0] in the condition"
-            }
-            NotReported::One => "one value, where a list is wanted: write result in the condition",
+            NotReported::List => "a list for one value: write result[0] in the condition",
+            NotReported::One => "one value for a list: write result in the condition",
             NotReported::Empty => "a list with no value",
             NotReported::TooMany => "more than 16 values",
             NotReported::NaN => "NaN: no condition has isNaN(result)",
