@@ -1,0 +1,5 @@
+mod Shapes
+mod Forms
+mod Lists
+mod Reports
+mod Tenths

@@ -1,0 +1,4 @@
+pub mod Measures
+pub mod Labelled
+pub mod Wholes
+pub mod Results
