@@ -1,0 +1,229 @@
+//! The reply that a connection brings, read from its bytes in whatever pieces they come.
+ghost use Rattle.std.specs.Prelude.{◌≡◌, ◌≤◌, ◌++◌, List, [], ℕ, length, drop};
+ghost use Rattle.std.specs.Prelude.{IfOk, OnOk, MatchOption};
+ghost use Rattle.std.specs.Prelude.{vec_len};
+ghost use Rattle.httparse.specs.Spans.{IsWithin, span_bytes};
+ghost use Rattle.canary_fetch.specs.Unreads.{bytes_unread};
+ghost use Rattle.canary_fetch.specs.Replies.{ReadsReply};
+
+use crate::fault::Fault;
+use crate::heads::{Front, MOST_BODY, front_of};
+use crate::unread::Unread;
+use http1::chunked::ChunkError;
+use http1::decode::{Decoded, Decoder};
+use http1::{Limits, ReadError};
+use httparse::Error;
+use httparse::spans::{EMPTY_HEADER_SPAN, Span};
+use std::alloc::Global;
+use std::mem;
+
+// The most fields behind the last chunk. They are read and ignored.
+const MOST_TRAILERS: usize = 16;
+
+// The most bytes of the extensions of all chunks, which are ignored, and of the fields behind them.
+const LIMITS: Limits = Limits {
+    max_head_len: 16_384,
+    max_extensions_len: 16_384,
+    max_trailers_len: 16_384,
+};
+
+/// A reply: its status, and its body as it was before it was cut into chunks.
+#[derive(Drop)]
+pub struct Reply {
+    /// The status.
+    pub status: u16,
+    /// The body.
+    pub body: Vec<u8>,
+}
+
+// What of a reply comes next.
+#[derive(Clone, Copy, Debug)]
+pub(crate) enum Stage {
+    // Its head.
+    Head,
+    // Its body, with what is still to come of it; the number is the status.
+    Body(u16, Decoder),
+}
+
+// What one step of the reader came to.
+#[derive(Clone, Copy, Debug)]
+pub(crate) enum Step {
+    // Another step may follow.
+    Goes,
+    // More bytes have to come.
+    Waits,
+    // The reply is whole, with this status.
+    Ends(u16),
+}
+
+/// A reply that comes, as far as it came.
+#[derive(Drop)]
+pub struct Incoming {
+    alloc: Global,
+    stage: Stage,
+    unread: Unread,
+    body: Vec<u8>,
+    ghost small: { vec_len body ≤ 1048576 },
+}
+
+impl Incoming {
+    ghost use Rattle.canary_fetch.specs.Reading.{IsReading, StepsTo, BeginsWith, reply_heard};
+    ghost use Rattle.canary_fetch.specs.Replies.{heard};
+
+    /// A reply of which nothing came.
+    pub fn new(alloc: Global) -> Incoming
+        ensures { IsReading [] result }
+    {
+        Incoming {
+            alloc,
+            stage: Stage::Head,
+            unread: Unread::new(alloc),
+            body: Vec::new(alloc),
+        }
+    }
+
+    /// More bytes came. None while the reply is not whole; bytes that follow it are ignored.
+    ///
+    /// # Errors
+    /// That of the bytes, after which this is of no more use: `TooLong`, `NotHttp` or `Coded`. Or
+    /// `Memory`.
+    pub fn take(&mut self, bytes: &[u8]) -> Result<Option<Reply>, Fault>
+        ensures { (came : List ℕ) → IsReading came self.old → IfOk result (λ told. MatchOption told
+            (IsReading (came ++ bytes.now) self.new)
+            (λ reply. BeginsWith (came ++ bytes.now) (reply_heard reply))) }
+    {
+        self.unread.add(bytes)?;
+        'steps: for _ in 0..u64::MAX {
+            match self.step()? {
+                Step::Goes => {}
+                Step::Waits => return Ok(None),
+                Step::Ends(status) => return Ok(Some(self.reply(status))),
+            }
+        }
+        Ok(None)
+    }
+
+    /// The connection ended, on the other side. That ends a body whose head does not say where it
+    /// ends.
+    ///
+    /// # Errors
+    /// `Cut` if the reply is not whole. `TooLong` or `Memory`.
+    pub fn end(&mut self) -> Result<Reply, Fault>
+        ensures { (came : List ℕ) → IsReading came self.old
+            → IfOk result (λ reply. ReadsReply came (reply_heard reply) []) }
+    {
+        match self.stage {
+            Stage::Body(status, Decoder::UntilClose) => {
+                let rest = Span {
+                    start: 0,
+                    end: self.unread.as_slice().len(),
+                };
+                self.keep(rest)?;
+                Ok(self.reply(status))
+            }
+            _ => Err(Fault::Cut),
+        }
+    }
+
+    // Reads the next piece of what came.
+    fn step(&mut self) -> Result<Step, Fault>
+        ensures { (came : List ℕ) → IsReading came self.old
+            → IfOk result (StepsTo came self.new) }
+    {
+        match self.stage {
+            Stage::Head => self.read_head(),
+            Stage::Body(status, decoder) => self.read_body(status, decoder),
+        }
+    }
+
+    // Reads a head, if it is whole.
+    fn read_head(&mut self) -> Result<Step, Fault>
+        requires { self.old.stage ≡ Stage.Head }
+        ensures { (came : List ℕ) → IsReading came self.old
+            → IfOk result (StepsTo came self.new) }
+    {
+        match front_of(self.unread.as_slice())? {
+            Front::Part => Ok(Step::Waits),
+            Front::Interim(len) => {
+                self.unread.read(len);
+                Ok(Step::Goes)
+            }
+            Front::Final(head) => {
+                self.unread.read(head.len);
+                self.stage = Stage::Body(head.status, Decoder::new(head.framing, &LIMITS));
+                Ok(Step::Goes)
+            }
+        }
+    }
+
+    // Reads the next piece of a body.
+    fn read_body(&mut self, status: u16, decoder: Decoder) -> Result<Step, Fault>
+        requires { self.old.stage ≡ Stage.Body status decoder }
+        ensures { (came : List ℕ) → IsReading came self.old
+            → IfOk result (StepsTo came self.new) }
+    {
+        let mut decoder = decoder;
+        let mut trailers = [EMPTY_HEADER_SPAN; MOST_TRAILERS];
+        match decoder.decode(self.unread.as_slice(), &mut trailers) {
+            Ok(Decoded::NeedMore(len)) => {
+                self.go_on(status, decoder, len);
+                Ok(Step::Waits)
+            }
+            Ok(Decoded::Data(piece)) => {
+                self.keep(piece)?;
+                self.go_on(status, decoder, piece.end);
+                Ok(Step::Goes)
+            }
+            Ok(Decoded::End { .. }) => Ok(Step::Ends(status)),
+            Err(error) => Err(fault_of(error)),
+        }
+    }
+
+    // So many bytes of the body were read, and the decoder says what is still to come.
+    fn go_on(&mut self, status: u16, decoder: Decoder, count: usize)
+        requires { count ≤ length (bytes_unread self.old.unread) }
+        ensures stage { self.new.stage ≡ Stage.Body status decoder }
+        ensures unread { bytes_unread self.new.unread
+            ≡ drop count (bytes_unread self.old.unread) }
+        ensures body { self.new.body.items ≡ self.old.body.items }
+    {
+        self.unread.read(count);
+        self.stage = Stage::Body(status, decoder);
+    }
+
+    // Keeps a piece of the body that is among what was not read yet.
+    fn keep(&mut self, piece: Span) -> Result<(), Fault>
+        requires { IsWithin (length (bytes_unread self.old.unread)) piece }
+        ensures body { OnOk result (self.new.body.items ≡ self.old.body.items
+            ++ span_bytes (bytes_unread self.old.unread) piece) }
+        ensures unread { bytes_unread self.new.unread ≡ bytes_unread self.old.unread }
+        ensures stage { self.new.stage ≡ self.old.stage }
+    {
+        let piece = piece.of(self.unread.as_slice());
+        if piece.len() > MOST_BODY - self.body.len() {
+            return Err(Fault::TooLong);
+        }
+        match self.body.extend_from_slice(piece) {
+            Ok(()) => Ok(()),
+            Err(_) => Err(Fault::Memory),
+        }
+    }
+
+    // The reply with this status, and with the body that was kept.
+    fn reply(&mut self, status: u16) -> Reply
+        ensures { reply_heard result ≡ heard status self.old.body.items }
+    {
+        let body = mem::replace(&mut self.body, Vec::new(self.alloc));
+        Reply { status, body }
+    }
+}
+
+// What is said of a body that cannot be read.
+fn fault_of(error: ReadError) -> Fault {
+    match error {
+        ReadError::TooLarge
+        | ReadError::Parse(Error::TooManyHeaders)
+        | ReadError::Chunk(ChunkError::ExtensionsTooLong) => Fault::TooLong,
+        _ => Fault::NotHttp,
+    }
+}
