@@ -1,4 +1,4 @@
--- Which reply the bytes of a connection begin with (RFC 9112).
+-- Which reply the bytes of a connection begin with (RFC 9112), within the limits that are read.
 use Rattle.std.specs.Prelude.{◌≡◌, ℕ, ◌≤◌, Bool, ◌&&◌, not, false, IsTrue, List, [], ◌∷◌, ◌++◌, length, Ok, nat_lt, nat_le, ◌==◌}
 use Rattle.httparse.specs.Grammar.{ResponseHead, print_response, ReadsResponse, status_code}
 use Rattle.http1.specs.declared.conn.Limits.{Limits}
@@ -19,10 +19,11 @@ heard status body = record { status = status; body = body }
 
 -- ---- its head
 
--- the stream begins with this head, of 16,384 bytes at most
+-- the stream begins with this head, of 16,384 bytes and 64 fields at most
 pub record ReadsHead (stream : List ℕ) (h : ResponseHead) (rest : List ℕ) : Type 0 where
   pub reads : ReadsResponse stream h rest
   pub short : length (print_response h) ≤ 16384
+  pub few : length h.fields ≤ 64
 
 -- another head follows one with this status; 101 would answer an upgrade, which nobody asks for
 abbrev pub is_interim : ℕ → Bool
@@ -48,6 +49,11 @@ pub record IsFinal (h : ResponseHead) (status : ℕ) (framing : Framing) : Type 
 abbrev pub limits : Limits
 limits = record { max_head_len = 16384; max_extensions_len = 16384; max_trailers_len = 16384 }
 
+-- a body of 1,048,576 bytes at most, with 16 fields behind the chunks at most
+pub record IsSmall (bytes : List ℕ) (b : Body) : Type 0 where
+  pub bytes : length bytes ≤ 1048576
+  pub fields : length b.trailers ≤ 16
+
 -- the stream begins with a head that no other follows, and with the body that it says: so many bytes,
 -- what the chunks have in order, or all that comes until the connection ends
 pub record ReadsFinal (stream : List ℕ) (reply : Heard) (rest : List ℕ) : Type 0 where
@@ -59,6 +65,7 @@ pub record ReadsFinal (stream : List ℕ) (reply : Heard) (rest : List ℕ) : Ty
   pub final : IsFinal head reply.status framing
   pub has : ReadsBody limits framing after body rest
   pub is : reply.body ≡ body.bytes
+  pub small : IsSmall reply.body body
 
 -- the stream begins with this reply, and the rest follows it
 pub record ReadsReply (stream : List ℕ) (reply : Heard) (rest : List ℕ) : Type 0 where
@@ -66,3 +73,7 @@ pub record ReadsReply (stream : List ℕ) (reply : Heard) (rest : List ℕ) : Ty
   pub after : List ℕ
   pub skips : ReadsInterim interim stream after
   pub reads : ReadsFinal after reply rest
+
+-- whatever follows, there is no reply
+abbrev pub NeverReplies : List ℕ → Type 0
+NeverReplies stream = (more : List ℕ) (reply : Heard) (rest : List ℕ) → ¬ (ReadsReply (stream ++ more) reply rest)

@@ -1,8 +1,8 @@
 //! The heads of replies in HTTP/1.1 (RFC 9112).
-ghost use Rattle.std.specs.Prelude.{◌≡◌, ◌≤◌, IfOk};
+ghost use Rattle.std.specs.Prelude.{◌≡◌, ◌≤◌, IfOk, OnErr};
 ghost use Rattle.httparse.specs.Spans.{IsResponseWithin, IsResponseOf};
 ghost use Rattle.canary_fetch.specs.Fronts.{IsFront};
-ghost use Rattle.canary_fetch.specs.Replies.{is_interim};
+ghost use Rattle.canary_fetch.specs.Replies.{is_interim, NeverReplies};
 
 use crate::fault::Fault;
 use http1::fields::KnownFields;
@@ -48,7 +48,8 @@ pub(crate) struct Head {
 /// than in chunks; `NotHttp` if no head of a reply begins so, or one whose fields do not say where
 /// the body ends, as with both a `Content-Length` and a `Transfer-Encoding` (RFC 9112, section 6.3).
 pub(crate) fn front_of(bytes: &[u8]) -> Result<Front, Fault>
-    ensures { IfOk result (IsFront bytes.now) }
+    ensures ok { IfOk result (IsFront bytes.now) }
+    ensures err { OnErr result (NeverReplies bytes.now) }
 {
     let mut fields = [EMPTY_HEADER_SPAN; MOST_FIELDS];
     match parse_response(bytes, &mut fields) {
@@ -65,7 +66,9 @@ fn front_with(bytes: &[u8], fields: &[HeaderSpan], head: ResponseSpans) -> Resul
     requires within { IsResponseWithin bytes.now fields.now head }
     requires is { IsResponseOf bytes.now fields.now head }
     requires short { head.len ≤ 16384 }
-    ensures { IfOk result (IsFront bytes.now) }
+    requires few { head.headers ≤ 64 }
+    ensures ok { IfOk result (IsFront bytes.now) }
+    ensures err { OnErr result (NeverReplies bytes.now) }
 {
     if is_interim(head.code) {
         return Ok(Front::Interim(head.len));

@@ -1,6 +1,6 @@
 //! The reply that a connection brings, read from its bytes in whatever pieces they come.
-ghost use Rattle.std.specs.Prelude.{◌≡◌, ◌≤◌, ◌++◌, List, [], ℕ, length, drop};
-ghost use Rattle.std.specs.Prelude.{IfOk, OnOk, MatchOption};
+ghost use Rattle.std.specs.Prelude.{◌≡◌, ◌<◌, ◌≤◌, ◌+◌, ◌++◌, List, [], ℕ, length, drop, Err};
+ghost use Rattle.std.specs.Prelude.{IfOk, IfErr, OnOk, MatchOption};
 ghost use Rattle.std.specs.Prelude.{vec_len};
 ghost use Rattle.httparse.specs.Spans.{IsWithin, span_bytes};
 ghost use Rattle.canary_fetch.specs.Unreads.{bytes_unread};
@@ -67,7 +67,7 @@ pub struct Incoming {
 }
 
 impl Incoming {
-    ghost use Rattle.canary_fetch.specs.Reading.{IsReading, StepsTo, BeginsWith, reply_heard};
+    ghost use Rattle.canary_fetch.specs.Reading.{IsReading, StepsTo, BeginsWith, IsRefusal, reply_heard};
     ghost use Rattle.canary_fetch.specs.Replies.{heard};
 
     /// A reply of which nothing came.
@@ -88,9 +88,11 @@ impl Incoming {
     /// That of the bytes, after which this is of no more use: `TooLong`, `NotHttp` or `Coded`. Or
     /// `Memory`.
     pub fn take(&mut self, bytes: &[u8]) -> Result<Option<Reply>, Fault>
-        ensures { (came : List ℕ) → IsReading came self.old → IfOk result (λ told. MatchOption told
-            (IsReading (came ++ bytes.now) self.new)
+        ensures ok { (came : List ℕ) → IsReading came self.old → IfOk result (λ told.
+            MatchOption told (IsReading (came ++ bytes.now) self.new)
             (λ reply. BeginsWith (came ++ bytes.now) (reply_heard reply))) }
+        ensures err { (came : List ℕ) → IsReading came self.old
+            → IfErr result (IsRefusal (came ++ bytes.now)) }
     {
         self.unread.add(bytes)?;
         'steps: for _ in 0..u64::MAX {
@@ -127,8 +129,10 @@ impl Incoming {
 
     // Reads the next piece of what came.
     fn step(&mut self) -> Result<Step, Fault>
-        ensures { (came : List ℕ) → IsReading came self.old
+        ensures ok { (came : List ℕ) → IsReading came self.old
             → IfOk result (StepsTo came self.new) }
+        ensures err { (came : List ℕ) → IsReading came self.old
+            → IfErr result (IsRefusal came) }
     {
         match self.stage {
             Stage::Head => self.read_head(),
@@ -139,8 +143,10 @@ impl Incoming {
     // Reads a head, if it is whole.
     fn read_head(&mut self) -> Result<Step, Fault>
         requires { self.old.stage ≡ Stage.Head }
-        ensures { (came : List ℕ) → IsReading came self.old
+        ensures ok { (came : List ℕ) → IsReading came self.old
             → IfOk result (StepsTo came self.new) }
+        ensures err { (came : List ℕ) → IsReading came self.old
+            → IfErr result (IsRefusal came) }
     {
         match front_of(self.unread.as_slice())? {
             Front::Part => Ok(Step::Waits),
@@ -159,8 +165,10 @@ impl Incoming {
     // Reads the next piece of a body.
     fn read_body(&mut self, status: u16, decoder: Decoder) -> Result<Step, Fault>
         requires { self.old.stage ≡ Stage.Body status decoder }
-        ensures { (came : List ℕ) → IsReading came self.old
+        ensures ok { (came : List ℕ) → IsReading came self.old
             → IfOk result (StepsTo came self.new) }
+        ensures err { (came : List ℕ) → IsReading came self.old
+            → IfErr result (IsRefusal came) }
     {
         let mut decoder = decoder;
         let mut trailers = [EMPTY_HEADER_SPAN; MOST_TRAILERS];
@@ -196,6 +204,8 @@ impl Incoming {
         requires { IsWithin (length (bytes_unread self.old.unread)) piece }
         ensures body { OnOk result (self.new.body.items ≡ self.old.body.items
             ++ span_bytes (bytes_unread self.old.unread) piece) }
+        ensures long { result ≡ Err Fault.TooLong → 1048576 < length self.old.body.items
+            + length (span_bytes (bytes_unread self.old.unread) piece) }
         ensures unread { bytes_unread self.new.unread ≡ bytes_unread self.old.unread }
         ensures stage { self.new.stage ≡ self.old.stage }
     {
