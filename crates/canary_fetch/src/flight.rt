@@ -12,7 +12,7 @@ const PIECE: usize = 16_384;
 
 // How often a connection is read in one turn, so that nobody who sends without a pause holds up the
 // others.
-const MOST_READS: u32 = 16;
+const MOST_READS: u32 = 4;
 
 // What one read brought.
 #[derive(Drop)]
@@ -105,8 +105,8 @@ impl Flight {
         }
     }
 
-    // Sends what can be sent of the message. One that cannot be sent to its end may have a reply all
-    // the same.
+    // Sends what can be sent of the message. One that cannot be sent to its end may have a reply
+    // all the same.
     fn send(&mut self, message: &[u8]) {
         'writes: for _ in 0..u64::MAX {
             let rest = message.get(self.sent..).unwrap_or(&[]);

@@ -46,7 +46,7 @@ pub(crate) struct Head {
 /// # Errors
 /// `TooLong` if the head is too long, or says that the body is; `Coded` if the body is coded other
 /// than in chunks; `NotHttp` if no head of a reply begins so, or one whose fields do not say where
-/// the body ends, as with both a `Content-Length` and a `Transfer-Encoding` (RFC 9112, section 6.3).
+/// the body ends, as with a `Content-Length` and a `Transfer-Encoding` (RFC 9112, section 6.3).
 pub(crate) fn front_of(bytes: &[u8]) -> Result<Front, Fault>
     ensures ok { IfOk result (IsFront bytes.now) }
     ensures err { OnErr result (NeverReplies bytes.now) }
