@@ -19,6 +19,7 @@ pub mod fault;
 pub mod fetcher;
 mod flight;
 mod heads;
+pub mod laws;
 pub mod query;
 pub mod reply;
 mod underway;

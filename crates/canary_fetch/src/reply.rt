@@ -1,5 +1,5 @@
 //! The reply that a connection brings, read from its bytes in whatever pieces they come.
-ghost use Rattle.std.specs.Prelude.{◌≡◌, ◌<◌, ◌≤◌, ◌+◌, ◌++◌, List, [], ℕ, length, drop, Err};
+ghost use Rattle.std.specs.Prelude.{◌≡◌, ◌≢◌, ◌<◌, ◌≤◌, ◌+◌, ◌++◌, List, [], ℕ, length, drop};
 ghost use Rattle.std.specs.Prelude.{IfOk, IfErr, OnOk, MatchOption};
 ghost use Rattle.std.specs.Prelude.{vec_len};
 ghost use Rattle.httparse.specs.Spans.{IsWithin, span_bytes};
@@ -67,7 +67,8 @@ pub struct Incoming {
 }
 
 impl Incoming {
-    ghost use Rattle.canary_fetch.specs.Reading.{IsReading, StepsTo, BeginsWith, IsRefusal, reply_heard};
+    ghost use Rattle.canary_fetch.specs.Reading.{IsReading, StepsTo, BeginsWith, IsRefusal};
+    ghost use Rattle.canary_fetch.specs.Reading.{reply_heard};
     ghost use Rattle.canary_fetch.specs.Replies.{heard};
 
     /// A reply of which nothing came.
@@ -94,12 +95,15 @@ impl Incoming {
         ensures err { (came : List ℕ) → IsReading came self.old
             → IfErr result (IsRefusal (came ++ bytes.now)) }
     {
-        self.unread.add(bytes)?;
+        if let Err(fault) = self.unread.add(bytes) {
+            return Err(fault);
+        }
         'steps: for _ in 0..u64::MAX {
-            match self.step()? {
-                Step::Goes => {}
-                Step::Waits => return Ok(None),
-                Step::Ends(status) => return Ok(Some(self.reply(status))),
+            match self.step() {
+                Ok(Step::Goes) => {}
+                Ok(Step::Waits) => return Ok(None),
+                Ok(Step::Ends(status)) => return Ok(Some(self.reply(status))),
+                Err(fault) => return Err(fault),
             }
         }
         Ok(None)
@@ -120,8 +124,10 @@ impl Incoming {
                     start: 0,
                     end: self.unread.as_slice().len(),
                 };
-                self.keep(rest)?;
-                Ok(self.reply(status))
+                match self.keep(rest) {
+                    Ok(()) => Ok(self.reply(status)),
+                    Err(fault) => Err(fault),
+                }
             }
             _ => Err(Fault::Cut),
         }
@@ -148,17 +154,18 @@ impl Incoming {
         ensures err { (came : List ℕ) → IsReading came self.old
             → IfErr result (IsRefusal came) }
     {
-        match front_of(self.unread.as_slice())? {
-            Front::Part => Ok(Step::Waits),
-            Front::Interim(len) => {
+        match front_of(self.unread.as_slice()) {
+            Ok(Front::Part) => Ok(Step::Waits),
+            Ok(Front::Interim(len)) => {
                 self.unread.read(len);
                 Ok(Step::Goes)
             }
-            Front::Final(head) => {
-                self.unread.read(head.len);
-                self.stage = Stage::Body(head.status, Decoder::new(head.framing, &LIMITS));
+            Ok(Front::Final(head)) => {
+                let decoder = Decoder::new(head.framing, &LIMITS);
+                self.go_on(head.status, decoder, head.len);
                 Ok(Step::Goes)
             }
+            Err(fault) => Err(fault),
         }
     }
 
@@ -177,11 +184,13 @@ impl Incoming {
                 self.go_on(status, decoder, len);
                 Ok(Step::Waits)
             }
-            Ok(Decoded::Data(piece)) => {
-                self.keep(piece)?;
-                self.go_on(status, decoder, piece.end);
-                Ok(Step::Goes)
-            }
+            Ok(Decoded::Data(piece)) => match self.keep(piece) {
+                Ok(()) => {
+                    self.go_on(status, decoder, piece.end);
+                    Ok(Step::Goes)
+                }
+                Err(fault) => Err(fault),
+            },
             Ok(Decoded::End { .. }) => Ok(Step::Ends(status)),
             Err(error) => Err(fault_of(error)),
         }
@@ -204,8 +213,9 @@ impl Incoming {
         requires { IsWithin (length (bytes_unread self.old.unread)) piece }
         ensures body { OnOk result (self.new.body.items ≡ self.old.body.items
             ++ span_bytes (bytes_unread self.old.unread) piece) }
-        ensures long { result ≡ Err Fault.TooLong → 1048576 < length self.old.body.items
-            + length (span_bytes (bytes_unread self.old.unread) piece) }
+        ensures long { IfErr result (λ fault. fault ≢ Fault.Memory
+            → 1048576 < length self.old.body.items
+            + length (span_bytes (bytes_unread self.old.unread) piece)) }
         ensures unread { bytes_unread self.new.unread ≡ bytes_unread self.old.unread }
         ensures stage { self.new.stage ≡ self.old.stage }
     {

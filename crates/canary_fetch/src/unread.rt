@@ -1,5 +1,5 @@
 //! The bytes of a connection that came and were not read yet.
-ghost use Rattle.std.specs.Prelude.{◌≡◌, ◌≤◌, ◌++◌, OnOk, [], drop, length, vec_len};
+ghost use Rattle.std.specs.Prelude.{◌≡◌, ◌≤◌, ◌++◌, OnOk, IfErr, [], drop, length, vec_len};
 
 use crate::fault::Fault;
 use std::alloc::Global;
@@ -42,7 +42,8 @@ impl Unread {
 
     // More bytes came.
     pub(crate) fn add(&mut self, bytes: &[u8]) -> Result<(), Fault>
-        ensures { OnOk result (bytes_unread self.new ≡ bytes_unread self.old ++ bytes.now) }
+        ensures ok { OnOk result (bytes_unread self.new ≡ bytes_unread self.old ++ bytes.now) }
+        ensures err { IfErr result (λ fault. fault ≡ Fault.Memory) }
     {
         self.forget();
         match self.bytes.extend_from_slice(bytes) {
