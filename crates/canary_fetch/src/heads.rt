@@ -1,5 +1,6 @@
 //! The heads of replies in HTTP/1.1 (RFC 9112).
-ghost use Rattle.std.specs.Prelude.{◌≡◌, ◌≤◌, IfOk, OnErr};
+ghost use Rattle.std.specs.Prelude.{◌≡◌, ◌≤◌, IfOk, OnErr, length};
+ghost use Rattle.httparse.specs.Grammar.{HasNoResponse};
 ghost use Rattle.httparse.specs.Spans.{IsResponseWithin, IsResponseOf};
 ghost use Rattle.canary_fetch.specs.Fronts.{IsFront};
 ghost use Rattle.canary_fetch.specs.Replies.{is_interim, NeverReplies};
@@ -53,29 +54,55 @@ pub(crate) fn front_of(bytes: &[u8]) -> Result<Front, Fault>
 {
     let mut fields = [EMPTY_HEADER_SPAN; MOST_FIELDS];
     match parse_response(bytes, &mut fields) {
-        Ok(Status::Complete(head)) if head.len <= MOST_HEAD => front_with(bytes, &fields, head),
-        Ok(Status::Partial) if bytes.len() <= MOST_HEAD => Ok(Front::Part),
-        Ok(_) => Err(Fault::TooLong),
+        Ok(Status::Complete(head)) => front_with(bytes, &fields, head),
+        Ok(Status::Partial) => front_of_part(bytes),
         Err(Error::TooManyHeaders) => Err(Fault::TooLong),
         Err(_) => Err(Fault::NotHttp),
     }
+}
+
+// What a head is that is not whole.
+fn front_of_part(bytes: &[u8]) -> Result<Front, Fault>
+    requires { HasNoResponse bytes.now }
+    ensures ok { IfOk result (IsFront bytes.now) }
+    ensures err { OnErr result (NeverReplies bytes.now) }
+{
+    if bytes.len() > MOST_HEAD {
+        return Err(Fault::TooLong);
+    }
+    Ok(Front::Part)
 }
 
 // What a whole head is. 101 would answer an `Upgrade`, which no message asks for.
 fn front_with(bytes: &[u8], fields: &[HeaderSpan], head: ResponseSpans) -> Result<Front, Fault>
     requires within { IsResponseWithin bytes.now fields.now head }
     requires is { IsResponseOf bytes.now fields.now head }
-    requires short { head.len ≤ 16384 }
-    requires few { head.headers ≤ 64 }
+    requires few { length fields.now ≤ 64 }
     ensures ok { IfOk result (IsFront bytes.now) }
     ensures err { OnErr result (NeverReplies bytes.now) }
 {
+    if head.len > MOST_HEAD {
+        return Err(Fault::TooLong);
+    }
     if is_interim(head.code) {
         return Ok(Front::Interim(head.len));
     }
     if head.code < 200 {
         return Err(Fault::NotHttp);
     }
+    final_front(bytes, fields, head)
+}
+
+// What the head of a reply is.
+fn final_front(bytes: &[u8], fields: &[HeaderSpan], head: ResponseSpans) -> Result<Front, Fault>
+    requires within { IsResponseWithin bytes.now fields.now head }
+    requires is { IsResponseOf bytes.now fields.now head }
+    requires few { length fields.now ≤ 64 }
+    requires short { head.len ≤ 16384 }
+    requires high { 200 ≤ head.code }
+    ensures ok { IfOk result (IsFront bytes.now) }
+    ensures err { OnErr result (NeverReplies bytes.now) }
+{
     let known = KnownFields::from_spans(bytes, &fields[..head.headers]);
     if known.other_coding {
         return Err(Fault::Coded);
