@@ -46,11 +46,11 @@ known_is bytes spans r h x = ap known_fields x.fields
 -- ---- why it refuses: no head
 
 no_first : (stream from : List ℕ) (reply : Heard) (rest : List ℕ) (heads : List ResponseHead) → ((h : ResponseHead) (after : List ℕ) → ¬ (ReadsHead stream h after)) → ReadsInterim heads stream from → ¬ (ReadsFinal from reply rest)
-no_first stream from reply rest [] no skips f = no f.head f.after (subst (λ (s : List ℕ). ReadsHead s f.head f.after) (sym skips) f.reads)
-no_first stream from reply rest (h ∷ hs) no skips f = no h skips.1 skips.2
+no_first stream from reply rest [] bars skips f = bars f.head f.after (subst (λ (s : List ℕ). ReadsHead s f.head f.after) (sym skips) f.reads)
+no_first stream from reply rest (h ∷ hs) bars skips f = bars h skips.1 skips.2
 
 pub no_head : (bytes : List ℕ) → ((more : List ℕ) (h : ResponseHead) (after : List ℕ) → ¬ (ReadsHead (bytes ++ more) h after)) → NeverReplies bytes
-no_head bytes no more reply rest r = no_first (bytes ++ more) r.after reply rest r.interim (no more) r.skips r.reads
+no_head bytes bars more reply rest r = no_first (bytes ++ more) r.after reply rest r.interim (bars more) r.skips r.reads
 
 pub never_head : (bytes : List ℕ) → NeverHasResponse bytes → NeverReplies bytes
 never_head bytes never = no_head bytes (λ more h after x. never more h after x.reads)
@@ -76,15 +76,15 @@ long_head bytes rest h head long = no_head bytes (λ more k after x.
 -- ---- why it refuses: a head that is none of a reply
 
 pub no_final : (bytes after : List ℕ) (h : ResponseHead) → is_interim (status_code h) ≡ false → ReadsResponse bytes h after → ((status : ℕ) (framing : Framing) → ¬ (IsFinal h status framing)) → NeverReplies bytes
-no_final bytes after h not head no more reply rest r =
+no_final bytes after h not head bars more reply rest r =
     let longer = ReadsResponse-append bytes h after more head in
     let f = final_takes (bytes ++ more) (after ++ more) h reply rest not longer r in
     let same = (response_unique (bytes ++ more) h f.head (after ++ more) f.after longer f.reads.reads).0 in
-    no reply.status f.framing (subst (λ (k : ResponseHead). IsFinal k reply.status f.framing) (sym same) f.final)
+    bars reply.status f.framing (subst (λ (k : ResponseHead). IsFinal k reply.status f.framing) (sym same) f.final)
 
 pub low_status : (bytes after : List ℕ) (h : ResponseHead) → is_interim (status_code h) ≡ false → ReadsResponse bytes h after → status_code h < 200 → NeverReplies bytes
 low_status bytes after h not head low = no_final bytes after h not head (λ status framing f.
-    let same : status ≡ status_code h = f.status in
+    let same : status ≡ status_code h = f.told in
     let high : 200 ≤ status = f.final in
     absurd (omega arith))
 
@@ -96,7 +96,7 @@ not_framed r framing e a b = cc
 
 pub unframed : (bytes after : List ℕ) (h : ResponseHead) (e : FramingError) → is_interim (status_code h) ≡ false → ReadsResponse bytes h after → response_framing Other (status_code h) h.minor (known_of h.fields) ≡ Err e → NeverReplies bytes
 unframed bytes after h e not head is = no_final bytes after h not head (λ status framing f.
-    not_framed _ framing e is (ap (λ (s : ℕ). response_framing Other s h.minor (known_of h.fields)) (sym f.status) ∙ f.framed))
+    not_framed _ framing e is (ap (λ (s : ℕ). response_framing Other s h.minor (known_of h.fields)) (sym f.told) ∙ f.framed))
 
 framed_so : (r : Result Framing FramingError) (f g : Framing) → r ≡ Ok f → r ≡ Ok g → f ≡ g
 framed_so r f g a b = cc
@@ -107,9 +107,9 @@ long_body bytes after h len not head is long more reply rest r =
     let f = final_takes (bytes ++ more) (after ++ more) h reply rest not longer r in
     let same = (response_unique (bytes ++ more) h f.head (after ++ more) f.after longer f.reads.reads).0 in
     let final = subst (λ (k : ResponseHead). IsFinal k reply.status f.framing) (sym same) f.final in
-    let framing = framed_so _ (Sized len) f.framing is (ap (λ (s : ℕ). response_framing Other s h.minor (known_of h.fields)) (sym final.status) ∙ final.framed) in
+    let framing = framed_so _ (Sized len) f.framing is (ap (λ (s : ℕ). response_framing Other s h.minor (known_of h.fields)) (sym final.told) ∙ final.framed) in
     let has = subst (λ (x : Framing). ReadsBody limits x f.after f.body rest) (sym framing) f.has in
     let size : length f.body.bytes ≡ len = has.0 in
-    let small : length reply.body ≤ 1048576 = f.small.bytes in
+    let small : length reply.body ≤ 1048576 = f.small.within in
     let body : length reply.body ≡ length f.body.bytes = ap length f.is in
     absurd (omega arith)

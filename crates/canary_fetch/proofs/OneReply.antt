@@ -18,7 +18,7 @@ framing_is r q f g a b e = cc
 one_final : (stream : List ℕ) (a b : Heard) (r q : List ℕ) → ReadsFinal stream a r → ReadsFinal stream b q → (a ≡ b) × (r ≡ q)
 one_final stream a b r q x y =
     let same = response_unique stream x.head y.head x.after y.after x.reads.reads y.reads.reads in
-    let status : a.status ≡ b.status = x.final.status ∙ ap status_code same.0 ∙ sym y.final.status in
+    let status : a.status ≡ b.status = x.final.told ∙ ap status_code same.0 ∙ sym y.final.told in
     let alike : response_framing Other a.status x.head.minor (known_of x.head.fields) ≡ response_framing Other b.status y.head.minor (known_of y.head.fields) =
     λ i. response_framing Other (status i) (same.0 i).minor (known_of (same.0 i).fields) in
     let framing = framing_is _ _ x.framing y.framing x.final.framed y.final.framed alike in
@@ -30,7 +30,7 @@ one_final stream a b r q x y =
 one_behind : (heads : List ResponseHead) (stream after : List ℕ) (a b : Heard) (r q : List ℕ) → ReadsInterim heads stream after → ReadsFinal after a r → ReadsReply stream b q → (a ≡ b) × (r ≡ q)
 one_behind [] stream after a b r q skips x y =
     let f = subst (λ (s : List ℕ). ReadsFinal s a r) (sym skips) x in
-    let not = final_is_high (status_code f.head) (subst (λ (n : ℕ). 200 ≤ n) f.final.status f.final.final) in
+    let not = final_is_high (status_code f.head) (subst (λ (n : ℕ). 200 ≤ n) f.final.told f.final.final) in
     one_final stream a b r q f (final_takes stream f.after f.head b q not f.reads.reads y)
 one_behind (h ∷ hs) stream after a b r q skips x y =
     one_behind hs skips.1 after a b r q skips.3 x (interim_takes stream skips.1 h b q skips.0 skips.2 y)

@@ -1,7 +1,8 @@
 -- What a reader makes of the bytes that came, step by step.
 use Rattle.std.proofs.Common.{◌≡◌, ℕ, ◌+◌, ◌<◌, ◌≤◌, true, false, List, [], ◌∷◌, ◌++◌, length, drop, Ok, Result, refl, sym, ap, ◌∙◌, subst, subst₂, arith, length-append}
-use Rattle.std.specs.Prelude.{IsTrue}
-use Rattle.std.proofs.lemmas.List.{append-nil, append_assoc}
+use Rattle.std.specs.Prelude.{slice_range}
+use Rattle.std.proofs.lemmas.List.{append-nil, append_assoc, take_all}
+use Rattle.std.proofs.lemmas.Slice.{between_from_start}
 use Rattle.std.proofs.lemmas.Bool.Decides.{nat_tests}
 use Rattle.httparse.specs.Grammar.{ResponseHead, print_response, ReadsResponse, status_code}
 use Rattle.httparse.proofs.GrammarLemmas.{response_unique, response_prefix_free, ReadsResponse-append}
@@ -35,7 +36,7 @@ interim_is_low status is = grind (arith, nat_tests)
 interim_not_final : (h k : ResponseHead) (status : ℕ) (framing : Framing) → h ≡ k → is_interim (status_code h) ≡ true → IsFinal k status framing → ⊥
 interim_not_final h k status framing e is f =
     let low = interim_is_low (status_code h) is in
-    let same : status ≡ status_code h = f.status ∙ sym (ap status_code e) in
+    let same : status ≡ status_code h = f.told ∙ sym (ap status_code e) in
     let high : 200 ≤ status = f.final in
     omega arith
 
@@ -80,7 +81,7 @@ not_interim stream after from h reply rest (k ∷ ks) not head skips f =
 pub final_takes : (stream after : List ℕ) (h : ResponseHead) (reply : Heard) (rest : List ℕ) → is_interim (status_code h) ≡ false → ReadsResponse stream h after → ReadsReply stream reply rest → ReadsFinal stream reply rest
 final_takes stream after h reply rest not head r = not_interim stream after r.after h reply rest r.interim not head r.skips r.reads
 
-final_is_high : (status : ℕ) → 200 ≤ status → is_interim status ≡ false
+pub final_is_high : (status : ℕ) → 200 ≤ status → is_interim status ≡ false
 final_is_high status high = grind (arith, nat_tests)
 
 -- ---- the reader: heads
@@ -118,7 +119,7 @@ framing_is r q f g a b e = cc
 remains : (stream after kept : List ℕ) (status : ℕ) (framing : Framing) (h : ResponseHead) (reply : Heard) (rest : List ℕ) → kept ≡ [] → IsFinal h status framing → ReadsResponse stream h after → ReadsFinal stream reply rest → Remains status (decoder_for limits framing) kept after reply rest
 remains stream after kept status framing h reply rest fresh f head q =
     let same = response_unique stream h q.head after q.after head q.reads.reads in
-    let is : reply.status ≡ status = q.final.status ∙ sym (ap status_code same.0) ∙ sym f.status in
+    let is : reply.status ≡ status = q.final.told ∙ sym (ap status_code same.0) ∙ sym f.told in
     let alike : response_framing Other status h.minor (known_of h.fields) ≡ response_framing Other reply.status q.head.minor (known_of q.head.fields) =
     λ i. response_framing Other (sym is i) (same.0 i).minor (known_of (same.0 i).fields) in
     let framed = framing_is _ _ framing q.framing f.framed q.final.framed alike in
@@ -152,7 +153,7 @@ head_goes came kept unread len status framing h f at s = record {
   });
   whole = λ more reply rest r.
       let head = ReadsResponse-append unread h (drop len unread) more at.reads.reads in
-      let not = final_is_high (status_code h) (subst (λ (x : ℕ). 200 ≤ x) f.status f.final) in
+      let not = final_is_high (status_code h) (subst (λ (x : ℕ). 200 ≤ x) f.told f.final) in
       remains (unread ++ more) (drop len unread ++ more) kept status framing h reply rest s.fresh f head
       (final_takes (unread ++ more) (drop len unread ++ more) h reply rest not head (s.whole more reply rest r));
 }
@@ -166,7 +167,7 @@ piece_goes came kept unread piece status len old new c s = record {
     body = with_front piece r.body;
     completes = c.back more r.body rest r.completes;
     is = r.is ∙ ap (heard status) (append_assoc kept piece r.body.bytes);
-    small = record { bytes = r.small.bytes; fields = r.small.fields };
+    small = record { within = r.small.within; fields = r.small.fields };
   });
   whole = λ more reply rest r.
       let q = s.whole more reply rest r in
@@ -176,7 +177,7 @@ piece_goes came kept unread piece status len old new c s = record {
         completes = t.2;
         is = q.is ∙ ap (λ (b : Body). heard status (kept ++ b.bytes)) t.1 ∙ ap (heard status) (sym (append_assoc kept piece t.0.bytes));
         small = record {
-          bytes = q.small.bytes;
+          within = q.small.within;
           fields = subst (λ (b : Body). length b.trailers ≤ 16) t.1 q.small.fields;
         };
       };
@@ -195,7 +196,7 @@ body_ends came kept unread status len count d spans e small few s =
       body = body_of [] e.trailers;
       completes = e.completes [];
       is = ap (heard status) (sym (append-nil kept));
-      small = record { bytes = small; fields = few };
+      small = record { within = small; fields = few };
     }) in
     (drop len unread ++ [], subst (λ (x : List ℕ). ReadsReply x (heard status kept) (drop len unread ++ [])) (append-nil came) r)
 
@@ -208,7 +209,7 @@ connection_ends came kept unread status small s =
       body = body_of unread [];
       completes = (sym (append-nil unread), refl, refl);
       is = refl;
-      small = record { bytes = small; fields = none };
+      small = record { within = small; fields = none };
     }))
 
 -- ---- the reader: refusals
@@ -217,9 +218,9 @@ pub head_refuses : (came kept unread : List ℕ) → NeverReplies unread → IsR
 head_refuses came kept unread never s more reply rest r = never more reply rest (s.whole more reply rest r)
 
 pub body_refuses : (came kept unread : List ℕ) (status room : ℕ) (d : Decoder) → 16 ≤ room → HasNoBody d unread room → IsReadingBy came (Within status d) kept unread → NeverReplies came
-body_refuses came kept unread status room d wide no s more reply rest r =
+body_refuses came kept unread status room d wide bars s more reply rest r =
     let q = s.whole more reply rest r in
-    let over : room < length q.body.trailers = no more q.body rest q.completes in
+    let over : room < length q.body.trailers = bars more q.body rest q.completes in
     let few : length q.body.trailers ≤ 16 = q.small.fields in
     absurd (omega arith)
 
@@ -232,7 +233,7 @@ pub piece_refuses : (came kept unread piece : List ℕ) (status len : ℕ) (old 
 piece_refuses came kept unread piece status len old new c long s more reply rest r =
     let q = s.whole more reply rest r in
     let t = c.forth more q.body rest q.completes in
-    absurd (longer kept piece t.0.bytes reply.body (ap (λ (x : Heard). x.body) q.is ∙ ap (λ (b : Body). kept ++ b.bytes) t.1) q.small.bytes long)
+    absurd (longer kept piece t.0.bytes reply.body (ap (λ (x : Heard). x.body) q.is ∙ ap (λ (b : Body). kept ++ b.bytes) t.1) q.small.within long)
 
 -- ---- the same, of equal parts
 
@@ -241,3 +242,7 @@ same_reading came kept k unread u stage s a b c r =
     subst (λ (x : Stage). IsReadingBy came x k u) (sym a)
     (subst (λ (x : List ℕ). IsReadingBy came stage x u) (sym b)
     (subst (λ (x : List ℕ). IsReadingBy came stage kept x) (sym c) r))
+
+-- a list from its begin to its end
+pub whole_range : (xs : List ℕ) (n : ℕ) → n ≡ length xs → slice_range xs 0 n ≡ xs
+whole_range xs n e = between_from_start xs n ∙ take_all n xs (omega arith)

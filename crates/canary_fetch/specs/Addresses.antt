@@ -33,7 +33,7 @@ is_host false host = is_name host
 
 -- digits alone, of a number above 0
 pub record IsPort (digits : List ℕ) (port : ℕ) : Type 0 where
-  pub digits : IsTrue (list_all is_ascii_digit digits)
+  pub decimal : IsTrue (list_all is_ascii_digit digits)
   pub value : digits_value 10 digits ≡ port
   pub some : 0 < port
 
@@ -49,8 +49,8 @@ pub record IsSite (text host : List ℕ) (port : ℕ) : Type 0 where
   pub brackets : Bool
   pub behind : List ℕ
   pub spelled : text ≡ host_text brackets host ++ behind
-  pub host : IsTrue (is_host brackets host)
-  pub port : IsPortText behind port
+  pub clean : IsTrue (is_host brackets host)
+  pub ends : IsPortText behind port
 
 -- what stands before `/` and behind it; all of it, and nothing, if there is none
 abbrev pub IsCut : List ℕ → List ℕ → List ℕ → Type 0

@@ -38,7 +38,7 @@ ReadsInterim (h ∷ hs) stream rest =
 -- the head of a reply with this status, whose fields say that the body ends so: after a length, with
 -- the last chunk, or with the connection; and that it is coded no further
 pub record IsFinal (h : ResponseHead) (status : ℕ) (framing : Framing) : Type 0 where
-  pub status : status ≡ status_code h
+  pub told : status ≡ status_code h
   pub final : 200 ≤ status
   pub plain : (known_of h.fields).other_coding ≡ false
   pub framed : response_framing Other status h.minor (known_of h.fields) ≡ Ok framing
@@ -51,7 +51,7 @@ limits = record { max_head_len = 16384; max_extensions_len = 16384; max_trailers
 
 -- a body of 1,048,576 bytes at most, with 16 fields behind the chunks at most
 pub record IsSmall (bytes : List ℕ) (b : Body) : Type 0 where
-  pub bytes : length bytes ≤ 1048576
+  pub within : length bytes ≤ 1048576
   pub fields : length b.trailers ≤ 16
 
 -- the stream begins with a head that no other follows, and with the body that it says: so many bytes,

@@ -188,14 +188,26 @@ fn are_digits(bytes: &[u8]) -> bool
 fn is_name(text: &str) -> bool
     ensures { result ≡ is_name text.now }
 {
-    !text.is_empty() && text.as_bytes().iter().all(|byte| is_name_byte(*byte))
+    !text.is_empty() && are_name_bytes(text.as_bytes())
+}
+
+fn are_name_bytes(bytes: &[u8]) -> bool
+    ensures { result ≡ list_all is_name_byte bytes.now }
+{
+    bytes.iter().all(|byte| is_name_byte(*byte))
 }
 
 // Whether a text may be a number of IPv6.
 fn is_number(text: &str) -> bool
     ensures { result ≡ is_number text.now }
 {
-    !text.is_empty() && text.as_bytes().iter().all(|byte| is_number_byte(*byte))
+    !text.is_empty() && are_number_bytes(text.as_bytes())
+}
+
+fn are_number_bytes(bytes: &[u8]) -> bool
+    ensures { result ≡ list_all is_number_byte bytes.now }
+{
+    bytes.iter().all(|byte| is_number_byte(*byte))
 }
 
 fn is_name_byte(byte: u8) -> bool

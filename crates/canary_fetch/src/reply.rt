@@ -119,17 +119,36 @@ impl Incoming {
             → IfOk result (λ reply. ReadsReply came (reply_heard reply) []) }
     {
         match self.stage {
-            Stage::Body(status, Decoder::UntilClose) => {
-                let rest = Span {
-                    start: 0,
-                    end: self.unread.as_slice().len(),
-                };
-                match self.keep(rest) {
-                    Ok(()) => Ok(self.reply(status)),
-                    Err(fault) => Err(fault),
-                }
-            }
+            Stage::Body(status, decoder) => self.end_body(status, decoder),
+            Stage::Head => Err(Fault::Cut),
+        }
+    }
+
+    // The connection ended in a body, of which so much was still to come.
+    fn end_body(&mut self, status: u16, decoder: Decoder) -> Result<Reply, Fault>
+        requires { self.old.stage ≡ Stage.Body status decoder }
+        ensures { (came : List ℕ) → IsReading came self.old
+            → IfOk result (λ reply. ReadsReply came (reply_heard reply) []) }
+    {
+        match decoder {
+            Decoder::UntilClose => self.all(status),
             _ => Err(Fault::Cut),
+        }
+    }
+
+    // The reply whose body is all that came.
+    fn all(&mut self, status: u16) -> Result<Reply, Fault>
+        requires { self.old.stage ≡ Stage.Body status Decoder.UntilClose }
+        ensures { (came : List ℕ) → IsReading came self.old
+            → IfOk result (λ reply. ReadsReply came (reply_heard reply) []) }
+    {
+        let rest = Span {
+            start: 0,
+            end: self.unread.as_slice().len(),
+        };
+        match self.keep(rest) {
+            Ok(()) => Ok(self.reply(status)),
+            Err(fault) => Err(fault),
         }
     }
 

@@ -52,7 +52,7 @@ impl Underway {
 
     // How many there are.
     pub(crate) fn count(&self) -> usize
-        ensures { result ≡ btree_map_len self.now.queries }
+        ensures { result ≡ btree_map_len self.entry.now.queries }
     {
         self.queries.len()
     }
