@@ -1,7 +1,7 @@
 -- What the reader of heads finds, and why it refuses.
 use Rattle.std.proofs.Common.{◌≡◌, ℕ, ◌+◌, ◌<◌, ◌≤◌, true, false, List, [], ◌∷◌, ◌++◌, length, take, drop, map, Ok, Err, Result, refl, sym, ap, ◌∙◌, subst, subst₂, arith}
 use Rattle.std.proofs.lemmas.List.{length-map, length-take}
-use Rattle.httparse.specs.Grammar.{Field, ResponseHead, print_response, ReadsResponse, HasNoResponse, NeverHasResponse, status_code}
+use Rattle.httparse.specs.Grammar.{Field, ResponseHead, print_response, ReadsResponse, HasNoResponse, status_code}
 use Rattle.httparse.specs.Spans.{AreFieldsAt, IsResponseAt, IsResponseWithin, ResponseOverflows, header_bytes, name_and_value}
 use Rattle.httparse.specs.declared.spans.HeaderSpan.{HeaderSpan}
 use Rattle.httparse.specs.declared.spans.ResponseSpans.{ResponseSpans}
@@ -51,9 +51,6 @@ no_first stream from reply rest (h ∷ hs) bars skips f = bars h skips.1 skips.2
 
 pub no_head : (bytes : List ℕ) → ((more : List ℕ) (h : ResponseHead) (after : List ℕ) → ¬ (ReadsHead (bytes ++ more) h after)) → NeverReplies bytes
 no_head bytes bars more reply rest r = no_first (bytes ++ more) r.after reply rest r.interim (bars more) r.skips r.reads
-
-pub never_head : (bytes : List ℕ) → NeverHasResponse bytes → NeverReplies bytes
-never_head bytes never = no_head bytes (λ more h after x. never more h after x.reads)
 
 pub many_fields : (bytes : List ℕ) → ResponseOverflows 64 bytes → NeverReplies bytes
 many_fields bytes over = no_head bytes (λ more h after x.
