@@ -1,6 +1,6 @@
 -- What the reader of heads finds, and why it refuses.
 use Rattle.std.proofs.Common.{◌≡◌, ℕ, ◌+◌, ◌<◌, ◌≤◌, true, false, List, [], ◌∷◌, ◌++◌, length, take, drop, map, Ok, Err, Result, refl, sym, ap, ◌∙◌, subst, subst₂, arith}
-use Rattle.std.proofs.lemmas.List.{length-map, length-take}
+use Rattle.std.proofs.lemmas.List.{append-nil, length-map, length-take}
 use Rattle.httparse.specs.Grammar.{Field, ResponseHead, print_response, ReadsResponse, HasNoResponse, status_code}
 use Rattle.httparse.specs.Spans.{AreFieldsAt, IsResponseAt, IsResponseWithin, ResponseOverflows, header_bytes, name_and_value}
 use Rattle.httparse.specs.declared.spans.HeaderSpan.{HeaderSpan}
@@ -16,7 +16,9 @@ use Rattle.http1.specs.Message.{known_of}
 use Rattle.http1.specs.Body.{ReadsBody}
 use Rattle.http1.proofs.TextLemmas.{front_within}
 use Rattle.canary_fetch.specs.Replies.{Heard, ReadsHead, is_interim, ReadsInterim, IsFinal, limits, ReadsFinal, ReadsReply, NeverReplies}
+use Rattle.canary_fetch.specs.declared.reply.Stage.TheVariants.{Head}
 use Rattle.canary_fetch.specs.Fronts.{IsHeadAt}
+use Rattle.canary_fetch.specs.Reading.{IsReadingBy, IsPart}
 use Rattle.canary_fetch.proofs.ReadingLemmas.{final_takes}
 
 -- ---- what is found
@@ -69,6 +71,13 @@ long_head bytes rest h head long = no_head bytes (λ more k after x.
     let short : length (print_response k) ≤ 16384 = x.short in
     let len : length (print_response h) ≡ length (print_response k) = ap (λ (y : ResponseHead). length (print_response y)) same in
     absurd (omega arith))
+
+-- where no head is whole, no reply is
+pub head_waits : (came kept unread : List ℕ) → HasNoResponse unread → IsReadingBy came Head kept unread → IsPart came Head
+head_waits came kept unread none s reply rest r =
+    let longer = s.whole [] reply rest (subst (λ (x : List ℕ). ReadsReply x reply rest) (sym (append-nil came)) r) in
+    let here = subst (λ (x : List ℕ). ReadsReply x reply rest) (append-nil unread) longer in
+    no_first unread here.after reply rest here.interim (λ h after x. none h after x.reads) here.skips here.reads
 
 -- ---- why it refuses: a head that is none of a reply
 

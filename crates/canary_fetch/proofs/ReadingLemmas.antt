@@ -11,17 +11,17 @@ use Rattle.http1.specs.declared.framing.Framing.{Framing}
 use Rattle.http1.specs.declared.framing.FramingError.{FramingError}
 use Rattle.http1.specs.declared.framing.MethodKind.TheVariants.{Other}
 use Rattle.http1.specs.declared.decode.Decoder.{Decoder}
-use Rattle.http1.specs.declared.decode.Decoder.TheVariants.{UntilClose}
+use Rattle.http1.specs.declared.decode.Decoder.TheVariants.{Length, Chunked, UntilClose}
 use Rattle.http1.specs.Framing.{response_framing}
 use Rattle.http1.specs.Message.{known_of}
 use Rattle.http1.specs.Body.{Body, body_of, ReadsBody}
-use Rattle.http1.specs.Decoder.{decoder_for, with_front, Completes, Continues, Ends, HasNoBody}
+use Rattle.http1.specs.Decoder.{decoder_for, with_front, Completes, Continues, Starves, Ends, HasNoBody}
 use Rattle.http1.proofs.OneParse.{body_from_completes, completes_from_body}
 use Rattle.canary_fetch.specs.declared.reply.Stage.{Stage}
 use Rattle.canary_fetch.specs.declared.reply.Stage.TheVariants.{Head, Body as Within}
 use Rattle.canary_fetch.specs.Replies.{Heard, heard, ReadsHead, is_interim, ReadsInterim, IsFinal, limits, IsSmall, ReadsFinal, ReadsReply, NeverReplies}
 use Rattle.canary_fetch.specs.Fronts.{IsHeadAt}
-use Rattle.canary_fetch.specs.Reading.{Remains, Awaits, BeginsWith, IsReadingBy}
+use Rattle.canary_fetch.specs.Reading.{Remains, Awaits, BeginsWith, IsReadingBy, IsPart}
 
 -- ---- heads
 
@@ -189,6 +189,21 @@ none_goes came kept unread status len old new c s =
     subst (λ (k : List ℕ). IsReadingBy came (Within status new) k (drop len unread)) (append-nil kept)
     (piece_goes came kept unread [] status len old new c s)
 
+-- what is whole in a body that more has to come of
+whole_now : (came kept unread : List ℕ) (status : ℕ) (old : Decoder) (reply : Heard) (rest : List ℕ) → IsReadingBy came (Within status old) kept unread → ReadsReply came reply rest → Remains status old kept unread reply rest
+whole_now came kept unread status old reply rest s r =
+    subst (λ (x : List ℕ). Remains status old kept x reply rest) (append-nil unread)
+    (s.whole [] reply rest (subst (λ (x : List ℕ). ReadsReply x reply rest) (sym (append-nil came)) r))
+
+pub body_waits : (came kept unread : List ℕ) (status len : ℕ) (old new : Decoder) → Starves old unread new len → IsReadingBy came (Within status old) kept unread → IsPart came (Within status new)
+body_waits came kept unread status len (Length left) new w s reply rest r =
+    let q = whole_now came kept unread status (Length left) reply rest s r in
+    absurd (w.unfinished (λ e. cc) q.body rest q.completes)
+body_waits came kept unread status len (Chunked chunks most) new w s reply rest r =
+    let q = whole_now came kept unread status (Chunked chunks most) reply rest s r in
+    absurd (w.unfinished (λ e. cc) q.body rest q.completes)
+body_waits came kept unread status len UntilClose new w s reply rest r = w.continues.runs
+
 -- the body ends
 pub body_ends : (came kept unread : List ℕ) (status len count : ℕ) (d : Decoder) (spans : List HeaderSpan) → (e : Ends d unread spans len count) → length kept ≤ 1048576 → length e.trailers ≤ 16 → IsReadingBy came (Within status d) kept unread → BeginsWith came (heard status kept)
 body_ends came kept unread status len count d spans e small few s =
@@ -246,3 +261,7 @@ same_reading came kept k unread u stage s a b c r =
 -- a list from its begin to its end
 pub whole_range : (xs : List ℕ) (n : ℕ) → n ≡ length xs → slice_range xs 0 n ≡ xs
 whole_range xs n e = between_from_start xs n ∙ take_all n xs (omega arith)
+
+-- the same, where no reply is whole
+pub same_part : (came : List ℕ) (stage s : Stage) → s ≡ stage → IsPart came stage → IsPart came s
+same_part came stage s e p = subst (λ (x : Stage). IsPart came x) (sym e) p

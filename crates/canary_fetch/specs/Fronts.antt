@@ -1,6 +1,6 @@
 -- What the reader of heads finds.
-use Rattle.std.specs.Prelude.{ℕ, ◌≤◌, ⊤, IsTrue, List, length, drop}
-use Rattle.httparse.specs.Grammar.{ResponseHead, status_code}
+use Rattle.std.specs.Prelude.{ℕ, ◌≤◌, IsTrue, List, length, drop}
+use Rattle.httparse.specs.Grammar.{ResponseHead, HasNoResponse, status_code}
 use Rattle.canary_fetch.specs.declared.heads.Front.{Front}
 use Rattle.canary_fetch.specs.declared.heads.Front.TheVariants.{Part, Interim, Final}
 use Rattle.canary_fetch.specs.Replies.{ReadsHead, is_interim, IsFinal}
@@ -11,7 +11,7 @@ pub record IsHeadAt (bytes : List ℕ) (len : ℕ) (h : ResponseHead) : Type 0 w
   pub within : len ≤ length bytes
 
 abbrev pub IsFront : List ℕ → Front → Type 0
-IsFront bytes Part = ⊤
+IsFront bytes Part = HasNoResponse bytes
 IsFront bytes (Interim len) =
     (h : ResponseHead) × IsTrue (is_interim (status_code h)) × IsHeadAt bytes len h
 IsFront bytes (Final head) =

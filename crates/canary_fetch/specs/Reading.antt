@@ -2,6 +2,7 @@
 use Rattle.std.specs.Prelude.{◌≡◌, ◌≢◌, ℕ, ⊤, List, [], ◌++◌}
 use Rattle.http1.specs.Body.{Body}
 use Rattle.http1.specs.declared.decode.Decoder.{Decoder}
+use Rattle.http1.specs.declared.decode.Decoder.TheVariants.{UntilClose}
 use Rattle.http1.specs.Decoder.{Completes}
 use Rattle.canary_fetch.specs.declared.fault.Fault.{Fault}
 use Rattle.canary_fetch.specs.declared.fault.Fault.TheVariants.{Memory}
@@ -47,10 +48,24 @@ pub record IsReadingBy (came : List ℕ) (stage : Stage) (kept unread : List ℕ
 abbrev pub IsReading : List ℕ → Incoming → Type 0
 IsReading came r = IsReadingBy came r.stage r.body.items (bytes_unread r.unread)
 
+-- the body that comes ends with the connection
+abbrev pub IsOpen : Stage → Type 0
+IsOpen Head = ⊥
+IsOpen (Within status d) = d ≡ UntilClose
+
+-- no reply is whole, but for one whose body ends with the connection
+abbrev pub IsPart : List ℕ → Stage → Type 0
+IsPart came stage = (reply : Heard) (rest : List ℕ) → ReadsReply came reply rest → IsOpen stage
+
+-- these bytes came, and no reply is whole
+pub record AwaitsMore (came : List ℕ) (r : Incoming) : Type 0 where
+  pub reading : IsReading came r
+  pub part : IsPart came r.stage
+
 -- what a step came to
 abbrev pub StepsTo : List ℕ → Incoming → Step → Type 0
 StepsTo came r Goes = IsReading came r
-StepsTo came r Waits = IsReading came r
+StepsTo came r Waits = AwaitsMore came r
 StepsTo came r (Ends status) = BeginsWith came (heard status r.body.items)
 
 -- a fault that is no refused allocation is that of the bytes

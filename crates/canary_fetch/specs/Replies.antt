@@ -74,6 +74,10 @@ pub record ReadsReply (stream : List ℕ) (reply : Heard) (rest : List ℕ) : Ty
   pub skips : ReadsInterim interim stream after
   pub reads : ReadsFinal after reply rest
 
+-- no reply is whole
+abbrev pub HasNoReply : List ℕ → Type 0
+HasNoReply stream = (reply : Heard) (rest : List ℕ) → ¬ (ReadsReply stream reply rest)
+
 -- whatever follows, there is no reply
 abbrev pub NeverReplies : List ℕ → Type 0
 NeverReplies stream = (more : List ℕ) (reply : Heard) (rest : List ℕ) → ¬ (ReadsReply (stream ++ more) reply rest)

@@ -1,10 +1,10 @@
 //! The reply that a connection brings, read from its bytes in whatever pieces they come.
-ghost use Rattle.std.specs.Prelude.{◌≡◌, ◌≢◌, ◌<◌, ◌≤◌, ◌+◌, ◌++◌, List, [], ℕ, length, drop};
+ghost use Rattle.std.specs.Prelude.{◌≡◌, ◌≢◌, ◌<◌, ◌≤◌, ◌+◌, ◌++◌, List, [], ℕ, length, drop, Err};
 ghost use Rattle.std.specs.Prelude.{IfOk, IfErr, OnOk, MatchOption};
 ghost use Rattle.std.specs.Prelude.{vec_len};
 ghost use Rattle.httparse.specs.Spans.{IsWithin, span_bytes};
 ghost use Rattle.canary_fetch.specs.Unreads.{bytes_unread};
-ghost use Rattle.canary_fetch.specs.Replies.{ReadsReply};
+ghost use Rattle.canary_fetch.specs.Replies.{ReadsReply, HasNoReply};
 
 use crate::fault::Fault;
 use crate::heads::{Front, MOST_BODY, front_of};
@@ -68,7 +68,7 @@ pub struct Incoming {
 
 impl Incoming {
     ghost use Rattle.canary_fetch.specs.Reading.{IsReading, StepsTo, BeginsWith, IsRefusal};
-    ghost use Rattle.canary_fetch.specs.Reading.{reply_heard};
+    ghost use Rattle.canary_fetch.specs.Reading.{reply_heard, AwaitsMore, IsPart};
     ghost use Rattle.canary_fetch.specs.Replies.{heard};
 
     /// A reply of which nothing came.
@@ -87,10 +87,10 @@ impl Incoming {
     ///
     /// # Errors
     /// That of the bytes, after which this is of no more use: `TooLong`, `NotHttp` or `Coded`. Or
-    /// `Memory`.
+    /// `Memory`, also after 2^64 - 1 steps.
     pub fn take(&mut self, bytes: &[u8]) -> Result<Option<Reply>, Fault>
         ensures ok { (came : List ℕ) → IsReading came self.old → IfOk result (λ told.
-            MatchOption told (IsReading (came ++ bytes.now) self.new)
+            MatchOption told (AwaitsMore (came ++ bytes.now) self.new)
             (λ reply. BeginsWith (came ++ bytes.now) (reply_heard reply))) }
         ensures err { (came : List ℕ) → IsReading came self.old
             → IfErr result (IsRefusal (came ++ bytes.now)) }
@@ -106,7 +106,7 @@ impl Incoming {
                 Err(fault) => return Err(fault),
             }
         }
-        Ok(None)
+        Err(Fault::Memory)
     }
 
     /// The connection ended, on the other side. That ends a body whose head does not say where it
@@ -115,8 +115,10 @@ impl Incoming {
     /// # Errors
     /// `Cut` if the reply is not whole. `TooLong` or `Memory`.
     pub fn end(&mut self) -> Result<Reply, Fault>
-        ensures { (came : List ℕ) → IsReading came self.old
+        ensures ok { (came : List ℕ) → IsReading came self.old
             → IfOk result (λ reply. ReadsReply came (reply_heard reply) []) }
+        ensures cut { (came : List ℕ) → IsPart came self.old.stage → result ≡ Err Fault.Cut
+            → HasNoReply came }
     {
         match self.stage {
             Stage::Body(status, decoder) => self.end_body(status, decoder),
@@ -127,8 +129,10 @@ impl Incoming {
     // The connection ended in a body, of which so much was still to come.
     fn end_body(&mut self, status: u16, decoder: Decoder) -> Result<Reply, Fault>
         requires { self.old.stage ≡ Stage.Body status decoder }
-        ensures { (came : List ℕ) → IsReading came self.old
+        ensures ok { (came : List ℕ) → IsReading came self.old
             → IfOk result (λ reply. ReadsReply came (reply_heard reply) []) }
+        ensures cut { (came : List ℕ) → IsPart came self.old.stage → result ≡ Err Fault.Cut
+            → HasNoReply came }
     {
         match decoder {
             Decoder::UntilClose => self.all(status),
@@ -139,8 +143,9 @@ impl Incoming {
     // The reply whose body is all that came.
     fn all(&mut self, status: u16) -> Result<Reply, Fault>
         requires { self.old.stage ≡ Stage.Body status Decoder.UntilClose }
-        ensures { (came : List ℕ) → IsReading came self.old
+        ensures ok { (came : List ℕ) → IsReading came self.old
             → IfOk result (λ reply. ReadsReply came (reply_heard reply) []) }
+        ensures whole { result ≢ Err Fault.Cut }
     {
         let rest = Span {
             start: 0,
@@ -235,6 +240,7 @@ impl Incoming {
         ensures long { IfErr result (λ fault. fault ≢ Fault.Memory
             → 1048576 < length self.old.body.items
             + length (span_bytes (bytes_unread self.old.unread) piece)) }
+        ensures whole { result ≢ Err Fault.Cut }
         ensures unread { bytes_unread self.new.unread ≡ bytes_unread self.old.unread }
         ensures stage { self.new.stage ≡ self.old.stage }
     {

@@ -6,8 +6,8 @@ use Rattle.canary_fetch.specs.Replies.{Heard, heard, ReadsReply}
 use Rattle.canary_fetch.proofs.ReadingLemmas.{connection_ends, same_reading, whole_range}
 use Rattle.canary_fetch.proofs.reply.Incoming.all.Goals as goal
 
-pub returns-in-Ok : goal.returns-in-Ok
-returns-in-Ok c came s =
+pub returns-in-Ok-clause-ok : goal.returns-in-Ok-clause-ok
+returns-in-Ok-clause-ok c came s =
     let me = c.args.self.now in
     let kept = me.body.items in
     let unread = bytes_unread me.unread in

@@ -1,10 +1,10 @@
 use Rattle.std.proofs.Common.{◌≡◌, ℕ, ◌≤◌, List, [], ◌++◌, length, drop, refl, sym, ap, ◌∙◌, subst, arith}
 use Rattle.httparse.specs.Spans.{span_bytes}
-use Rattle.http1.specs.Decoder.{Continues, Ends, HasNoBody}
+use Rattle.http1.specs.Decoder.{Continues, Starves, Ends, HasNoBody}
 use Rattle.canary_fetch.specs.declared.reply.Stage.TheVariants.{Body as Within}
 use Rattle.canary_fetch.specs.Unreads.{bytes_unread}
 use Rattle.canary_fetch.proofs.FrontLemmas.{few_fields}
-use Rattle.canary_fetch.proofs.ReadingLemmas.{none_goes, piece_goes, body_ends, body_refuses, piece_refuses, same_reading}
+use Rattle.canary_fetch.proofs.ReadingLemmas.{none_goes, body_waits, same_part, piece_goes, body_ends, body_refuses, piece_refuses, same_reading}
 use Rattle.canary_fetch.proofs.reply.Incoming.read_body.Goals as goal
 
 pub returns-in-Ok-NeedMore-clause-ok : goal.returns-in-Ok-NeedMore-clause-ok
@@ -17,9 +17,14 @@ returns-in-Ok-NeedMore-clause-ok c came s =
     let next = c.decode.new.self in
     let new = c.go_on.new.self in
     let starves = rw c.in-Ok-NeedMore.field-0-is at c.in-Ok-NeedMore.ensures.ok in
-    let goes = subst (λ (i : List ℕ). Continues c.args.decoder i next len []) c.as_slice.ensures starves.continues in
-    same_reading came kept new.body.items (drop len unread) (bytes_unread new.unread) (Within status next) new.stage c.go_on.ensures.stage c.go_on.ensures.body c.go_on.ensures.unread
-    (none_goes came kept unread status len c.args.decoder next goes (same_reading came kept kept unread unread me.stage (Within status c.args.decoder) (sym c.requires) refl refl s))
+    let waits = subst (λ (i : List ℕ). Starves c.args.decoder i next len) c.as_slice.ensures starves in
+    let before = same_reading came kept kept unread unread me.stage (Within status c.args.decoder) (sym c.requires) refl refl s in
+    record {
+      reading =
+          same_reading came kept new.body.items (drop len unread) (bytes_unread new.unread) (Within status next) new.stage c.go_on.ensures.stage c.go_on.ensures.body c.go_on.ensures.unread
+          (none_goes came kept unread status len c.args.decoder next waits.continues before);
+      part = same_part came (Within status next) new.stage c.go_on.ensures.stage (body_waits came kept unread status len c.args.decoder next waits before);
+    }
 
 pub returns-in-Ok-clause-ok : goal.returns-in-Ok-clause-ok
 returns-in-Ok-clause-ok c came s =

@@ -1,11 +1,24 @@
 use Rattle.std.proofs.Common.{ℕ, List, refl, sym, ap, ◌∙◌, subst, drop}
 use Rattle.canary_fetch.specs.declared.reply.Stage.TheVariants.{Head, Body as Within}
 use Rattle.http1.specs.Decoder.{decoder_for}
+use Rattle.httparse.specs.Grammar.{HasNoResponse}
 use Rattle.canary_fetch.specs.Replies.{limits, NeverReplies}
 use Rattle.canary_fetch.specs.Fronts.{IsHeadAt}
 use Rattle.canary_fetch.specs.Unreads.{bytes_unread}
-use Rattle.canary_fetch.proofs.ReadingLemmas.{interim_goes, head_goes, head_refuses, same_reading}
+use Rattle.canary_fetch.proofs.ReadingLemmas.{interim_goes, head_goes, head_refuses, same_reading, same_part}
+use Rattle.canary_fetch.proofs.FrontLemmas.{head_waits}
 use Rattle.canary_fetch.proofs.reply.Incoming.read_head.Goals as goal
+
+pub returns-in-Ok-Part-clause-ok : goal.returns-in-Ok-Part-clause-ok
+returns-in-Ok-Part-clause-ok c came s =
+    let me = c.args.self.now in
+    let kept = me.body.items in
+    let unread = bytes_unread me.unread in
+    let none = rw c.in-Ok-Part.field-0-is at c.in-Ok-Part.ensures.ok in
+    record {
+      reading = s;
+      part = same_part came Head me.stage c.requires (head_waits came kept unread (subst HasNoResponse c.as_slice.ensures none) (same_reading came kept kept unread unread me.stage Head (sym c.requires) refl refl s));
+    }
 
 pub returns-in-Ok-Interim-clause-ok : goal.returns-in-Ok-Interim-clause-ok
 returns-in-Ok-Interim-clause-ok c came s =
