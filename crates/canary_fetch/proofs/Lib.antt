@@ -1,0 +1,5 @@
+pub mod ReadingLemmas
+pub mod FrontLemmas
+pub mod OneReply
+pub mod AskedMaps
+pub mod AddressLemmas

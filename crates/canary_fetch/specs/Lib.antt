@@ -1,0 +1,7 @@
+pub mod Addresses
+pub mod Replies
+pub mod Fronts
+pub mod Unreads
+pub mod Reading
+pub mod Asking
+pub mod Asked

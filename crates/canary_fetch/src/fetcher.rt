@@ -1,0 +1,134 @@
+//! Messages to many providers at once, of which no one waits for another.
+ghost use Rattle.std.specs.Prelude.{◌≡◌, ℕ, IfOk, OnOk, OnErr, MatchOption, true, false, Err};
+ghost use Rattle.canary_fetch.specs.Asking.{AreSame, Comes, Goes};
+
+use crate::query::{Answer, StartFault};
+use crate::underway::Underway;
+use mio::{Events, Poll};
+use std::alloc::Global;
+use std::net::{Net, SocketAddr};
+use std::time::{self, Duration, Instant};
+use thiserror::Error;
+
+// The most events that are taken at a time.
+const MOST_EVENTS: usize = 256;
+
+/// Why nobody can be asked.
+#[derive(Clone, Copy, Debug, PartialEq, Eq, Error)]
+pub enum FetchFault {
+    /// The system tells nothing of connections.
+    #[error("the system tells nothing of connections")]
+    Poll,
+    /// An allocation was refused.
+    #[error("out of memory")]
+    Memory,
+}
+
+/// Messages that are under way, each to one address and on a connection of its own: one thread,
+/// which waits for none of them.
+///
+/// At most so many have a connection at a time; the others wait for one in the order in which they
+/// came. Each is answered by the end of its time, which begins as it is taken in.
+#[derive(Drop)]
+pub struct Fetcher {
+    underway: Underway,
+    events: Events<Global>,
+    start: Option<Instant>,
+}
+
+impl Fetcher {
+    ghost use Rattle.canary_fetch.specs.Asked.{is_asked};
+
+    /// One with nothing to ask, and so many connections at a time at most.
+    ///
+    /// # Errors
+    /// `Poll` if the system tells nothing of connections; `Memory`.
+    pub fn new<R: Net + AllocGlobal>(rt: &R, most: usize) -> Result<Fetcher, FetchFault>
+        ensures { IfOk result (λ fetcher. (token : ℕ) → is_asked fetcher token ≡ false) }
+    {
+        let Ok(events) = Events::with_capacity(rt.alloc(), MOST_EVENTS) else {
+            return Err(FetchFault::Memory);
+        };
+        let Ok(poll) = Poll::new(rt) else {
+            return Err(FetchFault::Poll);
+        };
+        Ok(Fetcher {
+            underway: Underway::new(rt.alloc(), poll, most),
+            events,
+            start: None,
+        })
+    }
+
+    /// How many messages were taken in and not answered yet.
+    pub fn count(&self) -> usize {
+        self.underway.count()
+    }
+
+    /// Takes in a message to this address, which is answered under the token within the limit.
+    ///
+    /// # Errors
+    /// `Taken` if another message has this token and was not answered yet; `Memory`.
+    pub fn start<R: time::Clock>(
+        &mut self,
+        rt: &R,
+        token: usize,
+        address: SocketAddr,
+        message: Vec<u8>,
+        limit: Duration,
+    ) -> Result<(), StartFault>
+        ensures ok { OnOk result (Comes (is_asked self.old) (is_asked self.new) token) }
+        ensures err { OnErr result (AreSame (is_asked self.old) (is_asked self.new)) }
+        ensures taken { result ≡ Err StartFault.Taken → is_asked self.old token ≡ true }
+    {
+        self.look_at_clock(rt);
+        self.underway.add(token, address, message, limit)
+    }
+
+    /// Waits until something comes of a message, at most so long, and goes on with all of them. It
+    /// does not wait if there is an answer.
+    ///
+    /// # Errors
+    /// `Poll` if the system tells nothing of connections any more.
+    pub fn wait<R: Net + time::Clock>(&mut self, rt: &R, most: Duration) -> Result<(), FetchFault>
+        ensures { AreSame (is_asked self.old) (is_asked self.new) }
+    {
+        self.look_at_clock(rt);
+        self.underway.connect_next(rt);
+        let wait = self.underway.time_to_wait(most);
+        if self
+            .underway
+            .poll
+            .poll(&mut self.events, Some(wait))
+            .is_err()
+        {
+            return Err(FetchFault::Poll);
+        }
+        self.underway.attend_all(&self.events);
+        self.look_at_clock(rt);
+        self.underway.end_late();
+        Ok(())
+    }
+
+    /// The answer to a message, if there is one that was not given yet. The message is under way no
+    /// more.
+    pub fn answer(&mut self) -> Option<Answer>
+        ensures { MatchOption result (AreSame (is_asked self.old) (is_asked self.new))
+            (λ answer. Goes (is_asked self.old) (is_asked self.new) answer.token) }
+    {
+        self.underway.answer()
+    }
+
+    // Notes the present time, counted from the first message. It stays where the clock cannot be
+    // read.
+    fn look_at_clock<R: time::Clock>(&mut self, rt: &R)
+        ensures { AreSame (is_asked self.old) (is_asked self.new) }
+    {
+        let Some(start) = self.start else {
+            self.start = Instant::now(rt).ok();
+            return;
+        };
+        if let Ok(passed) = start.elapsed(rt) {
+            self.underway.now = passed;
+        }
+    }
+}
