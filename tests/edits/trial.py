@@ -9,6 +9,9 @@ import kit
 import planting
 import verdicts
 
+# The most bugs that one check tries at once, so that it ends within its limit.
+LOT = 24
+
 
 def words_only(functions, laws=False):
     """The words that ask a check for these functions, each with its file, and for the laws."""
@@ -84,7 +87,16 @@ class Trial:
         with open(f"{self.logs}/verdicts", "a", encoding="utf-8") as it:
             it.write(f"{text}\n")
 
-    def try_at_once(self, edits, also):
+    def try_in_lots(self, edits, also):
+        """Tries bugs, so many at once in each check, and gives those of which the checks tell
+        nothing clear, and those of `also`, if none was looked at."""
+        left = []
+        for first in range(0, len(edits), LOT):
+            rest, also = self.try_at_once(edits[first : first + LOT], also, f"at-once-{first}")
+            left += rest
+        return left, also
+
+    def try_at_once(self, edits, also, log):
         """Tries all bugs that one check can try, of a function in copies of it, beside functions as
         they are: copies too, or else those of `also`. It gives the bugs of which the check tells
         nothing clear, and those of `also`, if none was looked at."""
@@ -94,7 +106,7 @@ class Trial:
         if not as_they_are and not beside:
             wanted = also or [(it.path, it.function) for it in copied[:1]]
             as_they_are = [copies.Copy(*it) for it in wanted if copies.can_copy(it[1])]
-        lines = self.check_some("at-once", made + as_they_are, beside) if made else []
+        lines = self.check_some(log, made + as_they_are, beside) if made else []
         if not verdicts.reads(lines):
             return edits, also
         is_sound = all(self.stands(lines, *min(it.changed)) for it in as_they_are)
@@ -200,7 +212,7 @@ class Trial:
         left, beyond = ([it for it in edits if it.stays_inside == which] for which in (True, False))
         unclear = []
         if self.is_lean:
-            left, also = self.try_at_once(left, also)
+            left, also = self.try_in_lots(left, also)
         for number, group in enumerate(planting.grouped(left), 1):
             beside = self.unchanged(also, group)
             if self.is_lean and len(group) == 1 and not beside:
