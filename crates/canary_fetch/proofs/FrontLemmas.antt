@@ -1,23 +1,20 @@
 -- What the reader of heads finds, and why it refuses.
-use Rattle.std.proofs.Common.{◌≡◌, ℕ, ◌+◌, ◌<◌, ◌≤◌, true, false, List, [], ◌∷◌, ◌++◌, length, take, drop, map, Ok, Err, Result, refl, sym, ap, ◌∙◌, subst, subst₂, arith}
+use Rattle.std.proofs.Common.{◌≡◌, ℕ, ◌<◌, ◌≤◌, true, false, List, [], ◌∷◌, ◌++◌, length, take, Ok, Err, Result, sym, ap, ◌∙◌, subst, arith}
 use Rattle.std.proofs.lemmas.List.{append-nil, length-map, length-take}
 use Rattle.httparse.specs.Grammar.{Field, ResponseHead, print_response, ReadsResponse, HasNoResponse, status_code}
-use Rattle.httparse.specs.Spans.{AreFieldsAt, IsResponseAt, IsResponseWithin, ResponseOverflows, header_bytes, name_and_value}
+use Rattle.httparse.specs.Spans.{AreFieldsAt, ResponseOverflows, header_bytes, name_and_value}
 use Rattle.httparse.specs.declared.spans.HeaderSpan.{HeaderSpan}
-use Rattle.httparse.specs.declared.spans.ResponseSpans.{ResponseSpans}
 use Rattle.httparse.proofs.GrammarLemmas.{response_unique, response_prefix_free, ReadsResponse-append}
 use Rattle.http1.specs.declared.framing.Framing.{Framing}
 use Rattle.http1.specs.declared.framing.Framing.TheVariants.{Length as Sized}
 use Rattle.http1.specs.declared.framing.FramingError.{FramingError}
 use Rattle.http1.specs.declared.framing.MethodKind.TheVariants.{Other}
-use Rattle.http1.specs.Fields.{known_fields}
 use Rattle.http1.specs.Framing.{response_framing}
 use Rattle.http1.specs.Message.{known_of}
 use Rattle.http1.specs.Body.{ReadsBody}
 use Rattle.http1.proofs.TextLemmas.{front_within}
 use Rattle.canary_fetch.specs.Replies.{Heard, ReadsHead, is_interim, ReadsInterim, IsFinal, limits, ReadsFinal, ReadsReply, NeverReplies}
 use Rattle.canary_fetch.specs.declared.reply.Stage.TheVariants.{Head}
-use Rattle.canary_fetch.specs.Fronts.{IsHeadAt}
 use Rattle.canary_fetch.specs.Reading.{IsReadingBy, IsPart}
 use Rattle.canary_fetch.proofs.ReadingLemmas.{final_takes}
 
@@ -28,22 +25,6 @@ pub few_fields : (buf : List ℕ) (spans : List HeaderSpan) (count room : ℕ) (
 few_fields buf spans count room fields e most =
     let same = sym (length-map fields name_and_value) ∙ sym (ap length e) ∙ length-map (take count spans) (header_bytes buf) ∙ length-take count spans in
     omega (arith, same)
-
--- the head that the parser found
-pub head_at : (bytes : List ℕ) (spans : List HeaderSpan) (r : ResponseSpans) (h : ResponseHead) → IsResponseAt bytes spans r h → IsResponseWithin bytes spans r → r.len ≤ 16384 → r.headers ≤ 64 → IsHeadAt bytes r.len h
-head_at bytes spans r h x w short few =
-    let len : r.len ≡ length (print_response h) = x.len in
-    record {
-      reads = record {
-        reads = x.reads;
-        short = omega arith;
-        few = few_fields bytes spans r.headers 64 h.fields x.fields few;
-      };
-      within = w.section.len_fits;
-    }
-
-pub known_is : (bytes : List ℕ) (spans : List HeaderSpan) (r : ResponseSpans) (h : ResponseHead) → IsResponseAt bytes spans r h → known_fields (map (header_bytes bytes) (take r.headers spans)) ≡ known_of h.fields
-known_is bytes spans r h x = ap known_fields x.fields
 
 -- ---- why it refuses: no head
 

@@ -1,6 +1,6 @@
 -- Some bytes begin with one reply at most.
-use Rattle.std.proofs.Common.{◌≡◌, ℕ, ◌≤◌, true, List, [], ◌∷◌, Ok, Result, refl, sym, ap, ◌∙◌, subst}
-use Rattle.httparse.specs.Grammar.{ResponseHead, ReadsResponse, status_code}
+use Rattle.std.proofs.Common.{◌≡◌, ℕ, ◌≤◌, List, [], ◌∷◌, Ok, Result, sym, ap, ◌∙◌, subst}
+use Rattle.httparse.specs.Grammar.{ResponseHead, status_code}
 use Rattle.httparse.proofs.GrammarLemmas.{response_unique}
 use Rattle.http1.specs.declared.framing.Framing.{Framing}
 use Rattle.http1.specs.declared.framing.FramingError.{FramingError}
@@ -9,7 +9,7 @@ use Rattle.http1.specs.Framing.{response_framing}
 use Rattle.http1.specs.Message.{known_of}
 use Rattle.http1.specs.Body.{Body, ReadsBody}
 use Rattle.http1.proofs.OneParse.{body_unique}
-use Rattle.canary_fetch.specs.Replies.{Heard, heard, ReadsHead, is_interim, ReadsInterim, IsFinal, limits, ReadsFinal, ReadsReply}
+use Rattle.canary_fetch.specs.Replies.{Heard, heard, ReadsInterim, limits, ReadsFinal, ReadsReply}
 use Rattle.canary_fetch.proofs.ReadingLemmas.{interim_takes, final_takes, final_is_high}
 
 framing_is : (r q : Result Framing FramingError) (f g : Framing) → r ≡ Ok f → q ≡ Ok g → r ≡ q → f ≡ g

@@ -4,8 +4,8 @@ use Rattle.std.specs.Prelude.{slice_range}
 use Rattle.std.proofs.lemmas.List.{append-nil, append_assoc, take_all}
 use Rattle.std.proofs.lemmas.Slice.{between_from_start}
 use Rattle.std.proofs.lemmas.Bool.Decides.{nat_tests}
-use Rattle.httparse.specs.Grammar.{ResponseHead, print_response, ReadsResponse, status_code}
-use Rattle.httparse.proofs.GrammarLemmas.{response_unique, response_prefix_free, ReadsResponse-append}
+use Rattle.httparse.specs.Grammar.{ResponseHead, ReadsResponse, status_code}
+use Rattle.httparse.proofs.GrammarLemmas.{response_unique, ReadsResponse-append}
 use Rattle.httparse.specs.declared.spans.HeaderSpan.{HeaderSpan}
 use Rattle.http1.specs.declared.framing.Framing.{Framing}
 use Rattle.http1.specs.declared.framing.FramingError.{FramingError}
@@ -15,13 +15,13 @@ use Rattle.http1.specs.declared.decode.Decoder.TheVariants.{Length, Chunked, Unt
 use Rattle.http1.specs.Framing.{response_framing}
 use Rattle.http1.specs.Message.{known_of}
 use Rattle.http1.specs.Body.{Body, body_of, ReadsBody}
-use Rattle.http1.specs.Decoder.{decoder_for, with_front, Completes, Continues, Starves, Ends, HasNoBody}
+use Rattle.http1.specs.Decoder.{decoder_for, with_front, Continues, Starves, Ends, HasNoBody}
 use Rattle.http1.proofs.OneParse.{body_from_completes, completes_from_body}
 use Rattle.canary_fetch.specs.declared.reply.Stage.{Stage}
 use Rattle.canary_fetch.specs.declared.reply.Stage.TheVariants.{Head, Body as Within}
-use Rattle.canary_fetch.specs.Replies.{Heard, heard, ReadsHead, is_interim, ReadsInterim, IsFinal, limits, IsSmall, ReadsFinal, ReadsReply, NeverReplies}
+use Rattle.canary_fetch.specs.Replies.{Heard, heard, ReadsHead, is_interim, ReadsInterim, IsFinal, limits, ReadsFinal, ReadsReply, NeverReplies}
 use Rattle.canary_fetch.specs.Fronts.{IsHeadAt}
-use Rattle.canary_fetch.specs.Reading.{Remains, Awaits, BeginsWith, IsReadingBy, IsPart}
+use Rattle.canary_fetch.specs.Reading.{Remains, BeginsWith, IsReadingBy, IsPart}
 
 -- ---- heads
 
@@ -65,11 +65,6 @@ behind_interim stream after from h reply rest (k ∷ ks) is head skips f =
 pub interim_takes : (stream after : List ℕ) (h : ResponseHead) (reply : Heard) (rest : List ℕ) → is_interim (status_code h) ≡ true → ReadsHead stream h after → ReadsReply stream reply rest → ReadsReply after reply rest
 interim_takes stream after h reply rest is head r = behind_interim stream after r.after h reply rest r.interim is head r.skips r.reads
 
--- the first head of a stream with a reply
-record Begins (stream : List ℕ) (reply : Heard) (rest : List ℕ) (h : ResponseHead) : Type 0 where
-  reads : ReadsFinal stream reply rest
-  same : h ≡ reads.head
-
 not_interim : (stream after from : List ℕ) (h : ResponseHead) (reply : Heard) (rest : List ℕ) (heads : List ResponseHead) → is_interim (status_code h) ≡ false → ReadsResponse stream h after → ReadsInterim heads stream from → ReadsFinal from reply rest → ReadsFinal stream reply rest
 not_interim stream after from h reply rest [] not head skips f = subst (λ (s : List ℕ). ReadsFinal s reply rest) (sym skips) f
 not_interim stream after from h reply rest (k ∷ ks) not head skips f =
@@ -85,22 +80,6 @@ pub final_is_high : (status : ℕ) → 200 ≤ status → is_interim status ≡ 
 final_is_high status high = grind (arith, nat_tests)
 
 -- ---- the reader: heads
-
--- nothing came
-pub none_came : IsReadingBy [] Head [] []
-none_came = record { fresh = refl; sound = λ more reply rest r. r; whole = λ more reply rest r. r }
-
--- more bytes came
-pub more_came : (came kept unread bytes : List ℕ) (stage : Stage) → IsReadingBy came stage kept unread → IsReadingBy (came ++ bytes) stage kept (unread ++ bytes)
-more_came came kept unread bytes stage s = record {
-  fresh = s.fresh;
-  sound = λ more reply rest r.
-      subst (λ (x : List ℕ). ReadsReply x reply rest) (sym (append_assoc came bytes more))
-      (s.sound (bytes ++ more) reply rest (subst (λ (x : List ℕ). Awaits stage kept x reply rest) (append_assoc unread bytes more) r));
-  whole = λ more reply rest r.
-      subst (λ (x : List ℕ). Awaits stage kept x reply rest) (sym (append_assoc unread bytes more))
-      (s.whole (bytes ++ more) reply rest (subst (λ (x : List ℕ). ReadsReply x reply rest) (append_assoc came bytes more) r));
-}
 
 -- an interim head was read
 pub interim_goes : (came kept unread : List ℕ) (len : ℕ) (h : ResponseHead) → is_interim (status_code h) ≡ true → IsHeadAt unread len h → IsReadingBy came Head kept unread → IsReadingBy came Head kept (drop len unread)

@@ -1,13 +1,28 @@
 -- The messages of the code, by their tokens.
-use Rattle.std.specs.Prelude.{ℕ, Bool, is_some}
+use Rattle.std.specs.Prelude.{ℕ, Bool, is_some, Option, option_map, unwrap_or, Result, Err}
 use Rattle.std.specs.Ordering.{nat_cmp}
 use Rattle.std.specs.BTreeMap.{get}
+use Rattle.canary_fetch.specs.declared.fault.Fault.{Fault}
+use Rattle.canary_fetch.specs.declared.fault.Fault.TheVariants.{Timeout}
 use Rattle.canary_fetch.specs.declared.fetcher.Fetcher.{Fetcher}
+use Rattle.canary_fetch.specs.declared.query.Query.{Query}
+use Rattle.canary_fetch.specs.declared.reply.Reply.{Reply}
 use Rattle.canary_fetch.specs.declared.underway.Underway.{Underway}
 
 -- a message has this token, and was not answered yet
 abbrev pub is_there : Underway → ℕ → Bool
 is_there u token = is_some (get nat_cmp u.queries token)
 
+-- what a message came to
+abbrev pub outcome_of : Query → Result Reply Fault
+outcome_of q = unwrap_or q.outcome (Err Timeout)
+
+-- what the message with this token came to
+abbrev pub outcome_at : Underway → ℕ → Option (Result Reply Fault)
+outcome_at u token = option_map outcome_of (get nat_cmp u.queries token)
+
 abbrev pub is_asked : Fetcher → ℕ → Bool
 is_asked f token = is_there f.underway token
+
+abbrev pub asked_outcome : Fetcher → ℕ → Option (Result Reply Fault)
+asked_outcome f token = outcome_at f.underway token

@@ -1,5 +1,5 @@
 //! Messages to many providers at once, of which no one waits for another.
-ghost use Rattle.std.specs.Prelude.{◌≡◌, ℕ, IfOk, OnOk, OnErr, MatchOption, true, false, Err};
+ghost use Rattle.std.specs.Prelude.{◌≡◌, ℕ, IfOk, OnOk, OnErr, MatchOption, IfSome, true, false, Err, Some};
 ghost use Rattle.canary_fetch.specs.Asking.{AreSame, Comes, Goes};
 
 use crate::query::{Answer, StartFault};
@@ -37,7 +37,7 @@ pub struct Fetcher {
 }
 
 impl Fetcher {
-    ghost use Rattle.canary_fetch.specs.Asked.{is_asked};
+    ghost use Rattle.canary_fetch.specs.Asked.{is_asked, asked_outcome};
 
     /// One with nothing to ask, and so many connections at a time at most.
     ///
@@ -112,8 +112,10 @@ impl Fetcher {
     /// The answer to a message, if there is one that was not given yet. The message is under way no
     /// more.
     pub fn answer(&mut self) -> Option<Answer>
-        ensures { MatchOption result (AreSame (is_asked self.old) (is_asked self.new))
+        ensures one { MatchOption result (AreSame (is_asked self.old) (is_asked self.new))
             (λ answer. Goes (is_asked self.old) (is_asked self.new) answer.token) }
+        ensures outcome { IfSome result (λ answer.
+            asked_outcome self.old answer.token ≡ Some answer.outcome) }
     {
         self.underway.answer()
     }

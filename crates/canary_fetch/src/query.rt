@@ -42,6 +42,8 @@ pub(crate) struct Query {
 }
 
 impl Query {
+    ghost use Rattle.canary_fetch.specs.Asked.{outcome_of};
+
     // One that came to nothing yet.
     pub(crate) fn new(address: SocketAddr, message: Vec<u8>, ends: Duration) -> Query {
         Query {
@@ -90,7 +92,8 @@ impl Query {
 
     // Its answer, under this token.
     pub(crate) fn answer(self, token: usize) -> Answer
-        ensures { result.token ≡ token }
+        ensures token { result.token ≡ token }
+        ensures outcome { result.outcome ≡ outcome_of self }
     {
         Answer {
             token,

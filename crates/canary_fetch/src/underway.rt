@@ -1,5 +1,6 @@
 //! The messages that were taken in and not answered yet.
 ghost use Rattle.std.specs.Prelude.{◌≡◌, ◌+◌, ◌≤◌, ℕ, OnOk, OnErr, MatchOption, true, false, Err};
+ghost use Rattle.std.specs.Prelude.{IfSome, Some};
 ghost use Rattle.std.specs.BTreeMap.{btree_map_len};
 ghost use Rattle.canary_fetch.specs.Asking.{AreSame, Comes, Goes};
 
@@ -32,7 +33,7 @@ pub(crate) struct Underway {
 }
 
 impl Underway {
-    ghost use Rattle.canary_fetch.specs.Asked.{is_there};
+    ghost use Rattle.canary_fetch.specs.Asked.{is_there, outcome_at};
 
     // None.
     pub(crate) fn new(alloc: Global, poll: Poll, most: usize) -> Underway
@@ -85,8 +86,10 @@ impl Underway {
 
     // The answer to the first message that came to something. It is under way no more.
     pub(crate) fn answer(&mut self) -> Option<Answer>
-        ensures { MatchOption result (AreSame (is_there self.old) (is_there self.new))
+        ensures one { MatchOption result (AreSame (is_there self.old) (is_there self.new))
             (λ answer. Goes (is_there self.old) (is_there self.new) answer.token) }
+        ensures outcome { IfSome result (λ answer.
+            outcome_at self.old answer.token ≡ Some answer.outcome) }
     {
         let Some(token) = self.first_answered() else {
             return None;

@@ -1,4 +1,4 @@
-use Rattle.std.proofs.Common.{sym, ◌∙◌, arith, rules}
+use Rattle.std.proofs.Common.{arith, rules}
 use Rattle.std.proofs.lemmas.Str.Pattern.{strip_prefix_char}
 use Rattle.canary_fetch.proofs.AddressLemmas.{split_at, numbered_with}
 use Rattle.canary_fetch.proofs.address.numbered.Goals as goal

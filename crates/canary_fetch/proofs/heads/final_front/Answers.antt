@@ -1,4 +1,4 @@
-use Rattle.std.proofs.Common.{◌≡◌, ◌≤◌, ℕ, true, Ok, Err, sym, ap, ◌∙◌, subst, arith}
+use Rattle.std.proofs.Common.{◌≡◌, ◌≤◌, ℕ, Ok, Err, sym, ap, ◌∙◌, subst, arith}
 use Rattle.httparse.specs.Grammar.{status_code}
 use Rattle.http1.specs.declared.framing.Framing.TheVariants.{Length as Sized}
 use Rattle.http1.specs.declared.framing.MethodKind.TheVariants.{Other}

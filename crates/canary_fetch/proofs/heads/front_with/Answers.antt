@@ -1,4 +1,4 @@
-use Rattle.std.proofs.Common.{◌≡◌, ◌<◌, false, sym, ap, ◌∙◌, arith, length}
+use Rattle.std.proofs.Common.{◌≡◌, false, sym, ap, ◌∙◌, arith, length}
 use Rattle.httparse.specs.Grammar.{print_response, status_code}
 use Rattle.canary_fetch.specs.Replies.{is_interim}
 use Rattle.canary_fetch.proofs.FrontLemmas.{long_head, low_status}

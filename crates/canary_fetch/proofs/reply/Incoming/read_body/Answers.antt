@@ -1,4 +1,4 @@
-use Rattle.std.proofs.Common.{◌≡◌, ℕ, ◌≤◌, List, [], ◌++◌, length, drop, refl, sym, ap, ◌∙◌, subst, arith}
+use Rattle.std.proofs.Common.{ℕ, ◌≤◌, List, ◌++◌, length, drop, refl, sym, ap, ◌∙◌, subst, arith}
 use Rattle.httparse.specs.Spans.{span_bytes}
 use Rattle.http1.specs.Decoder.{Continues, Starves, Ends, HasNoBody}
 use Rattle.canary_fetch.specs.declared.reply.Stage.TheVariants.{Body as Within}
