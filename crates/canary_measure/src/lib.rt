@@ -1,0 +1,4 @@
+//! What is reported of what was measured.
+#![tactic(auto)]
+
+pub mod measured;

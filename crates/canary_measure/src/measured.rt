@@ -1,0 +1,18 @@
+//! What was measured.
+use canary_decimal::reading::Reading;
+
+/// A value that a provider gives.
+#[derive(Drop)]
+pub enum Given {
+    /// A number, NaN or an infinity, as its text is read.
+    Read(Reading),
+    /// `null`.
+    Null,
+}
+
+/// What was measured.
+#[derive(Drop)]
+pub enum Measured {
+    One(Given),
+    Several(Vec<Given>),
+}
