@@ -126,7 +126,7 @@ with_own own lines = if list_any (has_name own) lines then lines else lines ++ o
 unfoldable pub with_all_own : List (List ℕ) → List (List ℕ)
 with_all_own lines =
     with_own CONNECTION.now (with_own ENCODING.now (with_own ACCEPT.now
-        (with_own USER_AGENT.now lines)))
+    (with_own USER_AGENT.now lines)))
 
 abbrev pub HasFields : Json → List (List ℕ) → Type 0
 HasFields j fields =

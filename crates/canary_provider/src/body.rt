@@ -21,11 +21,7 @@ pub(crate) struct Body {
 }
 
 /// The body that a plan has: a text as it is, or JSON, or nothing.
-pub(crate) fn body_of(
-    alloc: Global,
-    value: &Value<'_>,
-    method: Method,
-) -> Result<Body, Stop>
+pub(crate) fn body_of(alloc: Global, value: &Value<'_>, method: Method) -> Result<Body, Stop>
     requires { HasNumbers (value_view value.now) }
     ensures { IfOk result (λ body. IsBody (given_at (codes "body") (value_view value.now))
         (given_at (codes "jsonBody") (value_view value.now)) body.bytes.items body.is_json) }

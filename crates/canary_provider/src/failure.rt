@@ -60,11 +60,7 @@ impl<T: Drop> From<AllocFailed<T>> for Fault<'_> {
 }
 
 /// The text of a fault, with how the body begins; or `Memory`.
-pub(crate) fn text_of(
-    alloc: Global,
-    fault: Fault<'_>,
-    body: &[u8],
-) -> Result<FailureText, Memory>
+pub(crate) fn text_of(alloc: Global, fault: Fault<'_>, body: &[u8]) -> Result<FailureText, Memory>
     ensures { IfOk result (λ text. IsShown text) }
 {
     match fault {

@@ -64,11 +64,7 @@ impl Provider {
     ///
     /// # Errors
     /// `Memory` if an allocation was refused.
-    pub fn read(
-        alloc: Global,
-        kind: &str,
-        json: &str,
-    ) -> Result<Result<Provider, Refusal>, Memory>
+    pub fn read(alloc: Global, kind: &str, json: &str) -> Result<Result<Provider, Refusal>, Memory>
         ensures { IfOk result (λ read. IfOk read (IsAsked kind.now json.now)) }
     {
         let mut scratch = Scratch::new(alloc);

@@ -42,11 +42,7 @@ fn is_text_at(value: &Value<'_>, key: &str, text: &str) -> bool
 }
 
 // What a result of that kind says.
-fn result_of<'a>(
-    alloc: Global,
-    kind: &'a str,
-    value: &Value<'a>,
-) -> Result<Measured, Fault<'a>>
+fn result_of<'a>(alloc: Global, kind: &'a str, value: &Value<'a>) -> Result<Measured, Fault<'a>>
     ensures sound { IfOk result (λ m. IsResult (Some kind.now) (value_view value.now) m) }
     ensures complete { IfErr result
         (λ fault. Refutes (IsResult (Some kind.now) (value_view value.now)) fault) }

@@ -23,8 +23,13 @@ use std::alloc::Global;
 
 /// The bytes of a query that are percent-encoded: all but the unreserved ones (RFC 3986, section
 /// 2.3).
-pub(crate) const QUERY: AsciiSet =
-    ascii_set!(NON_ALPHANUMERIC.remove(b'-').remove(b'.').remove(b'_').remove(b'~'));
+pub(crate) const QUERY: AsciiSet = ascii_set!(
+    NON_ALPHANUMERIC
+        .remove(b'-')
+        .remove(b'.')
+        .remove(b'_')
+        .remove(b'~')
+);
 
 const API: &str = "/api/v1/query?query=";
 
@@ -151,7 +156,12 @@ pub(crate) fn query_line(alloc: Global, place: Place<'_>, query: &str) -> Result
     let asked = asked_of(alloc, query)?;
     let base = base_of(place.target);
     let front = joined(alloc, b"GET ", base)?;
-    line_of(alloc, front.as_slice(), asked.as_bytes(), VERSION.as_bytes())
+    line_of(
+        alloc,
+        front.as_slice(),
+        asked.as_bytes(),
+        VERSION.as_bytes(),
+    )
 }
 
 // Two parts, one after the other.
@@ -189,7 +199,12 @@ pub(crate) fn web_line(alloc: Global, method: Method, place: Place<'_>) -> Resul
 {
     let front = joined(alloc, method.text().as_bytes(), b" ")?;
     let target = joined(alloc, slash_before(place.target), place.target)?;
-    line_of(alloc, front.as_slice(), target.as_slice(), VERSION.as_bytes())
+    line_of(
+        alloc,
+        front.as_slice(),
+        target.as_slice(),
+        VERSION.as_bytes(),
+    )
 }
 
 // The slash that a target without one begins with.
