@@ -143,6 +143,7 @@ fn put(alloc: Global, words: &mut ArrayString<MOST>, part: &str) -> Result<(), M
 }
 
 // Appends a character, if there is room.
+#[tactic(auto, using(crate::proofs::ShownLemmas::both_shown))]
 fn put_one(alloc: Global, words: &mut ArrayString<MOST>, character: char) -> Result<bool, Memory>
     requires { IsShown words.old.bytes }
     ensures { OnOk result (IsShown words.new.bytes) }

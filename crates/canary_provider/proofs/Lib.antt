@@ -1,0 +1,4 @@
+mod ShownLemmas
+mod ReadingLemmas
+mod ValueLemmas
+mod QueryLemmas

@@ -1,0 +1,14 @@
+-- Texts without marks, one after another.
+use Rattle.std.proofs.Common.{◌≡◌, ◌&&◌, true, ℕ, List, ◌++◌, sym, ap, ap₂, ◌∙◌}
+use Rattle.std.specs.Prelude.{encode_utf8_all}
+use Rattle.std.specs.List.{list_all}
+use Rattle.std.proofs.lemmas.List.Folds.{list_all-append}
+use Rattle.std.proofs.lemmas.Str.{encodes-append}
+use Rattle.canary_markup.specs.Showing.{is_plain}
+use Rattle.canary_provider.specs.Texts.{IsShown}
+
+pub both_shown : (a b : List ℕ) → IsShown a → IsShown b → IsShown (a ++ b)
+both_shown a b p q =
+    (p.0 ++ q.0,
+     ap₂ (λ x y. x ++ y) p.1.0 q.1.0 ∙ sym (encodes-append p.0 q.0),
+     list_all-append is_plain p.0 q.0 ∙ ap₂ (λ x y. x && y) p.1.1 q.1.1)
