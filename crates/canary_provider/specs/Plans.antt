@@ -1,5 +1,6 @@
 -- What a plan asks of a provider.
 use Rattle.std.specs.Prelude.{◌≡◌, ℕ, ◌<◌, Bool, true, false, not, ◌&&◌, ◌||◌, ◌==◌, nat_le, nat_lt, if◌then◌else◌, IsTrue, Option, Some, None, option_and_then, List, [], ◌∷◌, ◌++◌, length, codes, decimal, ◌⊎◌, All}
+use Rattle.std.specs.Borrow.{Bor}
 use Rattle.std.specs.Char.{is_ascii_alphanumeric}
 use Rattle.std.specs.List.{list_all, list_any, before_first}
 use Rattle.std.specs.Str.{str_eq_ignore_ascii_case}
@@ -8,7 +9,7 @@ use Rattle.json.specs.Find.{get, is_null, as_str, as_array}
 use Rattle.json.specs.Print.{print}
 use Rattle.json.specs.Tree.{json_tokens}
 use Rattle.percent_encoding.specs.Percent.{percent_encode, percent_decode}
-use Rattle.canary_provider.specs.declared.fields.TheConstants.{USER_AGENT, ACCEPT, ENCODING, CONNECTION, CONTENT_TYPE, LENGTH}
+use Rattle.canary_provider.specs.declared.fields.TheConstants.{OWN, USER_AGENT, ACCEPT, ENCODING, CONNECTION, CONTENT_TYPE, LENGTH}
 use Rattle.canary_provider.specs.declared.target.TheConstants.{QUERY, API, VERSION}
 use Rattle.canary_provider.specs.declared.target.Method.{Method}
 use Rattle.canary_provider.specs.declared.target.Method.TheVariants as method
@@ -32,10 +33,10 @@ is_authority bytes = nat_lt 0 (length bytes) && list_all is_authority_byte bytes
 abbrev pub is_target_byte : ℕ → Bool
 is_target_byte byte = nat_le 33 byte && nat_le byte 126 && not (byte == 35)
 
--- nothing, a path or a query
+-- nothing, or a path
 abbrev pub begins_target : List ℕ → Bool
 begins_target [] = true
-begins_target (byte ∷ rest) = byte == 47 || byte == 63
+begins_target (byte ∷ rest) = byte == 47
 
 abbrev pub is_target : List ℕ → Bool
 is_target bytes = begins_target bytes && list_all is_target_byte bytes
@@ -62,10 +63,10 @@ IsQueryLine target query line =
     (base : List ℕ) × IsBase target base
     × (line ≡ (codes "GET " ++ base) ++ (API.now ++ percent_encode QUERY query) ++ VERSION.now)
 
--- a target begins with a slash
+-- a target is a slash if the address has none
 abbrev pub web_target : List ℕ → List ℕ
 web_target [] = 47 ∷ []
-web_target (byte ∷ rest) = if byte == 47 then byte ∷ rest else 47 ∷ byte ∷ rest
+web_target (byte ∷ rest) = byte ∷ rest
 
 abbrev pub web_line : Method → List ℕ → List ℕ
 web_line m target = (method_text m ++ codes " ") ++ web_target target ++ VERSION.now
@@ -90,12 +91,16 @@ is_token_byte byte = is_ascii_alphanumeric byte || is_token_mark byte
 abbrev pub is_token : List ℕ → Bool
 is_token bytes = nat_lt 0 (length bytes) && list_all is_token_byte bytes
 
+-- a name of a field that each message has, or may not have
+abbrev pub is_own : List ℕ → Bool
+is_own name = list_any (λ (own : Bor (List ℕ)). str_eq_ignore_ascii_case own.now name) OWN
+
 -- the field that an object with `key` and `value` asks for
 abbrev pub IsHeader : Json → List ℕ → Type 0
 IsHeader j line =
     (key : List ℕ) × (value : List ℕ)
     × (text_at (codes "key") j ≡ Some key) × (text_at (codes "value") j ≡ Some value)
-    × IsTrue (is_token key) × (line ≡ key ++ codes ": " ++ value)
+    × IsTrue (is_token key) × (is_own key ≡ false) × (line ≡ key ++ codes ": " ++ value)
 
 abbrev pub AreHeaders : Items → List (List ℕ) → Type 0
 AreHeaders no_items [] = IsTrue true
@@ -150,16 +155,16 @@ IsWebFields j m is_json n all =
 
 -- ---- plans
 
--- the address, and the place there
-abbrev pub IsPlaceAt : Option (List ℕ) → List ℕ → List ℕ → Type 0
-IsPlaceAt None authority target = ⊥
-IsPlaceAt (Some text) authority target = IsAddress text authority target
-
 -- what is asked of Prometheus
 pub record IsPrometheus (j : Json) (p : Provider) : Type 0 where
-  pub place : (target : List ℕ) × IsPlaceAt (text_at (codes "address") j) p.authority.items target
-      × (query : List ℕ) × (text_at (codes "query") j ≡ Some query) × IsQueryLine target query p.first
-  pub host : p.host ≡ codes "Host: " ++ p.authority.items
+  pub authority : List ℕ
+  pub target : List ℕ
+  pub query : List ℕ
+  pub place : text_at (codes "address") j ≡ Some p.address
+  pub parts : IsAddress p.address authority target
+  pub asked : text_at (codes "query") j ≡ Some query
+  pub first : IsQueryLine target query p.first
+  pub host : p.host ≡ codes "Host: " ++ authority
   pub fields : HasFields j p.fields.items
   pub body : p.body.items ≡ []
   pub answer : p.answer ≡ Prometheus
@@ -185,12 +190,15 @@ IsPathAt (Some j) (Web path) =
 
 -- what is asked of a service that answers in JSON
 pub record IsWeb (j : Json) (p : Provider) : Type 0 where
+  pub authority : List ℕ
+  pub target : List ℕ
   pub method : Method
-  pub named : IsMethod (given_at (codes "method") j) method
-  pub place : (target : List ℕ) × IsPlaceAt (text_at (codes "url") j) p.authority.items target
-      × (p.first ≡ web_line method target)
-  pub host : p.host ≡ codes "Host: " ++ p.authority.items
   pub is_json : Bool
+  pub place : text_at (codes "url") j ≡ Some p.address
+  pub parts : IsAddress p.address authority target
+  pub named : IsMethod (given_at (codes "method") j) method
+  pub first : p.first ≡ web_line method target
+  pub host : p.host ≡ codes "Host: " ++ authority
   pub body : IsBody (given_at (codes "body") j) (given_at (codes "jsonBody") j) p.body.items is_json
   pub fields : IsWebFields j method is_json (length p.body.items) p.fields.items
   pub answer : IsPathAt (given_at (codes "jsonPath") j) p.answer

@@ -5,7 +5,7 @@ ghost use Rattle.std.specs.List.{list_all, list_any, before_first};
 ghost use Rattle.std.specs.Str.{str_eq_ignore_ascii_case};
 ghost use Rattle.json.specs.Value.{value_view, items_view};
 ghost use Rattle.canary_provider.specs.Plans.{given_at, IsHeader, AreHeaders, AreHeadersAt};
-ghost use Rattle.canary_provider.specs.Plans.{is_token, is_token_byte, is_token_mark, name_of};
+ghost use Rattle.canary_provider.specs.Plans.{is_token, is_token_byte, is_token_mark, is_own, name_of};
 ghost use Rattle.canary_provider.specs.Plans.{has_name, with_own, HasFields, with_length};
 
 use crate::line::Line;
@@ -151,6 +151,7 @@ fn header_of(alloc: Global, value: &Value<'_>) -> Result<Line, Stop>
 
 fn header(alloc: Global, key: &[u8], text: &[u8]) -> Result<Line, Stop>
     ensures name { OnOk result (IsTrue (is_token key.now)) }
+    ensures own { OnOk result (is_own key.now ≡ false) }
     ensures line { IfOk result (λ line. line ≡ key.now ++ codes ": " ++ text.now) }
 {
     if !is_token(key) {
@@ -162,13 +163,16 @@ fn header(alloc: Global, key: &[u8], text: &[u8]) -> Result<Line, Stop>
     line_of(alloc, key, b": ", text)
 }
 
-fn is_own(name: &[u8]) -> bool {
-    for own in OWN {
-        if own.as_bytes().eq_ignore_ascii_case(name) {
-            return true;
-        }
-    }
-    false
+fn is_own(name: &[u8]) -> bool
+    ensures { result ≡ is_own name.now }
+{
+    OWN.iter().any(|own| is_same_name(own.as_bytes(), name))
+}
+
+fn is_same_name(one: &[u8], other: &[u8]) -> bool
+    ensures { result ≡ str_eq_ignore_ascii_case one.now other.now }
+{
+    one.eq_ignore_ascii_case(other)
 }
 
 // Whether it is a token (RFC 9110, section 5.6.2).
@@ -217,7 +221,7 @@ fn has_name(fields: &[Line], own: &[u8]) -> bool
 fn is_named_as(line: &[u8], own: &[u8]) -> bool
     ensures { result ≡ has_name own.now line.now }
 {
-    name_of(line).eq_ignore_ascii_case(name_of(own))
+    is_same_name(name_of(line), name_of(own))
 }
 
 // What stands before the first colon.

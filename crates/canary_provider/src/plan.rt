@@ -5,7 +5,7 @@ ghost use Rattle.json.specs.Tree.{HasNumbers};
 ghost use Rattle.json.specs.Value.{value_view};
 ghost use Rattle.canary_provider.specs.Answers.{text_at};
 ghost use Rattle.canary_provider.specs.Plans.{IsPlan, IsAsked, IsPrometheus, IsWeb, IsMethod};
-ghost use Rattle.canary_provider.specs.Plans.{IsPathAt, IsPlaceAt, IsPlanAt, IsWebFields};
+ghost use Rattle.canary_provider.specs.Plans.{IsPathAt, IsAddress, IsPlanAt, IsWebFields};
 ghost use Rattle.canary_provider.specs.Plans.{given_at, method_text};
 
 use crate::body::body_of;
@@ -17,6 +17,7 @@ use crate::stop::Stop;
 use crate::target::{Method, Place, host_line, place_of, query_line, web_line};
 use crate::values::text_at;
 use canary_base::error::Memory;
+use canary_base::lists::Text;
 use json::{Error, Scratch, Value};
 use std::alloc::Global;
 
@@ -32,8 +33,8 @@ pub enum Answer {
 /// What a provider is asked. It may have a secret: print nothing of it.
 #[derive(Drop)]
 pub struct Provider {
-    /// Where it is: `HOST` or `HOST:PORT`.
-    pub authority: Vec<u8>,
+    /// Its address, as it stands in the plan.
+    pub address: Text,
     /// The first line of the message, the field `Host`, and the other fields.
     pub first: Line,
     pub host: Line,
@@ -125,7 +126,7 @@ fn prometheus(alloc: Global, value: &Value<'_>) -> Result<Provider, Stop>
     let host = host_line(alloc, place)?;
     let fields = fields_of(alloc, value)?;
     Ok(Provider {
-        authority: Vec::from_slice(alloc, place.authority)?,
+        address: Text::of(String::from_str(alloc, place.address)?),
         first,
         host,
         fields,
@@ -169,7 +170,7 @@ fn web(alloc: Global, value: &Value<'_>) -> Result<Provider, Stop>
     let host = host_line(alloc, place)?;
     let fields = web_fields(alloc, value, method, body.is_json, body.bytes.len())?;
     Ok(Provider {
-        authority: Vec::from_slice(alloc, place.authority)?,
+        address: Text::of(String::from_str(alloc, place.address)?),
         first,
         host,
         fields,
@@ -248,8 +249,10 @@ fn path_of(alloc: Global, value: &Value<'_>) -> Result<Answer, Stop>
 
 // The place at the address under that key.
 fn place_at<'a>(value: &Value<'a>, key: &str) -> Result<Place<'a>, Refusal>
-    ensures { IfOk result (λ place. IsPlaceAt (text_at key.now (value_view value.now))
-        place.authority.now place.target.now) }
+    ensures address { IfOk result
+        (λ place. text_at key.now (value_view value.now) ≡ Some place.address.now) }
+    ensures parts { IfOk result
+        (λ place. IsAddress place.address.now place.authority.now place.target.now) }
 {
     match text_at(value, key) {
         Some(text) => place_of(text),

@@ -4,8 +4,8 @@
 //! address := "http://" authority target
 //! ```
 //!
-//! An authority is `HOST` or `HOST:PORT`; a target is empty, or a path and a query. A user's name
-//! and a fragment are refused, as is any byte that is to be percent-encoded.
+//! An authority is `HOST` or `HOST:PORT`; a target is empty, or a path, which may have a query. A
+//! user's name and a fragment are refused, as is any byte that is to be percent-encoded.
 ghost use Rattle.std.specs.Prelude.{◌≡◌, ◌≤◌, ◌++◌, [], length, codes, IfOk, IsTrue};
 ghost use Rattle.std.specs.Prelude.{string_bytes};
 ghost use Rattle.std.specs.List.{list_all};
@@ -38,6 +38,8 @@ const VERSION: &str = " HTTP/1.1";
 /// Where a provider is, and what is asked there.
 #[derive(Clone, Copy)]
 pub(crate) struct Place<'t> {
+    /// The address, as it stands in the plan.
+    pub(crate) address: &'t str,
     pub(crate) authority: &'t [u8],
     pub(crate) target: &'t [u8],
 }
@@ -64,7 +66,9 @@ impl Method {
 
 /// The place at an address.
 pub(crate) fn place_of(text: &str) -> Result<Place<'_>, Refusal>
-    ensures { IfOk result (λ place. IsAddress text.now place.authority.now place.target.now) }
+    ensures address { IfOk result (λ place. place.address.now ≡ text.now) }
+    ensures parts { IfOk result
+        (λ place. IsAddress text.now place.authority.now place.target.now) }
 {
     if text.starts_with("https:") {
         return Err(Refusal::Https);
@@ -75,7 +79,11 @@ pub(crate) fn place_of(text: &str) -> Result<Place<'_>, Refusal>
     let rest = rest.as_bytes();
     let (authority, target) = rest.split_at(authority_len(rest));
     if is_authority(authority) && is_target(target) {
-        Ok(Place { authority, target })
+        Ok(Place {
+            address: text,
+            authority,
+            target,
+        })
     } else {
         Err(Refusal::Address)
     }
@@ -119,7 +127,7 @@ fn begins_target(bytes: &[u8]) -> bool
 {
     match bytes {
         [] => true,
-        [first, ..] => *first == b'/' || *first == b'?',
+        [first, ..] => *first == b'/',
     }
 }
 
@@ -198,21 +206,16 @@ pub(crate) fn web_line(alloc: Global, method: Method, place: Place<'_>) -> Resul
     ensures { IfOk result (λ line. line ≡ web_line method place.target.now) }
 {
     let front = joined(alloc, method.text().as_bytes(), b" ")?;
-    let target = joined(alloc, slash_before(place.target), place.target)?;
-    line_of(
-        alloc,
-        front.as_slice(),
-        target.as_slice(),
-        VERSION.as_bytes(),
-    )
+    let target = web_target(place.target);
+    line_of(alloc, front.as_slice(), target, VERSION.as_bytes())
 }
 
-// The slash that a target without one begins with.
-fn slash_before(target: &[u8]) -> &'static [u8]
-    ensures { result.now ++ target.now ≡ web_target target.now }
+// A target, which is a slash where the address has none.
+fn web_target(target: &[u8]) -> &[u8]
+    ensures { result.now ≡ web_target target.now }
 {
     match target {
-        [b'/', ..] => &[],
-        _ => b"/",
+        [] => b"/",
+        target => target,
     }
 }
