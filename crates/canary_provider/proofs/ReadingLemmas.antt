@@ -1,7 +1,7 @@
 -- A message is read in one way.
-use Rattle.std.proofs.Common.{◌≡◌, ◌&&◌, ◌<◌, ℕ, Bool, true, false, List, [], ◌∷◌, ◌++◌, get_or, drop, refl, sym, ap, ap₂, ◌∙◌, append_assoc, true≢false, arith}
+use Rattle.std.proofs.Common.{◌≡◌, ◌&&◌, ◌<◌, ℕ, Bool, true, false, List, [], ◌∷◌, ◌++◌, length, get_or, drop, refl, sym, ap, ap₂, ◌∙◌, append_assoc, true≢false, arith}
 use Rattle.std.specs.List.{list_all}
-use Rattle.std.specs.Prelude.{flat_map}
+use Rattle.std.specs.Prelude.{flat_map, nat_lt}
 use Rattle.canary_provider.specs.Lines.{is_line, is_line_byte}
 use Rattle.canary_provider.specs.Messages.{ended, message, OneReading}
 
@@ -21,11 +21,10 @@ cut (c ∷ a) (d ∷ b) x y p q e =
 -- a line is not empty, and does not begin with its end
 not_ended : (line x y : List ℕ) → is_line line ≡ true → 13 ∷ x ≡ line ++ y → ⊥
 not_ended [] x y p e = true≢false (sym p)
-not_ended (c ∷ line) x y p e = true≢false (sym (parts (is_line_byte c) (list_all is_line_byte line) p).0 ∙ sym (ap (λ (t : List ℕ). is_line_byte (get_or t 0 0)) e))
+not_ended (c ∷ line) x y p e = true≢false (sym (parts (is_line_byte c) (list_all is_line_byte line) (parts (nat_lt 0 (length (c ∷ line))) (list_all is_line_byte (c ∷ line)) p).1).0 ∙ sym (ap (λ (t : List ℕ). is_line_byte (get_or t 0 0)) e))
 
 line_bytes : (line : List ℕ) → is_line line ≡ true → list_all is_line_byte line ≡ true
-line_bytes [] p = refl
-line_bytes (c ∷ line) p = p
+line_bytes line p = (parts (nat_lt 0 (length line)) (list_all is_line_byte line) p).1
 
 -- a message after its first line
 first_line : (line : List ℕ) (lines : List (List ℕ)) (body : List ℕ) → message (line ∷ lines) body ≡ line ++ 13 ∷ 10 ∷ message lines body

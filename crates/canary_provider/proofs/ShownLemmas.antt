@@ -10,6 +10,6 @@ use Rattle.canary_provider.specs.Texts.{IsShown}
 pub both_shown : (a b : List ℕ) → IsShown a → IsShown b → IsShown (a ++ b)
 both_shown a b p q = (
   p.0 ++ q.0,
-  ap₂ (λ x y. x ++ y) p.1.0 q.1.0 ∙ sym (encodes-append p.0 q.0),
-  list_all-append is_plain p.0 q.0 ∙ ap₂ (λ x y. x && y) p.1.1 q.1.1,
+  ap₂ (λ x y. x ++ y) p.1 q.1 ∙ sym (encodes-append p.0 q.0),
+  list_all-append is_plain p.0 q.0 ∙ ap₂ (λ x y. x && y) p.2 q.2,
 )

@@ -1,15 +1,14 @@
 -- What a plan asks of a provider.
-use Rattle.std.specs.Prelude.{◌≡◌, ℕ, ◌<◌, Bool, true, false, not, ◌&&◌, ◌||◌, ◌==◌, nat_le, nat_lt, if◌then◌else◌, IsTrue, Option, Some, None, option_and_then, List, [], ◌∷◌, ◌++◌, length, codes, decimal, ◌⊎◌, All}
-use Rattle.std.specs.Borrow.{Bor}
+use Rattle.std.specs.Prelude.{◌≡◌, ℕ, ◌<◌, Bool, true, false, not, ◌&&◌, ◌||◌, ◌==◌, nat_le, nat_lt, if◌then◌else◌, IsTrue, Option, Some, None, option_and_then, List, [], ◌∷◌, ◌++◌, length, take, position, unwrap_or, codes, decimal, ◌⊎◌, All}
 use Rattle.std.specs.Char.{is_ascii_alphanumeric}
-use Rattle.std.specs.List.{list_all, list_any, before_first}
+use Rattle.std.specs.List.{list_all, list_any}
 use Rattle.std.specs.Str.{str_eq_ignore_ascii_case}
 use Rattle.json.specs.Json.{Json, Items, no_items, item, document}
 use Rattle.json.specs.Find.{get, is_null, as_str, as_array}
 use Rattle.json.specs.Print.{print}
 use Rattle.json.specs.Tree.{json_tokens}
 use Rattle.percent_encoding.specs.Percent.{percent_encode, percent_decode}
-use Rattle.canary_provider.specs.declared.fields.TheConstants.{OWN, USER_AGENT, ACCEPT, ENCODING, CONNECTION, CONTENT_TYPE, LENGTH}
+use Rattle.canary_provider.specs.declared.fields.TheConstants.{USER_AGENT, ACCEPT, ENCODING, CONNECTION, CONTENT_TYPE, LENGTH}
 use Rattle.canary_provider.specs.declared.target.TheConstants.{QUERY, API, VERSION}
 use Rattle.canary_provider.specs.declared.target.Method.{Method}
 use Rattle.canary_provider.specs.declared.target.Method.TheVariants as method
@@ -91,9 +90,19 @@ is_token_byte byte = is_ascii_alphanumeric byte || is_token_mark byte
 abbrev pub is_token : List ℕ → Bool
 is_token bytes = nat_lt 0 (length bytes) && list_all is_token_byte bytes
 
--- a name of a field that each message has, or may not have
+-- a name of a field that a plan may not have
 abbrev pub is_own : List ℕ → Bool
-is_own name = list_any (λ (own : Bor (List ℕ)). str_eq_ignore_ascii_case own.now name) OWN
+is_own name =
+    str_eq_ignore_ascii_case (codes "Host") name
+    || str_eq_ignore_ascii_case (codes "Connection") name
+    || str_eq_ignore_ascii_case (codes "Content-Length") name
+    || str_eq_ignore_ascii_case (codes "Transfer-Encoding") name
+    || str_eq_ignore_ascii_case (codes "Accept-Encoding") name
+    || str_eq_ignore_ascii_case (codes "Keep-Alive") name
+    || str_eq_ignore_ascii_case (codes "Expect") name
+    || str_eq_ignore_ascii_case (codes "TE") name
+    || str_eq_ignore_ascii_case (codes "Trailer") name
+    || str_eq_ignore_ascii_case (codes "Upgrade") name
 
 -- the field that an object with `key` and `value` asks for
 abbrev pub IsHeader : Json → List ℕ → Type 0
@@ -118,7 +127,7 @@ AreHeadersAt (Some j) lines = AreHeadersIn (as_array j) lines
 
 -- what stands before the first colon
 abbrev pub name_of : List ℕ → List ℕ
-name_of line = before_first (λ byte. byte == 58) line
+name_of line = take (unwrap_or (position (λ byte. byte == 58) line) (length line)) line
 
 abbrev pub has_name : List ℕ → List ℕ → Bool
 has_name own line = str_eq_ignore_ascii_case (name_of line) (name_of own)

@@ -1,12 +1,12 @@
 //! The fields of a message's head: those of the plan, and the agent's own.
 ghost use Rattle.std.specs.Prelude.{◌≡◌, ◌≤◌, ◌++◌, [], ◌∷◌, length, decimal, codes, IfOk, OnOk};
-ghost use Rattle.std.specs.Prelude.{IsTrue};
-ghost use Rattle.std.specs.List.{list_all, list_any, before_first};
+ghost use Rattle.std.specs.Prelude.{IsTrue, false, option_map};
+ghost use Rattle.std.specs.List.{list_all, list_any};
 ghost use Rattle.std.specs.Str.{str_eq_ignore_ascii_case};
 ghost use Rattle.json.specs.Value.{value_view, items_view};
 ghost use Rattle.canary_provider.specs.Plans.{given_at, IsHeader, AreHeaders, AreHeadersAt};
 ghost use Rattle.canary_provider.specs.Plans.{is_token, is_token_byte, is_token_mark, is_own, name_of};
-ghost use Rattle.canary_provider.specs.Plans.{has_name, with_own, HasFields, with_length};
+ghost use Rattle.canary_provider.specs.Plans.{has_name, with_own, with_type, with_length, HasFields};
 
 use crate::line::Line;
 use crate::refusal::Refusal;
@@ -28,20 +28,6 @@ const CONNECTION: &str = "Connection: close";
 const CONTENT_TYPE: &str = "Content-Type: application/json";
 
 const LENGTH: &str = "Content-Length: ";
-
-// The names of fields that a plan may not have.
-const OWN: [&str; 10] = [
-    "Host",
-    "Connection",
-    "Content-Length",
-    "Transfer-Encoding",
-    "Accept-Encoding",
-    "Expect",
-    "Keep-Alive",
-    "TE",
-    "Trailer",
-    "Upgrade",
-];
 
 /// The member of that key, if it is there and not null.
 pub(crate) fn given_at<'v, 'a>(value: &'v Value<'a>, key: &str) -> Option<&'v Value<'a>>
@@ -163,10 +149,20 @@ fn header(alloc: Global, key: &[u8], text: &[u8]) -> Result<Line, Stop>
     line_of(alloc, key, b": ", text)
 }
 
+// Whether a plan may not have a field of that name.
 fn is_own(name: &[u8]) -> bool
     ensures { result ≡ is_own name.now }
 {
-    OWN.iter().any(|own| is_same_name(own.as_bytes(), name))
+    is_same_name(b"Host", name)
+        || is_same_name(b"Connection", name)
+        || is_same_name(b"Content-Length", name)
+        || is_same_name(b"Transfer-Encoding", name)
+        || is_same_name(b"Accept-Encoding", name)
+        || is_same_name(b"Keep-Alive", name)
+        || is_same_name(b"Expect", name)
+        || is_same_name(b"TE", name)
+        || is_same_name(b"Trailer", name)
+        || is_same_name(b"Upgrade", name)
 }
 
 fn is_same_name(one: &[u8], other: &[u8]) -> bool
@@ -179,7 +175,13 @@ fn is_same_name(one: &[u8], other: &[u8]) -> bool
 fn is_token(bytes: &[u8]) -> bool
     ensures { result ≡ is_token bytes.now }
 {
-    !bytes.is_empty() && bytes.iter().all(|byte| is_token_byte(*byte))
+    !bytes.is_empty() && are_token_bytes(bytes)
+}
+
+fn are_token_bytes(bytes: &[u8]) -> bool
+    ensures { result ≡ list_all is_token_byte bytes.now }
+{
+    bytes.iter().all(|byte| is_token_byte(*byte))
 }
 
 fn is_token_byte(byte: u8) -> bool

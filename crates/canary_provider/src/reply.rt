@@ -136,9 +136,9 @@ fn told_of(
     outcome: Result<Measured, Fault<'_>>,
     body: &[u8],
 ) -> Result<Result<Measured, FailureText>, Memory>
-    ensures sound { IfOk result (λ told. IfOk told (λ m. outcome ≡ Ok m)) }
+    ensures sound { IfOk result (λ told. IfOk told (λ m. outcome.entry ≡ Ok m)) }
     ensures fault { IfOk result (λ told. OnErr told
-        ((fault : Fault) × (outcome ≡ Err fault) × (is_memory fault ≡ false))) }
+        ((fault : Fault) × (outcome.entry ≡ Err fault) × (is_memory fault ≡ false))) }
     ensures shown { IfOk result (λ told. IfErr told (λ text. IsShown text)) }
 {
     match outcome {

@@ -101,7 +101,13 @@ fn authority_len(text: &[u8]) -> usize
 fn is_authority(bytes: &[u8]) -> bool
     ensures { result ≡ is_authority bytes.now }
 {
-    !bytes.is_empty() && bytes.iter().all(|byte| is_authority_byte(*byte))
+    !bytes.is_empty() && are_authority_bytes(bytes)
+}
+
+fn are_authority_bytes(bytes: &[u8]) -> bool
+    ensures { result ≡ list_all is_authority_byte bytes.now }
+{
+    bytes.iter().all(|byte| is_authority_byte(*byte))
 }
 
 fn is_authority_byte(byte: u8) -> bool
@@ -119,7 +125,13 @@ fn is_authority_byte(byte: u8) -> bool
 fn is_target(bytes: &[u8]) -> bool
     ensures { result ≡ is_target bytes.now }
 {
-    begins_target(bytes) && bytes.iter().all(|byte| is_target_byte(*byte))
+    begins_target(bytes) && are_target_bytes(bytes)
+}
+
+fn are_target_bytes(bytes: &[u8]) -> bool
+    ensures { result ≡ list_all is_target_byte bytes.now }
+{
+    bytes.iter().all(|byte| is_target_byte(*byte))
 }
 
 fn begins_target(bytes: &[u8]) -> bool
@@ -149,14 +161,14 @@ fn line_of(alloc: Global, first: &[u8], second: &[u8], third: &[u8]) -> Result<L
 
 /// The field `Host`.
 pub(crate) fn host_line(alloc: Global, place: Place<'_>) -> Result<Line, Stop>
-    ensures { IfOk result (λ line. line ≡ codes "Host: " ++ place.authority.now) }
+    ensures { IfOk result (λ line. line ≡ codes "Host: " ++ place.entry.authority.now) }
 {
     line_of(alloc, b"Host: ", place.authority, &[])
 }
 
 /// The first line of a query of Prometheus at one moment.
 pub(crate) fn query_line(alloc: Global, place: Place<'_>, query: &str) -> Result<Line, Stop>
-    ensures { IfOk result (IsQueryLine place.target.now query.now) }
+    ensures { IfOk result (IsQueryLine place.entry.target.now query.now) }
 {
     if place.target.contains(&b'?') {
         return Err(Stop::Refused(Refusal::Address));
@@ -203,7 +215,7 @@ fn base_of(target: &[u8]) -> &[u8]
 
 /// The first line of a message to a service.
 pub(crate) fn web_line(alloc: Global, method: Method, place: Place<'_>) -> Result<Line, Stop>
-    ensures { IfOk result (λ line. line ≡ web_line method place.target.now) }
+    ensures { IfOk result (λ line. line ≡ web_line method place.entry.target.now) }
 {
     let front = joined(alloc, method.text().as_bytes(), b" ")?;
     let target = web_target(place.target);
