@@ -125,9 +125,12 @@ abbrev pub AreHeadersAt : Option Json → List (List ℕ) → Type 0
 AreHeadersAt None lines = lines ≡ []
 AreHeadersAt (Some j) lines = AreHeadersIn (as_array j) lines
 
+abbrev pub is_colon : ℕ → Bool
+is_colon byte = byte == 58
+
 -- what stands before the first colon
 abbrev pub name_of : List ℕ → List ℕ
-name_of line = take (unwrap_or (position (λ byte. byte == 58) line) (length line)) line
+name_of line = take (unwrap_or (position is_colon line) (length line)) line
 
 abbrev pub has_name : List ℕ → List ℕ → Bool
 has_name own line = str_eq_ignore_ascii_case (name_of line) (name_of own)

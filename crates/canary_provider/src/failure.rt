@@ -143,7 +143,6 @@ fn put(alloc: Global, words: &mut ArrayString<MOST>, part: &str) -> Result<(), M
 }
 
 // Appends a character, if there is room.
-#[tactic(auto, using(crate::proofs::ShownLemmas::both_shown))]
 fn put_one(alloc: Global, words: &mut ArrayString<MOST>, character: char) -> Result<bool, Memory>
     requires { IsShown words.old.bytes }
     ensures { OnOk result (IsShown words.new.bytes) }
@@ -151,7 +150,20 @@ fn put_one(alloc: Global, words: &mut ArrayString<MOST>, character: char) -> Res
     let mut one = String::new(alloc);
     one.push(character)?;
     let one = shown_one(alloc, one.as_str())?;
-    Ok(words.try_push_str(one.as_str()).is_ok())
+    Ok(put_shown(words, one.as_str()))
+}
+
+// Appends a text, if there is room for it. Whether there was.
+fn put_shown(words: &mut ArrayString<MOST>, text: &str) -> bool
+    requires before { IsShown words.old.bytes }
+    requires text { IsShown text.now }
+    ensures { IsShown words.new.bytes }
+{
+    if text.len() > words.remaining_capacity() {
+        return false;
+    }
+    words.push_str(text);
+    true
 }
 
 // A text as a terminal shows it.

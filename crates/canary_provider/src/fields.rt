@@ -1,12 +1,12 @@
 //! The fields of a message's head: those of the plan, and the agent's own.
 ghost use Rattle.std.specs.Prelude.{◌≡◌, ◌≤◌, ◌++◌, [], ◌∷◌, length, decimal, codes, IfOk, OnOk};
-ghost use Rattle.std.specs.Prelude.{IsTrue, false, option_map};
+ghost use Rattle.std.specs.Prelude.{IsTrue, IfSome, false, option_map, unwrap_or, position};
 ghost use Rattle.std.specs.List.{list_all, list_any};
 ghost use Rattle.std.specs.Str.{str_eq_ignore_ascii_case};
 ghost use Rattle.json.specs.Value.{value_view, items_view};
 ghost use Rattle.canary_provider.specs.Plans.{given_at, IsHeader, AreHeaders, AreHeadersAt};
-ghost use Rattle.canary_provider.specs.Plans.{is_token, is_token_byte, is_token_mark, is_own, name_of};
-ghost use Rattle.canary_provider.specs.Plans.{has_name, with_own, with_type, with_length, HasFields};
+ghost use Rattle.canary_provider.specs.Plans.{is_token, is_token_byte, is_token_mark, is_own, is_colon};
+ghost use Rattle.canary_provider.specs.Plans.{name_of, has_name, with_own, with_type, with_length, HasFields};
 
 use crate::line::Line;
 use crate::refusal::Refusal;
@@ -40,6 +40,7 @@ pub(crate) fn given_at<'v, 'a>(value: &'v Value<'a>, key: &str) -> Option<&'v Va
 }
 
 /// The fields that a plan has, and those that each message has besides.
+#[tactic(auto, unfolding(crate::specs::Plans::with_all_own))]
 pub(crate) fn fields_of(alloc: Global, value: &Value<'_>) -> Result<Vec<Line>, Stop>
     ensures { IfOk result (λ fields. HasFields (value_view value.now) fields.items) }
 {
@@ -230,9 +231,20 @@ fn is_named_as(line: &[u8], own: &[u8]) -> bool
 fn name_of(line: &[u8]) -> &[u8]
     ensures { result.now ≡ name_of line.now }
 {
-    let end = line
-        .iter()
-        .position(|byte| *byte == b':')
-        .unwrap_or(line.len());
-    &line[..end]
+    &line[..name_len(line)]
+}
+
+fn name_len(line: &[u8]) -> usize
+    ensures value { result ≡ unwrap_or (position is_colon line.now) (length line.now) }
+    ensures within { result ≤ length line.now }
+{
+    colon(line).unwrap_or(line.len())
+}
+
+// The place of the first colon.
+fn colon(line: &[u8]) -> Option<usize>
+    ensures place { result ≡ position is_colon line.now }
+    ensures within { IfSome result (λ place. place ≤ length line.now) }
+{
+    line.iter().position(|byte| *byte == b':')
 }
