@@ -2,3 +2,4 @@ mod ShownLemmas
 mod ReadingLemmas
 mod ValueLemmas
 mod QueryLemmas
+mod NumberLemmas

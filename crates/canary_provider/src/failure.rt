@@ -1,5 +1,6 @@
 //! Why a reply has no measurement, in words.
-ghost use Rattle.std.specs.Prelude.{◌≡◌, Bool, IfOk, OnOk};
+ghost use Rattle.std.specs.Prelude.{◌≡◌, false, IfOk, OnOk};
+ghost use Rattle.canary_provider.specs.Answers.{is_memory};
 ghost use Rattle.canary_provider.specs.Texts.{IsShown};
 
 use arrayvec::ArrayString;
@@ -61,7 +62,8 @@ impl<T: Drop> From<AllocFailed<T>> for Fault<'_> {
 
 /// The text of a fault, with how the body begins; or `Memory`.
 pub(crate) fn text_of(alloc: Global, fault: Fault<'_>, body: &[u8]) -> Result<FailureText, Memory>
-    ensures { IfOk result (λ text. IsShown text) }
+    ensures shown { IfOk result (λ text. IsShown text) }
+    ensures fault { OnOk result (is_memory fault.entry ≡ false) }
 {
     match fault {
         Fault::Memory => Err(Memory),
