@@ -1,7 +1,5 @@
 -- Texts without marks, one after another.
-use Rattle.std.proofs.Common.{◌≡◌, ◌&&◌, true, ℕ, List, ◌++◌, sym, ap, ap₂, ◌∙◌}
-use Rattle.std.specs.Prelude.{encode_utf8_all}
-use Rattle.std.specs.List.{list_all}
+use Rattle.std.proofs.Common.{◌&&◌, ℕ, List, ◌++◌, sym, ap₂, ◌∙◌}
 use Rattle.std.proofs.lemmas.List.Folds.{list_all-append}
 use Rattle.std.proofs.lemmas.Str.{encodes-append}
 use Rattle.canary_markup.specs.Showing.{is_plain}

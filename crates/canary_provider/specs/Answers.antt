@@ -1,8 +1,7 @@
 -- What a reply says was measured.
-use Rattle.std.specs.Prelude.{◌≡◌, ℕ, ◌≤◌, Bool, true, false, not, ◌&&◌, nat_le, IsTrue, Option, Some, None, option_and_then, List, [], ◌∷◌, codes, ◌⊎◌}
+use Rattle.std.specs.Prelude.{◌≡◌, ℕ, Bool, true, false, ◌&&◌, nat_le, IsTrue, Option, Some, None, option_and_then, List, [], ◌∷◌, codes, ◌⊎◌}
 use Rattle.std.specs.Str.{IsUtf8}
-use Rattle.json.specs.Json.{Json, array, Items, no_items, item, document}
-use Rattle.json.specs.Json as json
+use Rattle.json.specs.Json.{Json, Items, no_items, item, document}
 use Rattle.json.specs.Find.{get, at, is_null, as_str, as_number, as_array}
 use Rattle.canary_decimal.specs.declared.reading.Reading.{Reading}
 use Rattle.canary_decimal.specs.Spelling.{ReadsAs}
@@ -12,7 +11,6 @@ use Rattle.canary_measure.specs.declared.measured.Measured.{Measured}
 use Rattle.canary_measure.specs.declared.measured.Measured.TheVariants.{One, Several}
 use Rattle.canary_provider.specs.declared.values.Kind.{Kind}
 use Rattle.canary_provider.specs.declared.values.Kind.TheVariants.{Plain, Sample}
-use Rattle.canary_provider.specs.declared.path.Step.{Step}
 use Rattle.canary_provider.specs.declared.plan.Answer.{Answer}
 use Rattle.canary_provider.specs.declared.plan.Answer.TheVariants.{Prometheus, Web}
 use Rattle.canary_provider.specs.declared.failure.Fault.{Fault}

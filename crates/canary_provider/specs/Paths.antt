@@ -1,5 +1,5 @@
 -- Paths into a value of JSON.
-use Rattle.std.specs.Prelude.{◌≡◌, ℕ, Bool, not, ◌||◌, nat_le, ◌==◌, true, Option, Some, option_and_then, List, [], ◌∷◌, ◌++◌, flat_map, decimal, ◌⊎◌}
+use Rattle.std.specs.Prelude.{◌≡◌, ℕ, Option, Some, option_and_then, List, [], ◌∷◌, ◌++◌, flat_map, decimal, ◌⊎◌}
 use Rattle.json.specs.Json.{Json}
 use Rattle.json.specs.Find.{get, at}
 use Rattle.canary_provider.specs.declared.path.Step.{Step}

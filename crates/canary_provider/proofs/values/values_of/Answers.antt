@@ -1,9 +1,9 @@
 use Rattle.std.proofs.Common.{◌≡◌, ◌+◌, List, ◌++◌, drop, rules, sym, ap, ◌∙◌, subst}
 use Rattle.std.proofs.lemmas.List.{at_drop_more, drop_all}
-use Rattle.json.specs.Json.{item, no_items}
+use Rattle.json.specs.Json.{item}
 use Rattle.json.specs.Value.{value_view, items_view}
 use Rattle.canary_measure.specs.declared.measured.Given.{Given}
-use Rattle.canary_provider.specs.Answers.{IsValue, AreValues, Refutes}
+use Rattle.canary_provider.specs.Answers.{AreValues, Refutes}
 use Rattle.canary_provider.proofs.ValueLemmas.{one_more, first_has, refuted, all_are}
 use Rattle.canary_provider.proofs.values.values_of.Goals as goal
 
