@@ -1,0 +1,5 @@
+mod ShownLemmas
+mod ReadingLemmas
+mod ValueLemmas
+mod QueryLemmas
+mod NumberLemmas

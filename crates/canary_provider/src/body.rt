@@ -1,0 +1,82 @@
+//! The body of a message.
+ghost use Rattle.std.specs.Prelude.{◌≡◌, [], Some, codes, false, true, IfOk, option_map, option_copied};
+ghost use Rattle.json.specs.Find.{as_str};
+ghost use Rattle.json.specs.Print.{print};
+ghost use Rattle.json.specs.Tree.{HasNumbers, json_tokens};
+ghost use Rattle.json.specs.Value.{value_view};
+ghost use Rattle.canary_provider.specs.Plans.{IsBody, given_at};
+
+use crate::fields::given_at;
+use crate::refusal::Refusal;
+use crate::stop::Stop;
+use crate::target::Method;
+use json::{Value, to_vec};
+use std::alloc::Global;
+
+/// The body of a message.
+#[derive(Drop)]
+pub(crate) struct Body {
+    pub(crate) bytes: Vec<u8>,
+    pub(crate) is_json: bool,
+}
+
+/// The body that a plan has: a text as it is, or JSON, or nothing.
+pub(crate) fn body_of(alloc: Global, value: &Value<'_>, method: Method) -> Result<Body, Stop>
+    requires { HasNumbers (value_view value.now) }
+    ensures { IfOk result (λ body. IsBody (given_at (codes "body") (value_view value.now))
+        (given_at (codes "jsonBody") (value_view value.now)) body.bytes.items body.is_json) }
+{
+    let json = given_at(value, "jsonBody");
+    match given_at(value, "body") {
+        Some(text) if json.is_none() => text_body(alloc, text, method),
+        Some(_) => Err(Stop::Refused(Refusal::TwoBodies)),
+        None => match json {
+            Some(json) => json_body(alloc, json, method),
+            None => Ok(nothing(alloc)),
+        },
+    }
+}
+
+fn nothing(alloc: Global) -> Body
+    ensures { (result.bytes.items ≡ []) × (result.is_json ≡ false) }
+{
+    Body {
+        bytes: Vec::new(alloc),
+        is_json: false,
+    }
+}
+
+fn text_body(alloc: Global, text: &Value<'_>, method: Method) -> Result<Body, Stop>
+    ensures { IfOk result (λ body. (as_str (value_view text.now) ≡ Some body.bytes.items)
+        × (body.is_json ≡ false)) }
+{
+    let Some(text) = text.as_str() else {
+        return Err(Stop::Refused(Refusal::Body));
+    };
+    take_body(method)?;
+    Ok(Body {
+        bytes: Vec::from_slice(alloc, text.as_bytes())?,
+        is_json: false,
+    })
+}
+
+fn json_body(alloc: Global, json: &Value<'_>, method: Method) -> Result<Body, Stop>
+    requires { HasNumbers (value_view json.now) }
+    ensures { IfOk result (λ body. (body.bytes.items ≡ print (json_tokens (value_view json.now)))
+        × (body.is_json ≡ true)) }
+{
+    take_body(method)?;
+    Ok(Body {
+        bytes: to_vec(alloc, json)?,
+        is_json: true,
+    })
+}
+
+// A GET has none.
+fn take_body(method: Method) -> Result<(), Refusal> {
+    if method == Method::Get {
+        Err(Refusal::BodyOfGet)
+    } else {
+        Ok(())
+    }
+}

@@ -1,0 +1,29 @@
+//! What a provider of measurements is asked, and what its reply says: Prometheus, and any service
+//! that answers in JSON.
+//!
+//! Callers may rest on this: what is measured is what the body of the reply says at the place that
+//! the plan names, and if nothing is measured, it says nothing there; a message has the lines that
+//! the plan asks for and no others; and no text that tells a failure has a character that a
+//! terminal takes for more than one.
+//!
+//! In use (canary_agent):
+//!
+//!     let provider = Provider::read(alloc, planned.kind.as_str(), planned.provider.as_str())?;
+//!     let message = message_of(alloc, &provider)?;
+//!     let told = measured_of(alloc, &provider.answer, reply.status, reply.body.as_slice())?;
+#![tactic(auto)]
+
+mod body;
+mod failure;
+mod fields;
+pub mod laws;
+pub mod line;
+pub mod message;
+pub mod path;
+pub mod plan;
+mod prometheus;
+pub mod refusal;
+pub mod reply;
+mod stop;
+mod target;
+mod values;

@@ -1,0 +1,81 @@
+//! The lines of a message's head.
+ghost use Rattle.std.specs.Prelude.{◌≡◌, ◌++◌, IsTrue, IfOk, IfSome};
+ghost use Rattle.std.specs.Option.{SomeIff};
+ghost use Rattle.std.specs.List.{list_all};
+ghost use Rattle.canary_provider.specs.Lines.{is_line, is_line_byte};
+
+use canary_base::error::Memory;
+use std::alloc::Global;
+use std::marker::Model;
+
+/// A line of a message's head, without its end. It has at least one byte, and no control but a tab.
+#[derive(Drop)]
+pub struct Line {
+    bytes: Vec<u8>,
+}
+
+impl Model for Line {
+    ghost use Rattle.std.specs.Prelude.{List, ℕ, IsTrue};
+    ghost use Rattle.canary_provider.specs.Lines.{is_line};
+
+    ghost Value = { List ℕ };
+
+    ghost view = { λ l. l.bytes.items };
+
+    ghost invariant = { λ l. IsTrue (is_line l.bytes.items) };
+}
+
+impl Line {
+    /// The line of these bytes; none if they are none.
+    pub fn of(bytes: Vec<u8>) -> Option<Line>
+        ensures { SomeIff result (IsTrue (is_line bytes.items)) bytes.items }
+    {
+        if is_line(bytes.as_slice()) {
+            Some(Line { bytes })
+        } else {
+            None
+        }
+    }
+
+    /// The line of these parts, one after another; none if they make none; or `Memory`.
+    pub fn of_parts(
+        alloc: Global,
+        first: &[u8],
+        second: &[u8],
+        third: &[u8],
+    ) -> Result<Option<Line>, Memory>
+        ensures { IfOk result (λ made. IfSome made
+            (λ line. line ≡ first.now ++ second.now ++ third.now)) }
+    {
+        let mut bytes = Vec::from_slice(alloc, first)?;
+        bytes.extend_from_slice(second)?;
+        bytes.extend_from_slice(third)?;
+        Ok(Line::of(bytes))
+    }
+
+    /// Its bytes.
+    pub fn as_bytes(&self) -> &[u8]
+        ensures value { result.now ≡ self.now }
+        ensures line { IsTrue (is_line result.now) }
+    {
+        self.bytes.as_slice()
+    }
+}
+
+fn is_line(bytes: &[u8]) -> bool
+    ensures { result ≡ is_line bytes.now }
+{
+    !bytes.is_empty() && are_line_bytes(bytes)
+}
+
+fn are_line_bytes(bytes: &[u8]) -> bool
+    ensures { result ≡ list_all is_line_byte bytes.now }
+{
+    bytes.iter().all(|byte| is_line_byte(*byte))
+}
+
+fn is_line_byte(byte: u8) -> bool
+    ensures { result ≡ is_line_byte byte }
+{
+    (32 <= byte && byte != 127) || byte == 9
+}

@@ -1,0 +1,316 @@
+//! What a provider is asked, by the plan.
+ghost use Rattle.std.specs.Prelude.{◌≡◌, Ok, Some, IfOk, codes};
+ghost use Rattle.json.specs.Find.{as_str};
+ghost use Rattle.json.specs.Tree.{HasNumbers};
+ghost use Rattle.json.specs.Value.{value_view};
+ghost use Rattle.canary_provider.specs.Answers.{text_at};
+ghost use Rattle.canary_provider.specs.Plans.{IsPlan, IsAsked, IsPrometheus, IsWeb, IsMethod};
+ghost use Rattle.canary_provider.specs.Plans.{IsPathAt, IsAddress, IsPlanAt, IsWebFields};
+ghost use Rattle.canary_provider.specs.Plans.{given_at, method_text};
+
+use crate::body::body_of;
+use crate::fields::{add_length, add_type, fields_of, given_at};
+use crate::line::Line;
+use crate::path::Path;
+use crate::refusal::Refusal;
+use crate::stop::Stop;
+use crate::target::{Method, Place, host_line, place_of, query_line, web_line};
+use crate::values::text_at;
+use canary_base::error::Memory;
+use canary_base::lists::Text;
+use json::{Error, Scratch, Value};
+use std::alloc::Global;
+
+/// How a reply is read.
+#[derive(Drop)]
+pub enum Answer {
+    /// As an answer of Prometheus.
+    Prometheus,
+    /// As JSON, by the value at this path.
+    Web(Path),
+}
+
+/// What a provider is asked. It may have a secret: print nothing of it.
+#[derive(Drop)]
+pub struct Provider {
+    /// Its address, as it stands in the plan.
+    pub address: Text,
+    /// The first line of the message, the field `Host`, and the other fields.
+    pub first: Line,
+    pub host: Line,
+    pub fields: Vec<Line>,
+    /// The body of the message.
+    pub body: Vec<u8>,
+    /// How the reply is read.
+    pub answer: Answer,
+    /// The most seconds of the exchange, if the plan has any.
+    pub seconds: Option<u64>,
+}
+
+const PROMETHEUS: [&str; 4] = ["address", "query", "timeout", "headers"];
+
+const WEB: [&str; 7] = [
+    "url",
+    "method",
+    "headers",
+    "body",
+    "jsonBody",
+    "timeoutSeconds",
+    "jsonPath",
+];
+
+impl Provider {
+    /// What a provider of that kind is asked, by the plan: a text of JSON, an object with the
+    /// provider. Or why it is not asked.
+    ///
+    /// # Errors
+    /// `Memory` if an allocation was refused.
+    pub fn read(alloc: Global, kind: &str, json: &str) -> Result<Result<Provider, Refusal>, Memory>
+        ensures { IfOk result (λ read. IfOk read (IsAsked kind.now json.now)) }
+    {
+        let mut scratch = Scratch::new(alloc);
+        match Value::parse(alloc, json, &mut scratch) {
+            Ok(value) => settled(provider_of(alloc, kind, &value)),
+            Err(Error::OutOfMemory) => Err(Memory),
+            Err(_) => Ok(Err(Refusal::Provider)),
+        }
+    }
+}
+
+fn settled(read: Result<Provider, Stop>) -> Result<Result<Provider, Refusal>, Memory>
+    ensures { IfOk result (λ told. IfOk told (λ p. read ≡ Ok p)) }
+{
+    match read {
+        Ok(provider) => Ok(Ok(provider)),
+        Err(Stop::Refused(refusal)) => Ok(Err(refusal)),
+        Err(Stop::Memory) => Err(Memory),
+    }
+}
+
+fn provider_of(alloc: Global, kind: &str, value: &Value<'_>) -> Result<Provider, Stop>
+    requires { HasNumbers (value_view value.now) }
+    ensures { IfOk result (λ p. IsPlanAt kind.now (given_at kind.now (value_view value.now)) p) }
+{
+    if kind != "prometheus" && kind != "web" {
+        return Err(Stop::Refused(Refusal::Kind));
+    }
+    match given_at(value, kind) {
+        Some(plan) => of_kind(alloc, kind, plan),
+        None => Err(Stop::Refused(Refusal::Provider)),
+    }
+}
+
+fn of_kind(alloc: Global, kind: &str, value: &Value<'_>) -> Result<Provider, Stop>
+    requires { HasNumbers (value_view value.now) }
+    ensures { IfOk result (λ p. IsPlan kind.now (value_view value.now) p) }
+{
+    if kind == "prometheus" {
+        prometheus(alloc, value)
+    } else if kind == "web" {
+        web(alloc, value)
+    } else {
+        Err(Stop::Refused(Refusal::Kind))
+    }
+}
+
+// ---- Prometheus
+
+fn prometheus(alloc: Global, value: &Value<'_>) -> Result<Provider, Stop>
+    ensures { IfOk result (λ p. IsPrometheus (value_view value.now) p) }
+{
+    refuse_prometheus(value)?;
+    let place = place_at(value, "address")?;
+    let query = query_at(value)?;
+    let seconds = seconds_at(value, "timeout")?;
+    let first = query_line(alloc, place, query)?;
+    let host = host_line(alloc, place)?;
+    let fields = fields_of(alloc, value)?;
+    Ok(Provider {
+        address: Text::of(String::from_str(alloc, place.address)?),
+        first,
+        host,
+        fields,
+        body: Vec::new(alloc),
+        answer: Answer::Prometheus,
+        seconds,
+    })
+}
+
+fn refuse_prometheus(value: &Value<'_>) -> Result<(), Refusal> {
+    if given_at(value, "rangeQuery").is_some() {
+        return Err(Refusal::RangeQuery);
+    }
+    refuse(value, &PROMETHEUS, Refusal::Prometheus)
+}
+
+// The query, which is not empty.
+fn query_at<'a>(value: &Value<'a>) -> Result<&'a str, Refusal>
+    ensures { IfOk result (λ query. text_at (codes "query") (value_view value.now)
+        ≡ Some query.now) }
+{
+    match text_at(value, "query") {
+        Some(query) if !query.is_empty() => Ok(query),
+        _ => Err(Refusal::Query),
+    }
+}
+
+// ---- a service that answers in JSON
+
+fn web(alloc: Global, value: &Value<'_>) -> Result<Provider, Stop>
+    requires { HasNumbers (value_view value.now) }
+    ensures { IfOk result (λ p. IsWeb (value_view value.now) p) }
+{
+    refuse(value, &WEB, Refusal::Web)?;
+    let place = place_at(value, "url")?;
+    let method = method_at(value)?;
+    let body = body_of(alloc, value, method)?;
+    let seconds = seconds_at(value, "timeoutSeconds")?;
+    let answer = answer_at(alloc, value)?;
+    let first = web_line(alloc, method, place)?;
+    let host = host_line(alloc, place)?;
+    let fields = web_fields(alloc, value, method, body.is_json, body.bytes.len())?;
+    Ok(Provider {
+        address: Text::of(String::from_str(alloc, place.address)?),
+        first,
+        host,
+        fields,
+        body: body.bytes,
+        answer,
+        seconds,
+    })
+}
+
+fn web_fields(
+    alloc: Global,
+    value: &Value<'_>,
+    method: Method,
+    is_json: bool,
+    length: usize,
+) -> Result<Vec<Line>, Stop>
+    ensures { IfOk result (λ fields.
+        IsWebFields (value_view value.now) method is_json length fields.items) }
+{
+    let mut fields = fields_of(alloc, value)?;
+    add_type(alloc, &mut fields, is_json)?;
+    add_length(alloc, &mut fields, method, length)?;
+    Ok(fields)
+}
+
+fn method_at(value: &Value<'_>) -> Result<Method, Refusal>
+    ensures { IfOk result (IsMethod (given_at (codes "method") (value_view value.now))) }
+{
+    match given_at(value, "method") {
+        Some(method) => method_of(method),
+        None => Ok(Method::Get),
+    }
+}
+
+fn method_of(value: &Value<'_>) -> Result<Method, Refusal>
+    ensures { IfOk result (λ m. as_str (value_view value.now) ≡ Some (method_text m)) }
+{
+    let Some(text) = value.as_str() else {
+        return Err(Refusal::Method);
+    };
+    if text == "GET" {
+        Ok(Method::Get)
+    } else if text == "POST" {
+        Ok(Method::Post)
+    } else if text == "PUT" {
+        Ok(Method::Put)
+    } else {
+        Err(Refusal::Method)
+    }
+}
+
+fn answer_at(alloc: Global, value: &Value<'_>) -> Result<Answer, Stop>
+    ensures { IfOk result (IsPathAt (given_at (codes "jsonPath") (value_view value.now))) }
+{
+    match given_at(value, "jsonPath") {
+        Some(path) => path_of(alloc, path),
+        None => Ok(Answer::Web(Path {
+            steps: Vec::new(alloc),
+        })),
+    }
+}
+
+fn path_of(alloc: Global, value: &Value<'_>) -> Result<Answer, Stop>
+    ensures { IfOk result (IsPathAt (Some (value_view value.now))) }
+{
+    let Some(text) = value.as_str() else {
+        return Err(Stop::Refused(Refusal::Path));
+    };
+    match Path::read(alloc, text)? {
+        Some(path) => Ok(Answer::Web(path)),
+        None => Err(Stop::Refused(Refusal::Path)),
+    }
+}
+
+// ---- both
+
+// The place at the address under that key.
+fn place_at<'a>(value: &Value<'a>, key: &str) -> Result<Place<'a>, Refusal>
+    ensures address { IfOk result
+        (λ place. text_at key.now (value_view value.now) ≡ Some place.address.now) }
+    ensures parts { IfOk result
+        (λ place. IsAddress place.address.now place.authority.now place.target.now) }
+{
+    match text_at(value, key) {
+        Some(text) => place_of(text),
+        None => Err(Refusal::Address),
+    }
+}
+
+// The whole number of seconds under that key, if there is one.
+fn seconds_at(value: &Value<'_>, key: &str) -> Result<Option<u64>, Refusal> {
+    match given_at(value, key) {
+        None => Ok(None),
+        Some(seconds) => match seconds.as_u64() {
+            Some(seconds) if seconds > 0 => Ok(Some(seconds)),
+            _ => Err(Refusal::Seconds),
+        },
+    }
+}
+
+// Refuses what is not done, and members that are not known.
+fn refuse(value: &Value<'_>, known: &[&str], why: Refusal) -> Result<(), Refusal> {
+    if given_at(value, "authentication").is_some() {
+        return Err(Refusal::Authentication);
+    }
+    if is_insecure(value) {
+        return Err(Refusal::Insecure);
+    }
+    match value {
+        Value::Object(members) => refuse_members(members.as_slice(), known, why),
+        _ => Err(Refusal::Provider),
+    }
+}
+
+fn is_insecure(value: &Value<'_>) -> bool {
+    match given_at(value, "insecure") {
+        Some(insecure) => insecure.as_bool() != Some(false),
+        None => false,
+    }
+}
+
+fn refuse_members(
+    members: &[(&str, Value<'_>)],
+    known: &[&str],
+    why: Refusal,
+) -> Result<(), Refusal> {
+    for (key, _) in members {
+        if !is_known(known, key) {
+            return Err(why);
+        }
+    }
+    Ok(())
+}
+
+// Whether a member may be there: one of these, or one that is looked at before.
+fn is_known(known: &[&str], key: &str) -> bool {
+    for name in known {
+        if *name == key {
+            return true;
+        }
+    }
+    key == "authentication" || key == "insecure" || key == "rangeQuery"
+}

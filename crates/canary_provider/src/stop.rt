@@ -1,0 +1,39 @@
+//! Why a plan is not read to its end.
+ghost use Rattle.std.specs.Prelude.{◌≡◌, Ok, IfOk};
+
+use crate::refusal::Refusal;
+use canary_base::error::Memory;
+use std::alloc::{AllocError, AllocFailed};
+
+/// Why a plan is not read to its end.
+#[derive(Clone, Copy)]
+pub(crate) enum Stop {
+    /// An allocation was refused.
+    Memory,
+    /// The provider is not asked.
+    Refused(Refusal),
+}
+
+impl From<Memory> for Stop {
+    fn from(_: Memory) -> Stop {
+        Stop::Memory
+    }
+}
+
+impl From<AllocError> for Stop {
+    fn from(_: AllocError) -> Stop {
+        Stop::Memory
+    }
+}
+
+impl<T: Drop> From<AllocFailed<T>> for Stop {
+    fn from(_: AllocFailed<T>) -> Stop {
+        Stop::Memory
+    }
+}
+
+impl From<Refusal> for Stop {
+    fn from(refusal: Refusal) -> Stop {
+        Stop::Refused(refusal)
+    }
+}
