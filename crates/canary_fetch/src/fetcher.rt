@@ -37,14 +37,16 @@ pub struct Fetcher {
 }
 
 impl Fetcher {
-    ghost use Rattle.canary_fetch.specs.Asked.{is_asked, asked_outcome};
+    ghost use Rattle.canary_fetch.specs.Asked.{is_asked, asked_message, asked_outcome};
+    ghost use Rattle.canary_fetch.specs.Asked.{most_connections};
 
     /// One with nothing to ask, and so many connections at a time at most.
     ///
     /// # Errors
     /// `Poll` if the system tells nothing of connections; `Memory`.
     pub fn new<R: Net + AllocGlobal>(rt: &R, most: usize) -> Result<Fetcher, FetchFault>
-        ensures { IfOk result (λ fetcher. (token : ℕ) → is_asked fetcher token ≡ false) }
+        ensures none { IfOk result (λ fetcher. (token : ℕ) → is_asked fetcher token ≡ false) }
+        ensures most { IfOk result (λ fetcher. most_connections fetcher ≡ most) }
     {
         let Ok(events) = Events::with_capacity(rt.alloc(), MOST_EVENTS) else {
             return Err(FetchFault::Memory);
@@ -77,6 +79,8 @@ impl Fetcher {
         limit: Duration,
     ) -> Result<(), StartFault>
         ensures ok { OnOk result (Comes (is_asked self.old) (is_asked self.new) token) }
+        ensures message { OnOk result
+            (asked_message self.new token ≡ Some (address, message.items)) }
         ensures err { OnErr result (AreSame (is_asked self.old) (is_asked self.new)) }
         ensures taken { result ≡ Err StartFault.Taken → is_asked self.old token ≡ true }
     {

@@ -42,10 +42,12 @@ pub(crate) struct Query {
 }
 
 impl Query {
-    ghost use Rattle.canary_fetch.specs.Asked.{outcome_of};
+    ghost use Rattle.canary_fetch.specs.Asked.{message_of, outcome_of};
 
     // One that came to nothing yet.
-    pub(crate) fn new(address: SocketAddr, message: Vec<u8>, ends: Duration) -> Query {
+    pub(crate) fn new(address: SocketAddr, message: Vec<u8>, ends: Duration) -> Query
+        ensures { message_of result ≡ (address, message.items) }
+    {
         Query {
             address,
             message,

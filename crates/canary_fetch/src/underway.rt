@@ -33,7 +33,7 @@ pub(crate) struct Underway {
 }
 
 impl Underway {
-    ghost use Rattle.canary_fetch.specs.Asked.{is_there, outcome_at};
+    ghost use Rattle.canary_fetch.specs.Asked.{is_there, message_at, outcome_at};
 
     // None.
     pub(crate) fn new(alloc: Global, poll: Poll, most: usize) -> Underway
@@ -67,6 +67,8 @@ impl Underway {
         limit: Duration,
     ) -> Result<(), StartFault>
         ensures ok { OnOk result (Comes (is_there self.old) (is_there self.new) token) }
+        ensures message { OnOk result
+            (message_at self.new token ≡ Some (address, message.items)) }
         ensures err { OnErr result (AreSame (is_there self.old) (is_there self.new)) }
         ensures taken { result ≡ Err StartFault.Taken → is_there self.old token ≡ true }
     {
