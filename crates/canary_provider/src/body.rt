@@ -1,5 +1,5 @@
 //! The body of a message.
-ghost use Rattle.std.specs.Prelude.{◌≡◌, [], Some, codes, false, true, IfOk, option_map, option_copied};
+ghost use Rattle.std.specs.Prelude.{◌≡◌, [], Some, codes, false, true, IfOk};
 ghost use Rattle.json.specs.Find.{as_str};
 ghost use Rattle.json.specs.Print.{print};
 ghost use Rattle.json.specs.Tree.{HasNumbers, json_tokens};

@@ -1,5 +1,5 @@
 //! The fields of a message's head: those of the plan, and the agent's own.
-ghost use Rattle.std.specs.Prelude.{◌≡◌, ◌≤◌, ◌++◌, [], ◌∷◌, length, decimal, codes, IfOk, OnOk};
+ghost use Rattle.std.specs.Prelude.{◌≡◌, ◌≤◌, ◌++◌, [], length, decimal, codes, IfOk, OnOk};
 ghost use Rattle.std.specs.Prelude.{IsTrue, IfSome, false, option_map, unwrap_or, position};
 ghost use Rattle.std.specs.List.{list_all, list_any};
 ghost use Rattle.std.specs.Str.{str_eq_ignore_ascii_case};

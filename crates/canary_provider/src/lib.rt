@@ -5,12 +5,6 @@
 //! the plan names, and if nothing is measured, it says nothing there; a message has the lines that
 //! the plan asks for and no others; and no text that tells a failure has a character that a
 //! terminal takes for more than one.
-//!
-//! In use (canary_agent):
-//!
-//!     let provider = Provider::read(alloc, planned.kind.as_str(), planned.provider.as_str())?;
-//!     let message = message_of(alloc, &provider)?;
-//!     let told = measured_of(alloc, &provider.answer, reply.status, reply.body.as_slice())?;
 #![tactic(auto)]
 
 mod body;

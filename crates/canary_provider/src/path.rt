@@ -9,7 +9,7 @@
 //! control, and none of `. [ ] { } ( ) * ? @ $ , : ' " \`. A number is decimal, without a 0 before
 //! it. Filters, wildcards, unions, slices and counts from the end are no steps.
 ghost use Rattle.std.specs.Prelude.{◌≡◌, ◌<◌, ◌≤◌, ◌++◌, [], ◌∷◌, length, flat_map, decimal};
-ghost use Rattle.std.specs.Prelude.{option_map, IfOk, IfSome, ◌⊎◌};
+ghost use Rattle.std.specs.Prelude.{option_map, IfOk, IfSome};
 ghost use Rattle.json.specs.Value.{value_view};
 ghost use Rattle.canary_provider.specs.Paths.{step_to, found, spelled, IsPathText, IsBraced};
 

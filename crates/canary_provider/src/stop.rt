@@ -1,5 +1,4 @@
 //! Why a plan is not read to its end.
-ghost use Rattle.std.specs.Prelude.{◌≡◌, Ok, IfOk};
 
 use crate::refusal::Refusal;
 use canary_base::error::Memory;

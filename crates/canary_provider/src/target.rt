@@ -6,7 +6,7 @@
 //!
 //! An authority is `HOST` or `HOST:PORT`; a target is empty, or a path, which may have a query. A
 //! user's name and a fragment are refused, as is any byte that is to be percent-encoded.
-ghost use Rattle.std.specs.Prelude.{◌≡◌, ◌≤◌, ◌++◌, [], length, codes, IfOk, IsTrue};
+ghost use Rattle.std.specs.Prelude.{◌≡◌, ◌≤◌, ◌++◌, [], length, codes, IfOk};
 ghost use Rattle.std.specs.Prelude.{string_bytes};
 ghost use Rattle.std.specs.List.{list_all};
 ghost use Rattle.percent_encoding.specs.Percent.{percent_encode};

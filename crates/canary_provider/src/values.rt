@@ -3,7 +3,7 @@ ghost use Rattle.std.specs.Prelude.{◌≡◌, false, option_map, IfOk, IfErr};
 ghost use Rattle.json.specs.Find.{as_array};
 ghost use Rattle.json.specs.Value.{value_view, items_view};
 ghost use Rattle.canary_provider.specs.Answers.{text_at, text_item, sample_text, is_memory};
-ghost use Rattle.canary_provider.specs.Answers.{IsRead, IsReadIn, IsValue, AreValues, Refutes};
+ghost use Rattle.canary_provider.specs.Answers.{IsRead, IsValue, AreValues, Refutes};
 
 use crate::failure::Fault;
 use canary_decimal::reading::read;
