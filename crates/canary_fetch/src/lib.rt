@@ -3,15 +3,6 @@
 //! Callers may rest on this: each message that is taken in has one outcome, a reply or a fault; and
 //! a reply is the one that the bytes of its connection begin with, by the grammar of RFC 9112, in
 //! whatever pieces they come. That a provider is asked, and when it answers, no contract says.
-//!
-//! In use:
-//!
-//!     let place = Place::read("http://localhost:9090/prometheus")?;
-//!     fetcher.start(rt, token, place.resolve(rt)?, message, limit)?;
-//!     fetcher.wait(rt, pause)?;
-//!     while let Some(answer) = fetcher.answer() {
-//!         measure(answer.token, answer.outcome);
-//!     }
 #![tactic(auto)]
 
 pub mod address;
