@@ -72,8 +72,8 @@ pub(crate) fn text_of(alloc: Global, fault: Fault<'_>, body: &[u8]) -> Result<Fa
     }
 }
 
-/// The text of a reply with that status, which has no measurement: of which kind that is, and how it
-/// goes on; or `Memory`.
+/// The text of a reply with that status, which has no measurement: of which kind that is, and how
+/// it goes on; or `Memory`.
 pub(crate) fn status_text(
     alloc: Global,
     status: u16,

@@ -5,8 +5,9 @@ ghost use Rattle.std.specs.List.{list_all, list_any};
 ghost use Rattle.std.specs.Str.{str_eq_ignore_ascii_case};
 ghost use Rattle.json.specs.Value.{value_view, items_view};
 ghost use Rattle.canary_provider.specs.Plans.{given_at, IsHeader, AreHeaders, AreHeadersAt};
-ghost use Rattle.canary_provider.specs.Plans.{is_token, is_token_byte, is_token_mark, is_own, is_colon};
-ghost use Rattle.canary_provider.specs.Plans.{name_of, has_name, with_own, with_type, with_length, HasFields};
+ghost use Rattle.canary_provider.specs.Plans.{is_token, is_token_byte, is_token_mark, is_own};
+ghost use Rattle.canary_provider.specs.Plans.{is_colon, name_of, has_name, with_own, with_type};
+ghost use Rattle.canary_provider.specs.Plans.{with_length, HasFields};
 
 use crate::line::Line;
 use crate::refusal::Refusal;

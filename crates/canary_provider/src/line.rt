@@ -1,5 +1,5 @@
 //! The lines of a message's head.
-ghost use Rattle.std.specs.Prelude.{◌≡◌, ◌++◌, IsTrue, IfOk, IfSome};
+ghost use Rattle.std.specs.Prelude.{◌≡◌, ◌++◌, IsTrue, IfOk, IfSome, IfNone, false};
 ghost use Rattle.std.specs.Option.{SomeIff};
 ghost use Rattle.std.specs.List.{list_all};
 ghost use Rattle.canary_provider.specs.Lines.{is_line, is_line_byte};
@@ -28,7 +28,8 @@ impl Model for Line {
 impl Line {
     /// The line of these bytes; none if they are none.
     pub fn of(bytes: Vec<u8>) -> Option<Line>
-        ensures { SomeIff result (IsTrue (is_line bytes.items)) bytes.items }
+        ensures line { SomeIff result (IsTrue (is_line bytes.items)) bytes.items }
+        ensures none { IfNone result (is_line bytes.items ≡ false) }
     {
         if is_line(bytes.as_slice()) {
             Some(Line { bytes })
@@ -44,8 +45,10 @@ impl Line {
         second: &[u8],
         third: &[u8],
     ) -> Result<Option<Line>, Memory>
-        ensures { IfOk result (λ made. IfSome made
+        ensures line { IfOk result (λ made. IfSome made
             (λ line. line ≡ first.now ++ second.now ++ third.now)) }
+        ensures none { IfOk result (λ made. IfNone made
+            (is_line (first.now ++ second.now ++ third.now) ≡ false)) }
     {
         let mut bytes = Vec::from_slice(alloc, first)?;
         bytes.extend_from_slice(second)?;

@@ -7,7 +7,7 @@ pub enum Refusal {
     Kind,
     /// The plan has no object for it.
     Provider,
-    /// A member that is none of Prometheus's, or none of a web metric's.
+    /// A member that Argo's Prometheus or web metric does not have.
     Prometheus,
     Web,
     /// `authentication`, `insecure: true`, `rangeQuery`.
@@ -27,7 +27,7 @@ pub enum Refusal {
     HeaderName,
     HeaderValue,
     OwnHeader,
-    /// A method that is none of GET, POST and PUT.
+    /// A method other than GET, POST or PUT.
     Method,
     /// A body that is no text, one beside a `jsonBody`, and one of a GET.
     Body,

@@ -14,24 +14,44 @@ pub(crate) enum Stop {
 }
 
 impl From<Memory> for Stop {
+    ghost use Rattle.canary_provider.specs.declared.stop.Stop.TheVariants.{Memory as refused};
+    ghost use Rattle.std.specs.Prelude.{◌≡◌};
+
+    ghost from_gives = { λ _ stop. stop ≡ refused };
+
     fn from(_: Memory) -> Stop {
         Stop::Memory
     }
 }
 
 impl From<AllocError> for Stop {
+    ghost use Rattle.canary_provider.specs.declared.stop.Stop.TheVariants.{Memory as refused};
+    ghost use Rattle.std.specs.Prelude.{◌≡◌};
+
+    ghost from_gives = { λ _ stop. stop ≡ refused };
+
     fn from(_: AllocError) -> Stop {
         Stop::Memory
     }
 }
 
 impl<T: Drop> From<AllocFailed<T>> for Stop {
+    ghost use Rattle.canary_provider.specs.declared.stop.Stop.TheVariants.{Memory as refused};
+    ghost use Rattle.std.specs.Prelude.{◌≡◌};
+
+    ghost from_gives = { λ _ stop. stop ≡ refused };
+
     fn from(_: AllocFailed<T>) -> Stop {
         Stop::Memory
     }
 }
 
 impl From<Refusal> for Stop {
+    ghost use Rattle.canary_provider.specs.declared.stop.Stop.TheVariants.{Refused};
+    ghost use Rattle.std.specs.Prelude.{◌≡◌};
+
+    ghost from_gives = { λ refusal stop. stop ≡ Refused refusal };
+
     fn from(refusal: Refusal) -> Stop {
         Stop::Refused(refusal)
     }
