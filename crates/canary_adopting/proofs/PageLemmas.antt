@@ -72,10 +72,6 @@ pub record RunsSoFar (strategy : CheckedStrategy) (name : List ℕ) (Given : Tab
   pub same : IsSame old now
   pub value : IsUsable now → (t : Tables) → Stores old t → Given t → AreRunsOf strategy name place t found × AreRevisions memo t
 
--- what was so before a page, and its rows
-abbrev pub AreBegun : CheckedStrategy → List ℕ → ℕ → ℕ → List RunRecord → Memo → Page → Tables → Type 0
-AreBegun strategy name first last runs memo page t = (AreRunsOf strategy name first t runs × AreRevisions memo t) × IsPageOf name first last t page
-
 pub more_found : (strategy : CheckedStrategy) (name : List ℕ) (Given : Tables → Type 0) (place : ℕ) (old between new : State) (found more : List RunRecord) (memo kept : Memo) (r : RunRecord) → RunsSoFar strategy name Given place old between found memo → IsSame between new
     → (IsUsable new → (t : Tables) → Stores between t → Given t → AreRevisions memo t → IsRunOf strategy name (place + 1) t r × AreRevisions kept t) → more ≡ found ++ r ∷ [] → RunsSoFar strategy name Given (place + 1) old new more kept
 more_found strategy name Given place old between new found more memo kept r before same told pushed =

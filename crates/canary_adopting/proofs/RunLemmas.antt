@@ -19,7 +19,7 @@ use Rattle.canary_stored.specs.Values.{ending_of, closing_of, closing_from}
 use Rattle.canary_stored.specs.Tables.{IsReadableClosing}
 use Rattle.canary_stored.specs.Finding.{record_closed, record_of_row}
 use Rattle.canary_judging.specs.Services.{row_of_record}
-use Rattle.canary_adopting.specs.OfService.{AreTalliesOf, IsRunOf, AreRunsOf}
+use Rattle.canary_adopting.specs.OfService.{AreTalliesOf, IsRunOf, AreRunsOf, IsRunBy}
 use Rattle.canary_recounting.specs.Recounted.{HasOwnVerdict}
 use Rattle.canary_adopting.specs.Bindings.{IsRunBound}
 use Rattle.canary_adopting.proofs.PlacedLemmas.{both, head_passes, same_tallies, some_at}
@@ -157,11 +157,6 @@ module _ (strategy : CheckedStrategy) (name : List ℕ) (number : ℕ) (t : Tabl
       let analysed : analysis ≡ r.analysis = same_analysis row.step analysis r.analysis bound (bound_there rows row r are one run) in
       (λ i. record_of_row (analysed i) (counts i) (is i)) ∙ ap (option_map (record_closed (row_of_record name r) r.analysis r.tallies)) (closing_back r.number r.closed run.1.closed)
 
-  -- so that it has its verdict, where some run is there
-  pub also_has : (rows : List RunRow) (row : RunRow) (analysis : AnalysisParts) (tallies : List Counts) (made r : RunRecord) → rows ≡ filter (is_run name number) t.runs → rows ≡ row ∷ [] → IsRunBound name number strategy row.step t analysis → AreTalliesOf name number t tallies
-      → record_of_row analysis tallies row ≡ Some made → IsRunOf strategy name number t r → HasOwnVerdict made
-  also_has rows row analysis tallies made r are one bound counted told run = subst HasOwnVerdict (some_same r made (sym (run_read rows row analysis tallies r are one bound counted run) ∙ told)) run.1.verdict
-
   pub same_run : (a b : RunRecord) → IsRunOf strategy name number t a → IsRunOf strategy name number t b → a ≡ b
   same_run a b first second =
       let there : filter (is_run name number) t.runs ≡ row_of_record name a ∷ [] = subst (λ n. filter (is_run name n) t.runs ≡ row_of_record name a ∷ []) first.0 first.1.one in
@@ -169,6 +164,18 @@ module _ (strategy : CheckedStrategy) (name : List ℕ) (number : ℕ) (t : Tabl
       let one : record_of_row a.analysis a.tallies own ≡ Some a = run_read (own ∷ []) own a.analysis a.tallies a (sym there) refl (has_bindings a first) (has_tallies a first) first in
       let other : record_of_row a.analysis a.tallies own ≡ Some b = run_read (own ∷ []) own a.analysis a.tallies b (sym there) refl (has_bindings a first) (has_tallies a first) second in
       some_same a b (sym one ∙ other)
+
+-- What one row of a run makes, it makes alone.
+
+module _ (name : List ℕ) (number : ℕ) (t : Tables) (row : RunRow) (analysis : AnalysisParts) (tallies : List Counts) (counted : AreTalliesOf name number t tallies) where
+  same_told : (r : RunRecord) → IsRunBy name number row analysis t r → record_of_row analysis tallies row ≡ Some r
+  same_told r by = ap (λ (xs : List Counts). record_of_row analysis xs row) (same_tallies name number t tallies by.tallies counted by.are) ∙ by.told
+
+  pub untold : record_of_row analysis tallies row ≡ None → (r : RunRecord) → IsRunBy name number row analysis t r → ⊥
+  untold none r by = let no_way : None ≡ Some r = sym none ∙ same_told r by in cc
+
+  pub told_again : (made : RunRecord) → record_of_row analysis tallies row ≡ Some made → (r : RunRecord) → IsRunBy name number row analysis t r → HasOwnVerdict made
+  told_again made told r by = subst HasOwnVerdict (some_same r made (sym (same_told r by) ∙ told)) by.verdict
 
 -- Run after run.
 

@@ -2,21 +2,24 @@
 use Rattle.std.specs.Prelude.{◌≡◌, ℕ, suc, List, [], ◌∷◌, length, map, filter, Option, Some, None, slice_get, Result, Ok, Err}
 use Rattle.std.specs.List.{AllByRecursion}
 use Rattle.canary_metric.specs.Counts.{Counts}
+use Rattle.canary_plan.specs.declared.analysis_parts.AnalysisParts.{AnalysisParts}
 use Rattle.canary_plan.specs.declared.strategy.CheckedStrategy.{CheckedStrategy}
 use Rattle.canary_plan.specs.declared.line.Line.{Line}
 use Rattle.canary_plan.specs.Lines.{words}
 use Rattle.canary_release.specs.declared.effect.Recorded.{Recorded}
 use Rattle.canary_once.specs.declared.record.RunRecord.{RunRecord}
+use Rattle.canary_rows.specs.declared.rows.RunRow.{RunRow}
 use Rattle.canary_rows.specs.declared.rows.TallyRow.{TallyRow}
 use Rattle.canary_rows.specs.Tables.{Tables, is_tally, is_tally_of, is_measurement_of, is_line_of}
 use Rattle.canary_stored.specs.Values.{tally_row, history_row, measurement_of_row}
 use Rattle.canary_stored.specs.Tables.{IsReadableLine}
-use Rattle.canary_stored.specs.Finding.{AreRead}
+use Rattle.canary_stored.specs.Finding.{AreRead, record_of_row}
 use Rattle.canary_stored.specs.declared.fault.RowFault.{RowFault}
 use Rattle.canary_stored.specs.declared.fault.RowFault.TheVariants as row_fault
 use Rattle.canary_reads.specs.declared.fault.ReadFault.{ReadFault}
 use Rattle.canary_reads.specs.declared.fault.ReadFault.TheVariants.{Broken, Memory, Storage}
 use Rattle.canary_judging.specs.Services.{IsRunJudged}
+use Rattle.canary_recounting.specs.Recounted.{HasOwnVerdict}
 
 -- there is such a value in the tables
 abbrev pub HasSuch : {A : Type 0} → (Tables → A → Type 0) → Tables → Type 0
@@ -48,6 +51,14 @@ pub record AreTalliesOf (name : List ℕ) (number : ℕ) (t : Tables)
   pub each : (place : ℕ) (c : Counts) → slice_get tallies place ≡ Some c
       → filter (is_tally name number place) t.tallies ≡ tally_row name number place c ∷ []
   pub no_more : length (filter (is_tally_of name number) t.tallies) ≡ length tallies
+
+-- what the row of that run makes of its tallies and an analysis
+pub record IsRunBy (name : List ℕ) (number : ℕ) (row : RunRow) (analysis : AnalysisParts)
+    (t : Tables) (run : RunRecord) : Type 0 where
+  pub tallies : List Counts
+  pub are : AreTalliesOf name number t tallies
+  pub told : record_of_row analysis tallies row ≡ Some run
+  pub verdict : HasOwnVerdict run
 
 -- the run of that number, of a service with this strategy
 abbrev pub IsRunOf : CheckedStrategy → List ℕ → ℕ → Tables → RunRecord → Type 0

@@ -1,6 +1,7 @@
 -- A service's runs, read in pages.
 use Rattle.std.specs.Prelude.{◌≡◌, ◌<◌, ◌≤◌, ◌==◌, Bool, ℕ, List, filter}
 use Rattle.canary_plan.specs.declared.strategy.CheckedStrategy.{CheckedStrategy}
+use Rattle.canary_once.specs.declared.record.RunRecord.{RunRecord}
 use Rattle.canary_rows.specs.declared.rows.BindingRow.{BindingRow}
 use Rattle.canary_rows.specs.declared.rows.RunRow.{RunRow}
 use Rattle.canary_rows.specs.declared.rows.TallyRow.{TallyRow}
@@ -55,3 +56,9 @@ pub record AreSoFar (strategy : CheckedStrategy) (name : List ℕ) (so_far : SoF
     (t : Tables) : Type 0 where
   pub runs : AreRunsOf strategy name so_far.count t so_far.runs
   pub memo : AreRevisions so_far.memo t
+
+-- what is so before the rows of a page are judged
+abbrev pub AreBegun : CheckedStrategy → List ℕ → ℕ → ℕ → List RunRecord → Memo → Page → Tables
+    → Type 0
+AreBegun strategy name first last runs memo page t =
+    (AreRunsOf strategy name first t runs × AreRevisions memo t) × IsPageOf name first last t page

@@ -12,8 +12,8 @@ ghost use Rattle.canary_reads.specs.Reader.{IsKept};
 ghost use Rattle.canary_reads.specs.Sorts.{Sorts, metric_of};
 ghost use Rattle.canary_adopting.specs.OneService.{RefusesJudged};
 ghost use Rattle.canary_adopting.specs.OfService.{HasSuch, IsTold, ArePlaced, AreTalliesOf};
-ghost use Rattle.canary_adopting.specs.OfService.{IsRunOf, AreRunsOf};
-ghost use Rattle.canary_adopting.specs.Pages.{AreGiven, AreThere, AreSoFar};
+ghost use Rattle.canary_adopting.specs.OfService.{IsRunOf, AreRunsOf, IsRunBy};
+ghost use Rattle.canary_adopting.specs.Pages.{IsPageOf, AreGiven, AreThere, AreSoFar, AreBegun};
 ghost use Rattle.canary_adopting.specs.Remembered.{FindsWhere, RefusesWhere, AreRevisions};
 
 use crate::fault::read_fault;
@@ -129,21 +129,108 @@ fn judge_page<Q: Reader>(
         (AreThere strategy.now name.now so_far.count last)
         (Q.shows conn.old) (Q.shows conn.new) result }
 {
+    let page = pages::page_between(conn, alloc, name, so_far.count, last)?;
+    with_page(conn, alloc, &page, strategy, so_far, last)
+}
+
+// The next runs, whose rows are in the page, judged too.
+fn with_page<Q: Reader>(
+    conn: &mut Q,
+    alloc: Global,
+    page: &Page,
+    strategy: &Strategy,
+    so_far: SoFar,
+    last: u32,
+) -> Result<SoFar, ReadFault>
+    requires ready { Q.IsReady conn.old }
+    requires more { so_far.count < last }
+    ensures mode { Q.IsReady conn.new }
+    ensures place { Q.place conn.new ≡ Q.place conn.old }
+    ensures kept { IsKept (Q.below conn.old) (Q.below conn.new) }
+    ensures same { IsSame (Q.shows conn.old) (Q.shows conn.new) }
+    ensures count { IfOk result (λ found. found.count ≡ last) }
+    ensures found { (name : List ℕ) → FindsWhere
+        (AreBegun strategy.now name so_far.count last so_far.runs so_far.memo page.now)
+        (λ t found. AreSoFar strategy.now name found t)
+        (Q.shows conn.old) (Q.shows conn.new) result }
+    ensures broken { (name : List ℕ) → RefusesWhere
+        (AreBegun strategy.now name so_far.count last so_far.runs so_far.memo page.now)
+        (AreThere strategy.now name so_far.count last)
+        (Q.shows conn.old) (Q.shows conn.new) result }
+{
     let SoFar {
         count,
         mut runs,
         mut memo,
     } = so_far;
-    let page = pages::page_between(conn, alloc, name, count, last)?;
-    for place in count..last {
-        let rows = pages::rows_of(alloc, &page, place + 1)?;
-        runs.push(run(conn, alloc, &mut memo, &rows, strategy)?)?;
-    }
+    judge_rows(
+        conn, alloc, &mut memo, &mut runs, page, strategy, count, last,
+    )?;
     Ok(SoFar {
         count: last,
         runs,
         memo,
     })
+}
+
+// The runs whose numbers are above `first` and at most `last`, judged and put behind the others.
+fn judge_rows<Q: Reader>(
+    conn: &mut Q,
+    alloc: Global,
+    memo: &mut Templates,
+    runs: &mut Listed<RunRecord>,
+    page: &Page,
+    strategy: &Strategy,
+    first: u32,
+    last: u32,
+) -> Result<(), ReadFault>
+    requires ready { Q.IsReady conn.old }
+    requires more { first < last }
+    ensures mode { Q.IsReady conn.new }
+    ensures place { Q.place conn.new ≡ Q.place conn.old }
+    ensures kept { IsKept (Q.below conn.old) (Q.below conn.new) }
+    ensures same { IsSame (Q.shows conn.old) (Q.shows conn.new) }
+    ensures found { (name : List ℕ) → FindsWhere
+        (AreBegun strategy.now name first last runs.old memo.old page.now)
+        (λ t done. AreRunsOf strategy.now name last t runs.new × AreRevisions memo.new t)
+        (Q.shows conn.old) (Q.shows conn.new) result }
+    ensures broken { (name : List ℕ) → RefusesWhere
+        (AreBegun strategy.now name first last runs.old memo.old page.now)
+        (AreThere strategy.now name first last)
+        (Q.shows conn.old) (Q.shows conn.new) result }
+{
+    for place in first..last {
+        let run = run_in(conn, alloc, memo, page, place + 1, strategy)?;
+        runs.push(run)?;
+    }
+    Ok(())
+}
+
+// The run of that number, by its rows in the page.
+fn run_in<Q: Reader>(
+    conn: &mut Q,
+    alloc: Global,
+    memo: &mut Templates,
+    page: &Page,
+    number: u32,
+    strategy: &Strategy,
+) -> Result<RunRecord, ReadFault>
+    requires ready { Q.IsReady conn.old }
+    ensures mode { Q.IsReady conn.new }
+    ensures place { Q.place conn.new ≡ Q.place conn.old }
+    ensures kept { IsKept (Q.below conn.old) (Q.below conn.new) }
+    ensures same { IsSame (Q.shows conn.old) (Q.shows conn.new) }
+    ensures found { (name : List ℕ) (after last : ℕ) → after < number → number ≤ last → FindsWhere
+        (λ t. IsPageOf name after last t page.now × AreRevisions memo.old t)
+        (λ t found. IsRunOf strategy.now name number t found × AreRevisions memo.new t)
+        (Q.shows conn.old) (Q.shows conn.new) result }
+    ensures broken { (name : List ℕ) (after last : ℕ) → after < number → number ≤ last
+        → RefusesWhere (λ t. IsPageOf name after last t page.now × AreRevisions memo.old t)
+        (HasSuch (IsRunOf strategy.now name number))
+        (Q.shows conn.old) (Q.shows conn.new) result }
+{
+    let rows = pages::rows_of(alloc, page, number)?;
+    run(conn, alloc, memo, &rows, strategy)
 }
 
 /// The run of a service of that strategy that has these rows, where templates are judged: there is
@@ -179,8 +266,25 @@ pub(crate) fn run<Q: Reader>(
     };
     let bindings = rows.bindings.as_slice();
     let analysis = remembered::analysis(conn, alloc, memo, bindings, strategy, row.step)?;
-    let tallies = tallies(alloc, rows.tallies.as_slice())?;
-    let run = record_of(&row, analysis, tallies)?;
+    with_tallies(alloc, &row, analysis, rows.tallies.as_slice())
+}
+
+// The run of the row that has this analysis and these rows of tallies.
+fn with_tallies(
+    alloc: Global,
+    row: &RunRow,
+    analysis: BoundAnalysis,
+    rows: &[TallyRow],
+) -> Result<RunRecord, ReadFault>
+    ensures found { (t : Tables) (name : List ℕ) (number : ℕ)
+        → Sorts metric_of (filter (is_tally_of name number) t.tallies) rows.now
+        → IfOk result (IsRunBy name number row.now analysis t) }
+    ensures broken { (t : Tables) (name : List ℕ) (number : ℕ)
+        → Sorts metric_of (filter (is_tally_of name number) t.tallies) rows.now
+        → result ≡ Err Broken → ¬ HasSuch (IsRunBy name number row.now analysis) t }
+{
+    let tallies = tallies(alloc, rows)?;
+    let run = record_of(row, analysis, tallies)?;
     if has_own_verdict(&run) {
         Ok(run)
     } else {

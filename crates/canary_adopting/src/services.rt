@@ -1,7 +1,8 @@
 //! All services, with all that is theirs.
-ghost use Rattle.std.specs.Prelude.{◌≡◌, false};
+ghost use Rattle.std.specs.Prelude.{◌≡◌, ◌≢◌, ℕ, min, false, Err, IfOk, OnOk};
 ghost use Rattle.std.specs.List.{AllByRecursion};
 ghost use Rattle.canary_judging.specs.Services.{AreServicesJudged};
+ghost use Rattle.canary_reads.specs.declared.fault.ReadFault.TheVariants.{Broken};
 ghost use Rattle.canary_reads.specs.Finds.{IsSame};
 ghost use Rattle.canary_adopting.specs.Judges.{FindsThat, RefusesUnless};
 ghost use Rattle.canary_adopting.specs.OneService.{FindsJudged, RefusesJudged};
@@ -83,9 +84,19 @@ fn are_all<Q: Reader>(conn: &mut Q, totals: &Totals) -> Result<(), ReadFault>
     ensures refused { RefusesUnless (λ t. HaveTotals t totals.now)
         (Q.shows conn.old) (Q.shows conn.new) result }
 {
-    totals::are_all(totals.runs, lists::run_count(conn)?)?;
-    totals::are_all(totals.bindings, lists::binding_count(conn)?)?;
-    totals::are_all(totals.tallies, lists::tally_count(conn)?)?;
-    totals::are_all(totals.measurements, lists::measurement_count(conn)?)?;
-    totals::are_all(totals.lines, lists::history_count(conn)?)
+    are_as_many(totals.runs, lists::run_count(conn))?;
+    are_as_many(totals.bindings, lists::binding_count(conn))?;
+    are_as_many(totals.tallies, lists::tally_count(conn))?;
+    are_as_many(totals.measurements, lists::measurement_count(conn))?;
+    are_as_many(totals.lines, lists::history_count(conn))
+}
+
+// That so many rows are all that a table has, if its count is read.
+fn are_as_many(found: u64, count: Result<u64, ReadFault>) -> Result<(), ReadFault>
+    ensures all { OnOk result ((rows : ℕ)
+        → IfOk count (λ n. n ≡ min rows 9223372036854775807) → found ≡ rows) }
+    ensures broken { result ≡ Err Broken → count ≢ Err Broken → (rows : ℕ)
+        → IfOk count (λ n. n ≡ min rows 9223372036854775807) → found ≢ rows }
+{
+    totals::are_all(found, count?)
 }

@@ -1,8 +1,10 @@
 mod Words
 mod Groups
 mod Skeletons
+mod PrintedTests
 mod Printed
 mod Cutting
+mod SamePlaces
 mod SameValues
 mod Suffixes
 mod Apart

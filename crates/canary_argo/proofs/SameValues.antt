@@ -1,22 +1,20 @@
 -- The desk's condition says of what is reported what Argo's says of what was measured.
-use Rattle.std.proofs.Common.{pos, negsuc, ◌≡◌, ℕ, zero, suc, ◌<◌, ℤ, Bool, true, false, not, List, [], ◌∷◌, ◌++◌, take, Option, Some, None, refl, sym, ap, ◌∙◌, subst, arith}
-use Rattle.std.specs.Prelude.{◌&&◌, ◌||◌, ◌==◌, ◌^◌, int_le, ◌*◌, ◌*ℤ◌, ◌<ℤ◌, ◌≢◌, nat_lt, slice_get, length}
+use Rattle.std.proofs.Common.{pos, negsuc, ◌≡◌, ℕ, ◌<◌, ℤ, Bool, true, false, not, List, [], ◌∷◌, ◌++◌, Option, Some, None, refl, sym, ap, ◌∙◌, subst, arith}
+use Rattle.std.specs.Prelude.{◌&&◌, ◌||◌, ◌^◌, int_le, ◌*◌, ◌*ℤ◌, ◌<ℤ◌, ◌≢◌}
 use Rattle.std.specs.List.{list_all}
 use Rattle.std.specs.Ordering.{int_eq}
-use Rattle.std.proofs.lemmas.Bool.{false≢true, and_parts, ltb-true, not-true, false_from_ne_true}
-use Rattle.std.proofs.lemmas.Bool.Decides.{nat_tests, Decides-int_eq, same_from_decides}
+use Rattle.std.proofs.lemmas.Bool.{false≢true, and_parts, not-true, false_from_ne_true}
+use Rattle.std.proofs.lemmas.Bool.Decides.{Decides-int_eq}
 use Rattle.std.proofs.lemmas.List.Folds.{list_all-append}
-use Rattle.std.proofs.lemmas.Option.{none-some, same_Some, cond_some}
+use Rattle.std.proofs.lemmas.Option.{none-some, same_Some}
 use Rattle.canary_condition.specs.declared.condition.Comparison.{Comparison}
 use Rattle.canary_condition.specs.declared.condition.Comparison.TheVariants.{Equal, NotEqual, Less, AtMost, Greater, AtLeast}
 use Rattle.canary_condition.specs.declared.condition.Operand.{Operand}
-use Rattle.canary_condition.specs.declared.condition.Operand.TheVariants.{Whole as WholeOperand, Item as ItemOperand}
 use Rattle.canary_condition.specs.declared.condition.Verdict3.{Verdict3}
 use Rattle.canary_condition.specs.declared.condition.Verdict3.TheVariants.{True, False, Fault}
 use Rattle.canary_argo.specs.declared.translating.DeskAtom.{DeskAtom}
 use Rattle.std.specs.Int.RustNames.{unsigned_abs}
 use Rattle.canary_condition.specs.declared.outcome.Value.{Value}
-use Rattle.canary_condition.specs.declared.outcome.Value.TheVariants.{Whole as WholeResult, List as ListResult}
 use Rattle.canary_condition.specs.Meaning.{operand_value, compares, compared, verdict_of_test, or_of, and_of, not_of, value}
 use Rattle.canary_condition.specs.Reading.{IsConditionText}
 use Rattle.canary_condition.specs.Spelling.{Level, Spells as DeskSpells}
@@ -38,14 +36,13 @@ use Rattle.canary_argo.specs.declared.condition.Place.TheVariants.{Whole, Item a
 use Rattle.canary_argo.specs.declared.condition.Test.{Test}
 use Rattle.canary_argo.specs.declared.form.Form.{Form}
 use Rattle.canary_argo.specs.declared.form.Shape.{Shape}
-use Rattle.canary_argo.specs.declared.form.Shape.TheVariants.{One as OneShape, First, Several as SeveralShape, Length as LengthShape}
 use Rattle.canary_argo.specs.declared.translating.DeskTest.{DeskTest}
 use Rattle.canary_argo.specs.Grouping.{are_closed, all_tokens, SpellsItems}
 use Rattle.canary_argo.specs.Meaning.{Given, Measured, given_at, in_order, compares_nan, whole_of, applied, nan_value, inf_value, test_value, argo_value}
 use Rattle.canary_argo.specs.Meaning.Given.{Decimal, NotANumber, Infinite, MinusInfinite, Nothing}
 use Rattle.canary_argo.specs.Meaning.Measured.{One, Several}
-use Rattle.canary_argo.specs.Reporting.{nan, minus_infinite, infinite, null, has_nan, has_infinite, has_null, IsApart, Stands, AllStand, IsReportedAs, IsReported}
-use Rattle.canary_argo.specs.Translating.{desk_place, turned, in_turn, fits, text_of, skeleton_of, SaysTheSame, IsTranslated, IsTranslation, length_of, constant_at, is_below, guarded_by, guarded, plain_atom, desk_test, least_from, least_above, edge_test, one_test, both_tests, either_test, int_asked, int_atom, function_atom, compare_atom, is_value, except_null, null_by, takes_null, value_test, default_atom, constant_of, desk_value, nan_atom, inf_atom}
+use Rattle.canary_argo.specs.Reporting.{nan, minus_infinite, infinite, null, has_nan, has_infinite, has_null, IsReportedAs, IsReported}
+use Rattle.canary_argo.specs.Translating.{turned, in_turn, fits, text_of, skeleton_of, SaysTheSame, IsTranslated, IsTranslation, constant_at, is_below, guarded_by, guarded, plain_atom, desk_test, least_from, least_above, edge_test, one_test, both_tests, either_test, int_asked, int_atom, function_atom, compare_atom, is_value, except_null, null_by, takes_null, value_test, default_atom, constant_of, desk_value, nan_atom, inf_atom}
 use Rattle.canary_argo.specs.Tokens.{is_held}
 use Rattle.canary_argo.proofs.Cutting.{edge_reached, edge_missed, whole_asked, whole_compares}
 use Rattle.canary_decimal.proofs.Alike.{pow_over_zero}
@@ -55,138 +52,11 @@ use Rattle.canary_argo.specs.Spelling.{Spells}
 use Rattle.canary_argo.specs.Tokens.{IsMadeOf}
 use Rattle.canary_argo.specs.Trees.{Tree}
 use Rattle.canary_argo.specs.Trees.Tree.{Or, And, Not, Bracket, Compare, IsNaN, IsInf}
-use Rattle.canary_argo.proofs.Printed.{desk_is, length_is, constant_is, fit_is, nan_fit, inf_fit, guarded_is, none_by, one_is, both_are, either_are, int_is, null_is, default_is, value_is, nan_is, inf_is, compare_of, atom_shape, atom_tree, desk_tree, desk_spelled, printed}
+use Rattle.canary_argo.proofs.PrintedTests.{desk_is, length_is, constant_is}
+use Rattle.canary_argo.proofs.Printed.{fit_is, nan_fit, inf_fit, guarded_is, none_by, one_is, both_are, either_are, int_is, null_is, default_is, value_is, nan_is, inf_is, compare_of, atom_shape, atom_tree, desk_tree, desk_spelled, printed}
 use Rattle.canary_argo.proofs.Groups.{spelled_tokens}
 use Rattle.canary_argo.proofs.Skeletons.{signs_of, unspelled}
-
--- ---- a place
-
--- what the desk has at an operand, and Argo at a place: both nothing, or a number that stands for
--- a value
-abbrev IsAlike : Beside → ℕ → Option ℤ → Option Given → Type 0
-IsAlike w n None None = Unit {0}
-IsAlike w n (Some z) (Some g) = Stands w n g z
-IsAlike w n number given = ⊥
-
-item_alike : (w : Beside) (n most : ℕ) (gs : List Given) (zs : List ℤ) (i : ℕ) → i < most → AllStand w n (take most gs) zs → IsAlike w n (slice_get zs i) (slice_get gs i)
-item_alike w n zero gs zs i less h = absurd (omega arith)
-item_alike w n (suc most) [] [] i less h = tt
-item_alike w n (suc most) [] (z ∷ zs) i less h = absurd h
-item_alike w n (suc most) (g ∷ gs) [] i less h = absurd h
-item_alike w n (suc most) (g ∷ gs) (z ∷ zs) zero less h = h.0
-item_alike w n (suc most) (g ∷ gs) (z ∷ zs) (suc i) less h = item_alike w n most gs zs i (omega arith) h.1
-
--- a value of a list, or the one value
-abbrev IsValue : Place → Type 0
-IsValue LengthPlace = ⊥
-IsValue place = Unit {0}
-
-place_alike : (w : Beside) (n : ℕ) (shape : Shape) (p : Place) (o : Operand) (m : Measured) (v : Value) → IsValue p → desk_place shape p ≡ Some o → IsReportedAs w n shape m v → IsAlike w n (operand_value o v) (given_at p m)
-place_alike w n shape LengthPlace o m v is e h = absurd is
-place_alike w n OneShape Whole o (One g) (WholeResult z) is e h =
-    subst (λ (k : Operand). IsAlike w n (operand_value k (WholeResult z)) (Some g)) (same_Some WholeOperand o e) h
-place_alike w n OneShape Whole o (One g) (ListResult zs) is e h = absurd h
-place_alike w n OneShape Whole o (Several gs) v is e h = absurd h
-place_alike w n OneShape (ItemPlace i) o m v is e h = absurd (none-some o e)
-place_alike w n First (ItemPlace i) o (One g) v is e h = absurd h
-place_alike w n First (ItemPlace i) o (Several []) v is e h = absurd h
-place_alike w n First (ItemPlace i) o (Several (g ∷ gs)) (ListResult zs) is e h = absurd h
-place_alike w n First Whole o m v is e h = absurd (none-some o e)
-place_alike w n First (ItemPlace i) o (Several (g ∷ gs)) (WholeResult z) is e h =
-    let found = cond_some (i == 0) WholeOperand o e in
-    let none : i ≡ 0 = grind (arith, nat_tests) in
-    subst (λ (k : Operand). IsAlike w n (operand_value k (WholeResult z)) (slice_get (g ∷ gs) i)) found.1
-    (subst (λ (j : ℕ). IsAlike w n (Some z) (slice_get (g ∷ gs) j)) (sym none) h)
-place_alike w n (SeveralShape most) (ItemPlace i) o (One g) v is e h = absurd h
-place_alike w n (SeveralShape most) (ItemPlace i) o (Several gs) (WholeResult z) is e h = absurd h
-place_alike w n (SeveralShape most) Whole o m v is e h = absurd (none-some o e)
-place_alike w n (SeveralShape most) (ItemPlace i) o (Several gs) (ListResult zs) is e h =
-    let found = cond_some (nat_lt i most && nat_lt most 17) (ItemOperand i) o e in
-    let less = ltb-true i most (and_parts (nat_lt i most) (nat_lt most 17) found.0).0 in
-    subst (λ (k : Operand). IsAlike w n (operand_value k (ListResult zs)) (slice_get gs i)) found.1 (item_alike w n most gs zs i less h)
-place_alike w n (LengthShape most) (ItemPlace i) o (One g) v is e h = absurd h
-place_alike w n (LengthShape most) (ItemPlace i) o (Several gs) (WholeResult z) is e h = absurd h
-place_alike w n (LengthShape most) (ItemPlace i) o (Several gs) (ListResult []) is e h = absurd h
-place_alike w n (LengthShape most) Whole o m v is e h = absurd (none-some o e)
-place_alike w n (LengthShape most) (ItemPlace i) o (Several gs) (ListResult (z ∷ zs)) is e h =
-    let found = cond_some (nat_lt i most && nat_lt most 16) (ItemOperand (suc i)) o e in
-    let less = ltb-true i most (and_parts (nat_lt i most) (nat_lt most 16) found.0).0 in
-    subst (λ (k : Operand). IsAlike w n (operand_value k (ListResult (z ∷ zs))) (slice_get gs i)) found.1 (item_alike w n most gs zs i less h.1)
-
--- ---- a comparison
-
-int_eq_turned : (x y : ℤ) → int_eq x y ≡ int_eq y x
-int_eq_turned x y = same_from_decides (int_eq x y) (int_eq y x) (Decides-int_eq x y) ((λ e. sym ((Decides-int_eq y x).0 e)), (λ e. (Decides-int_eq y x).1 (sym e)))
-
-compares_turned : (c : Comparison) (x y : ℤ) → compares (turned c) x y ≡ compares c y x
-compares_turned Equal x y = int_eq_turned x y
-compares_turned NotEqual x y = ap not (int_eq_turned x y)
-compares_turned Less x y = refl
-compares_turned AtMost x y = refl
-compares_turned Greater x y = refl
-compares_turned AtLeast x y = refl
-
--- what the desk has compares to a constant as what Argo has does to a decimal, whichever stands
--- first; or it is what is reported of what is no decimal
-abbrev Agrees : Beside → ℤ → Fraction → Option ℤ → Option Given → Type 0
-Agrees w t y None None = Unit {0}
-Agrees w t y (Some z) (Some (Decimal x)) =
-    ((c : Comparison) → (compares c z t ≡ compares_exactly c x y) × (compares c t z ≡ compares_exactly c y x)) × (has_nan w ≡ true → z ≢ nan)
-Agrees w t y (Some z) (Some NotANumber) = (has_nan w ≡ true) × (z ≡ nan)
-Agrees w t y (Some z) (Some Infinite) = (has_infinite w ≡ true) × (z ≡ infinite)
-Agrees w t y (Some z) (Some MinusInfinite) = (has_infinite w ≡ true) × (z ≡ minus_infinite)
-Agrees w t y (Some z) (Some Nothing) = (has_null w ≡ true) × (z ≡ null)
-Agrees w t y number given = ⊥
-
-apart_nan : (w : Beside) (z : ℤ) → IsApart w z → has_nan w ≡ true → z ≢ nan
-apart_nan NothingBeside z h e = absurd (false≢true e)
-apart_nan NaNBeside z h e = h
-apart_nan InfiniteBeside z h e = h.0
-apart_nan NullBeside z h e = h.0
-
-agrees : ComparesAsDecimals → (w : Beside) (t : ℤ) (y : Fraction) (n : ℕ) (number : Option ℤ) (given : Option Given) → IsConstant t y n → IsAlike w n number given → Agrees w t y number given
-agrees law w t y n None None constant h = tt
-agrees law w t y n None (Some g) constant h = absurd h
-agrees law w t y n (Some z) None constant h = absurd h
-agrees law w t y n (Some z) (Some (Decimal x)) constant h = (law z t x y n h.0 constant, apart_nan w z h.1)
-agrees law w t y n (Some z) (Some NotANumber) constant h = h
-agrees law w t y n (Some z) (Some Infinite) constant h = h
-agrees law w t y n (Some z) (Some MinusInfinite) constant h = h
-agrees law w t y n (Some z) (Some Nothing) constant h = h
-
-apart_pos : (n : ℕ) → pos n ≢ nan
-apart_pos n e = absurd (omega (arith, ints))
-
-times_one : (z : ℤ) → z *ℤ pos 1 ≡ z
-times_one (pos n) = omega (arith, ints)
-times_one (negsuc n) = omega (arith, ints)
-
-length_agrees : (w : Beside) (number : ShortDecimal) (t z : ℤ) → z ≢ nan → length_of number ≡ Some t → Agrees w t (fraction_of number) (Some z) (Some (Decimal (record { whole = z; places = 0 })))
-length_agrees w number t z apart e =
-    let parts = length_is number t e in
-    let whole : number.whole *ℤ pos (10 ^ 0) ≡ t = times_one number.whole ∙ parts.1.0 in
-    let own : z *ℤ pos (10 ^ number.places) ≡ z = ap (λ (k : ℕ). z *ℤ pos (10 ^ k)) parts.0 ∙ times_one z in
-    (λ c. (ap (λ (a : ℤ). compares c a t) (sym own) ∙ ap (λ (b : ℤ). compares c (z *ℤ pos (10 ^ number.places)) b) (sym whole), ap (λ (b : ℤ). compares c b z) (sym whole) ∙ ap (λ (a : ℤ). compares c (number.whole *ℤ pos (10 ^ 0)) a) (sym own)), λ _. apart)
-
-place_agrees : ComparesAsDecimals → ShortConstants → (w : Beside) (n : ℕ) (shape : Shape) (p : Place) (number : ShortDecimal) (o : Operand) (t : ℤ) (m : Measured) (v : Value) → desk_place shape p ≡ Some o → constant_at p number n ≡ Some t → IsReportedAs w n shape m v → Agrees w t (fraction_of number) (operand_value o v) (given_at p m)
-place_agrees law short w n shape Whole number o t m v e f h =
-    agrees law w t (fraction_of number) n (operand_value o v) (given_at Whole m) (constant_is short number n t f) (place_alike w n shape Whole o m v tt e h)
-place_agrees law short w n shape (ItemPlace i) number o t m v e f h =
-    agrees law w t (fraction_of number) n (operand_value o v) (given_at (ItemPlace i) m) (constant_is short number n t f) (place_alike w n shape (ItemPlace i) o m v tt e h)
-place_agrees law short w n OneShape LengthPlace number o t m v e f h = absurd (none-some o e)
-place_agrees law short w n First LengthPlace number o t m v e f h = absurd (none-some o e)
-place_agrees law short w n (SeveralShape most) LengthPlace number o t m v e f h = absurd (none-some o e)
-place_agrees law short w n (LengthShape most) LengthPlace number o t (One g) v e f h = absurd h
-place_agrees law short w n (LengthShape most) LengthPlace number o t (Several gs) (WholeResult z) e f h = absurd h
-place_agrees law short w n (LengthShape most) LengthPlace number o t (Several gs) (ListResult []) e f h = absurd h
-place_agrees law short w n (LengthShape most) LengthPlace number o t (Several gs) (ListResult (z ∷ zs)) e f h =
-    subst (λ (k : Operand). Agrees w t (fraction_of number) (operand_value k (ListResult (z ∷ zs))) (Some (Decimal (record { whole = pos (length gs); places = 0 })))) (same_Some (ItemOperand 0) o e)
-    (subst (λ (k : ℤ). Agrees w t (fraction_of number) (Some k) (Some (Decimal (record { whole = pos (length gs); places = 0 })))) (sym h.0) (length_agrees w number t (pos (length gs)) (apart_pos (length gs)) f))
-
-in_order_so : (b : Bool) (c : Comparison) (z t : ℤ) (x y : Fraction) → ((k : Comparison) → (compares k z t ≡ compares_exactly k x y) × (compares k t z ≡ compares_exactly k y x)) → compares (in_turn b c) z t ≡ in_order b (compares_exactly c) x y
-in_order_so true c z t x y h = compares_turned c z t ∙ (h c).1
-in_order_so false c z t x y h = (h c).0
-
+use Rattle.canary_argo.proofs.SamePlaces.{Agrees, IsAlike, agrees, apart_nan, compares_turned, in_order_so, place_agrees, place_alike, times_one}
 -- ---- what is no decimal
 
 -- what lies below each constant, and what lies above

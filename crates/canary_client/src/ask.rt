@@ -17,7 +17,7 @@ ghost use Rattle.canary_client.specs.Promises.{intent_of, IsFor, IsSettledAt};
 ghost use Rattle.canary_client.specs.Promises.{IsQuery, IsSentFor, reply_line};
 
 use crate::each::{Named, commands_of};
-use crate::journals::{asked, asked_instead, journal_on, settled};
+use crate::journals::{asked, asked_instead, device_at, journal_on, settled};
 use crate::outcome::{Outcome, Stop, say, say_of, show};
 use crate::place::{Place as DeskPlace, caller_of, journal_of, place_of};
 use crate::plain::{json_of, line_of};
@@ -29,7 +29,7 @@ use canary_base::names::Name;
 use canary_journal::entry::{Kept, Place, Reply, Wish};
 use canary_journal::journal::Journal;
 use canary_records::device::Device;
-use canary_records::file::{FileDevice, OpenFault, sync_folder};
+use canary_records::file::FileDevice;
 use canary_sending::kept::KeptJournal;
 use canary_sending::network::Network;
 use canary_words::words::Call;
@@ -57,7 +57,7 @@ pub fn ask<W: Write, F: Write>(
     is_terminal: bool,
 ) -> Outcome {
     let journal = journal_of(rt, &call.journal).ok();
-    match try_ask(rt, call, output, errors, is_terminal) {
+    match try_ask(rt, &call, output, errors, is_terminal) {
         Ok(outcome) => outcome,
         Err(stop) => tell_of(rt.alloc(), stop, &journal, errors),
     }
@@ -76,7 +76,7 @@ fn tell_of<F: Write>(alloc: Global, stop: Stop, journal: &Option<Text>, errors: 
 
 fn try_ask<W: Write, F: Write>(
     rt: &HostRuntime,
-    call: Call,
+    call: &Call,
     output: &mut W,
     errors: &mut F,
     is_terminal: bool,
@@ -87,14 +87,27 @@ fn try_ask<W: Write, F: Write>(
     let place = place_of(rt, &call.desk)?;
     let caller = caller_of(rt, &call.caller)?;
     if call.is_argo {
-        return ask_each(rt, &call, &place, caller, output, errors, is_terminal);
+        return ask_each(rt, call, &place, caller, output, errors, is_terminal);
     }
+    ask_plain(rt, call, &place, caller, output, errors, is_terminal)
+}
+
+// Asks the command that the words are.
+fn ask_plain<W: Write, F: Write>(
+    rt: &HostRuntime,
+    call: &Call,
+    place: &DeskPlace,
+    caller: Name,
+    output: &mut W,
+    errors: &mut F,
+    is_terminal: bool,
+) -> Result<Outcome, Stop> {
     let asking = read_asking(rt, &call.command)?;
     let key = key_of(rt.alloc(), &call.key, "")?;
     ask_one(
         rt,
-        &call,
-        &place,
+        call,
+        place,
         caller,
         asking,
         key,
@@ -213,13 +226,7 @@ fn ask_kept<N: Network, D: Device, W: Write, F: Write>(
 // The journal's file, open and locked, with its name on the disk.
 fn device_of(rt: &HostRuntime, journal: &Option<Text>) -> Result<FileDevice, Stop> {
     let path = journal_of(rt, journal)?;
-    match FileDevice::open(rt, path.as_str()) {
-        Ok(device) if sync_folder(rt, path.as_str()) => Ok(device),
-        Ok(_) => Err(Stop::Journal),
-        Err(OpenFault::InUse) => Err(Stop::InUse),
-        Err(OpenFault::NoFile) => Err(Stop::JournalNoFile),
-        Err(OpenFault::Failed) => Err(Stop::Journal),
-    }
+    device_at(rt, path.as_str())
 }
 
 // Where what was asked stands in a journal once it is settled: at which place, and whether it is

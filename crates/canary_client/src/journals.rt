@@ -15,6 +15,7 @@ use canary_base::names::Name;
 use canary_journal::entry::{Entry, Wish};
 use canary_journal::meaning::{Meaning, meaning_of};
 use canary_records::device::Device;
+use canary_records::file::{FileDevice, OpenFault, sync_folder};
 use canary_records::store::Store;
 use canary_sending::kept::{KeptJournal, Opened, begin, open};
 use canary_sending::network::{Heard, Network, Why, request};
@@ -26,6 +27,21 @@ const LAST: u32 = 1_000_000_000;
 
 // A command that would change nothing if it were settled.
 const PROBE: &str = "{\"tick\":{\"service\":\"probe\"}}";
+
+/// The journal's file of this path, open and locked, with its name on the disk.
+///
+/// # Errors
+/// `InUse` if another client has it open; `JournalNoFile` if it is no regular file; `Journal` if it
+/// cannot be opened, or its folder not synced.
+pub fn device_at(rt: &HostRuntime, path: &str) -> Result<FileDevice, Stop> {
+    match FileDevice::open(rt, path) {
+        Ok(device) if sync_folder(rt, path) => Ok(device),
+        Ok(_) => Err(Stop::Journal),
+        Err(OpenFault::InUse) => Err(Stop::InUse),
+        Err(OpenFault::NoFile) => Err(Stop::JournalNoFile),
+        Err(OpenFault::Failed) => Err(Stop::Journal),
+    }
+}
 
 /// The journal of a caller on a device: as it stands there, or else it begins with what the desk
 /// says that it has settled of the caller. If the device is in doubt, it may have lost its journal,

@@ -111,9 +111,16 @@ pub fn service_of(word: &Text) -> Result<Name, Stop> {
     }
 }
 
-// What was given, or the variable of the environment that stands for it. One that is no text counts
-// as one that is not there.
-fn given_or(rt: &HostRuntime, given: &Option<Text>, variable: &str) -> Result<Option<Text>, Stop> {
+/// What was given, or the variable of the environment that stands for it. One that is no text
+/// counts as one that is not there.
+///
+/// # Errors
+/// `Memory`.
+pub fn given_or(
+    rt: &HostRuntime,
+    given: &Option<Text>,
+    variable: &str,
+) -> Result<Option<Text>, Stop> {
     if let Some(given) = given {
         return Ok(Some(given.copy(rt.alloc())?));
     }

@@ -1,14 +1,14 @@
 //! An entry as a line of JSON (RFC 8259).
-ghost use Rattle.std.specs.Prelude.{◌≡◌, nat_le, IsTrue, Some, IfOk, string_bytes, codes};
+ghost use Rattle.std.specs.Prelude.{◌≡◌, nat_le, IsTrue, Some, IfOk, OnOk, string_bytes, codes};
 ghost use Rattle.canary_base.specs.Names.{is_name};
-ghost use Rattle.serde_json.specs.Data.{string};
+ghost use Rattle.serde_json.specs.Data.{string, boolean, put as with_member};
 ghost use Rattle.serde_json.specs.Read.{read};
-ghost use Rattle.serde_json.specs.View.{view};
+ghost use Rattle.serde_json.specs.View.{view, members_view};
 ghost use Rattle.serde_json.specs.Find.{as_str};
 ghost use Rattle.canary_records.specs.Texts.{HasNoLf};
 ghost use Rattle.canary_canonical.specs.Forms.{at, by_key, null_or, number_up_to};
 ghost use Rattle.canary_canonical.specs.Reads.{IsRead};
-ghost use Rattle.canary_canonical.specs.Texts.{only, data_or_null};
+ghost use Rattle.canary_canonical.specs.Texts.{only, data_or_null, whole_data};
 ghost use Rattle.canary_journal.specs.Lines.{begun_data, asked_data, instead_data, settled_data};
 ghost use Rattle.canary_journal.specs.Lines.{entry_data, line_of, is_word, keeps_limits};
 ghost use Rattle.canary_journal.specs.Lines.{wish_in, reply_in, begun_in, asked_in, instead_in};
@@ -19,7 +19,7 @@ use canary_base::error::Memory;
 use canary_base::lists::Text;
 use canary_base::names::Name;
 use canary_canonical::form::{FormFault, name_at, number_at, only_member, text_in};
-use serde_json::{Value, json};
+use serde_json::{Map, Value, json, put};
 use std::alloc::{AllocError, Global};
 
 /// The line of an entry, without an end of line, or `Memory`. It is read as the entry, and no
@@ -89,13 +89,54 @@ fn asked_value(alloc: Global, number: u32, wish: &Wish) -> Result<Value, AllocEr
     ensures value { IfOk result (λ value. view value ≡ asked_data number wish.now) }
     ensures kept { IfOk result (λ _. IsTrue (is_word number)) }
 {
-    let key = text_or_null(alloc, &wish.key)?;
-    json!(in alloc; {
-        "body": wish.body.as_str(),
-        "intent": wish.intent.as_str(),
-        "key": key,
-        "number": number
-    })
+    let mut members = Map::new(alloc);
+    put_asked(alloc, &mut members, number, wish)?;
+    Ok(Value::Object(members))
+}
+
+fn put_asked(
+    alloc: Global,
+    members: &mut Map<String, Value>,
+    number: u32,
+    wish: &Wish,
+) -> Result<(), AllocError>
+    ensures { OnOk result (members_view members.new.entries
+        ≡ with_member (codes "number") (whole_data number)
+        (with_member (codes "key") (data_or_null string wish.now.key)
+        (with_member (codes "intent") (string wish.now.intent)
+        (with_member (codes "body") (string wish.now.body)
+        (members_view members.old.entries))))) }
+{
+    put_text(alloc, members, "body", wish.body.as_str())?;
+    put_text(alloc, members, "intent", wish.intent.as_str())?;
+    put_text_or_null(alloc, members, "key", &wish.key)?;
+    put(members, alloc, "number", Value::from(number))
+}
+
+fn put_text(
+    alloc: Global,
+    members: &mut Map<String, Value>,
+    key: &str,
+    text: &str,
+) -> Result<(), AllocError>
+    ensures { OnOk result (members_view members.new.entries
+        ≡ with_member key.now (string text.now) (members_view members.old.entries)) }
+{
+    let text = Value::try_from_str(alloc, text)?;
+    put(members, alloc, key, text)
+}
+
+fn put_text_or_null(
+    alloc: Global,
+    members: &mut Map<String, Value>,
+    key: &str,
+    text: &Option<Text>,
+) -> Result<(), AllocError>
+    ensures { OnOk result (members_view members.new.entries
+        ≡ with_member key.now (data_or_null string text.now) (members_view members.old.entries)) }
+{
+    let text = text_or_null(alloc, text)?;
+    put(members, alloc, key, text)
 }
 
 fn instead_value(alloc: Global, number: u32, body: &Text) -> Result<Value, AllocError>
@@ -110,13 +151,38 @@ fn settled_value(alloc: Global, number: u32, reply: &Reply) -> Result<Value, All
     ensures kept { IfOk result (λ _. IsTrue (is_word number)) }
     ensures status { IfOk result (λ _. IsTrue (nat_le reply.now.status 65535)) }
 {
-    let (late, status) = (reply.is_late, reply.status);
-    json!(in alloc; {
-        "body": reply.body.as_str(),
-        "late": late,
-        "number": number,
-        "status": status
-    })
+    let mut members = Map::new(alloc);
+    let (is_late, status) = (reply.is_late, reply.status);
+    put_settled(
+        alloc,
+        &mut members,
+        reply.body.as_str(),
+        is_late,
+        number,
+        status,
+    )?;
+    Ok(Value::Object(members))
+}
+
+fn put_settled(
+    alloc: Global,
+    members: &mut Map<String, Value>,
+    body: &str,
+    is_late: bool,
+    number: u32,
+    status: u16,
+) -> Result<(), AllocError>
+    ensures { OnOk result (members_view members.new.entries
+        ≡ with_member (codes "status") (whole_data status)
+        (with_member (codes "number") (whole_data number)
+        (with_member (codes "late") (boolean is_late)
+        (with_member (codes "body") (string body.now)
+        (members_view members.old.entries))))) }
+{
+    put_text(alloc, members, "body", body)?;
+    put(members, alloc, "late", Value::from(is_late))?;
+    put(members, alloc, "number", Value::from(number))?;
+    put(members, alloc, "status", Value::from(status))
 }
 
 /// The entry whose line this is.

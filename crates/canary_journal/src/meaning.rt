@@ -1,5 +1,5 @@
 //! What a reply means for the request that it answers.
-ghost use Rattle.std.specs.Prelude.{◌≡◌, ◌==◌, ◌&&◌, [], ◌∷◌, IfOk, codes};
+ghost use Rattle.std.specs.Prelude.{◌≡◌, ◌==◌, ◌&&◌, [], ◌∷◌, IfOk, codes, map};
 ghost use Rattle.serde_json.specs.View.{view};
 ghost use Rattle.std.specs.Prelude.{Some};
 ghost use Rattle.canary_journal.specs.Meanings.{meaning_of, meaning_in, meaning_with, ahead};
@@ -113,43 +113,59 @@ fn ahead(expected: Option<u32>) -> Meaning
 fn is_refusal(code: &str) -> bool
     ensures { result ≡ is_among refusal_codes code.now }
 {
-    matches!(
-        code,
-        "unknown-service"
-            | "service-exists"
-            | "bad-condition"
-            | "interval-needed"
-            | "duplicate-metric"
-            | "bad-dry-run"
-            | "unknown-template"
-            | "endless-metric"
-            | "bad-strategy"
-            | "in-progress"
-            | "already-stable"
-            | "not-in-progress"
-            | "not-paused"
-            | "not-aborted"
-            | "runs-spent"
-            | "unknown-run"
-            | "run-closed"
-            | "unknown-metric"
-            | "repeated-metric"
-            | "metric-closed"
-            | "recorded"
-            | "out-of-turn"
-            | "spent"
-            | "future"
-            | "too-early"
-            | "revisions-spent"
-    )
+    static CODES: [&str; 26] = [
+        "unknown-service",
+        "service-exists",
+        "bad-condition",
+        "interval-needed",
+        "duplicate-metric",
+        "bad-dry-run",
+        "unknown-template",
+        "endless-metric",
+        "bad-strategy",
+        "in-progress",
+        "already-stable",
+        "not-in-progress",
+        "not-paused",
+        "not-aborted",
+        "runs-spent",
+        "unknown-run",
+        "run-closed",
+        "unknown-metric",
+        "repeated-metric",
+        "metric-closed",
+        "recorded",
+        "out-of-turn",
+        "spent",
+        "future",
+        "too-early",
+        "revisions-spent",
+    ];
+    is_one_of(code, &CODES)
+}
+
+// Whether the code is one of these.
+fn is_one_of(code: &str, own: &[&str]) -> bool
+    ensures { result ≡ is_among (map (λ text. text.now) own.now) code.now }
+{
+    for text in own {
+        if code == *text {
+            return true;
+        }
+    }
+    false
 }
 
 /// Whether a desk refuses a message that it cannot read with this code and the status 400.
 pub fn is_of_message(code: &str) -> bool
     ensures { result ≡ is_among message_codes code.now }
 {
-    matches!(
-        code,
-        "malformed" | "bad-name" | "bad-number" | "unsupported" | "unreadable"
-    )
+    static CODES: [&str; 5] = [
+        "malformed",
+        "bad-name",
+        "bad-number",
+        "unsupported",
+        "unreadable",
+    ];
+    is_one_of(code, &CODES)
 }

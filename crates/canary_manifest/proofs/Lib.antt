@@ -3,3 +3,4 @@ pub mod Digits
 pub mod Items
 pub mod TemplateRows
 pub mod CommandRows
+pub mod Metrics

@@ -4,7 +4,9 @@ ghost use Rattle.serde_json.specs.View.{view, items_view};
 ghost use Rattle.canary_canonical.specs.Forms.{each, list_of};
 ghost use Rattle.canary_canonical.specs.Reads.{IsRead};
 ghost use Rattle.canary_manifest.specs.Members.{any_item, some_item, in_member_or};
-ghost use Rattle.canary_manifest.specs.Templates.{metric_of, dry_run_name, template_of};
+ghost use Rattle.canary_manifest.specs.Templates.{metric_of, numbers_of, dry_run_name, template_of};
+ghost use Rattle.canary_manifest.specs.Templates.{metric_by};
+ghost use Rattle.canary_canonical.specs.Readings.{metric_with};
 ghost use Rattle.canary_manifest.specs.Templates.{is_unsupported_metric, is_unsupported_template};
 ghost use Rattle.canary_manifest.specs.Templates.{is_unsupported_analysis_spec};
 
@@ -12,12 +14,26 @@ use crate::member::{
     condition_at, count_at, delay_at, duration_at, is_negative, is_no_empty_list, is_other_text,
     limit_at, member_of,
 };
-use canary_base::lists::Listed;
+use canary_base::durations::Seconds;
+use canary_base::lists::{Listed, Text};
+use canary_base::names::Label;
 use canary_canonical::form::{FormFault, dry_run_name_in, label_in, name_in};
 use canary_canonical::template_reading::{metric_with, template_with};
 use canary_plan::template_spec::{DryRunName, MetricSpec, TemplateSpec};
 use serde_json::Value;
 use std::alloc::Global;
+
+// The times, the counts and the limits of a metric.
+#[derive(Clone, Copy)]
+struct Numbers {
+    interval: Option<Seconds>,
+    delay: Seconds,
+    count: Option<u32>,
+    passes: Option<u32>,
+    failed: u32,
+    inconclusive: u32,
+    errors: u32,
+}
 
 // The template that a manifest asks for.
 #[tactic(auto, unfolding(crate::specs::Templates::template_of))]
@@ -62,19 +78,47 @@ fn metric_of(alloc: Global, metric: &Value) -> Result<MetricSpec, FormFault>
 {
     let name = member_of(metric, "name").ok_or(FormFault::Unreadable)?;
     let name = label_in(name).ok_or(FormFault::Unreadable)?;
+    let numbers = numbers_of(metric).ok_or(FormFault::Unreadable)?;
     let success = condition_at(alloc, metric, "successCondition")?;
     let failure = condition_at(alloc, metric, "failureCondition")?;
-    let interval = duration_at(metric, "interval").ok_or(FormFault::Unreadable)?;
-    let delay = delay_at(metric, "initialDelay").ok_or(FormFault::Unreadable)?;
-    let count = count_at(metric, "count").ok_or(FormFault::Unreadable)?;
-    let passes = count_at(metric, "passAfter").ok_or(FormFault::Unreadable)?;
-    let failed = limit_at(metric, "failureLimit", 0).ok_or(FormFault::Unreadable)?;
-    let inconclusive = limit_at(metric, "inconclusiveLimit", 0).ok_or(FormFault::Unreadable)?;
-    let errors = limit_at(metric, "consecutiveErrorLimit", 4).ok_or(FormFault::Unreadable)?;
+    metric_by(name, success, failure, &numbers).ok_or(FormFault::Unreadable)
+}
+
+// The metric, if its parts keep their limits.
+fn metric_by(
+    name: Label,
+    success: Option<Text>,
+    failure: Option<Text>,
+    numbers: &Numbers,
+) -> Option<MetricSpec>
+    ensures { result ≡ metric_by (metric_with name success failure) numbers.now }
+{
     metric_with(
         name,
         success,
         failure,
+        numbers.interval,
+        numbers.delay,
+        numbers.count,
+        numbers.passes,
+        numbers.failed,
+        numbers.inconclusive,
+        numbers.errors,
+    )
+}
+
+// The times, the counts and the limits of a metric, with their defaults.
+fn numbers_of(metric: &Value) -> Option<Numbers>
+    ensures { result ≡ numbers_of (view metric.now) }
+{
+    let interval = duration_at(metric, "interval")?;
+    let delay = delay_at(metric, "initialDelay")?;
+    let count = count_at(metric, "count")?;
+    let passes = count_at(metric, "passAfter")?;
+    let failed = limit_at(metric, "failureLimit", 0)?;
+    let inconclusive = limit_at(metric, "inconclusiveLimit", 0)?;
+    let errors = limit_at(metric, "consecutiveErrorLimit", 4)?;
+    Some(Numbers {
         interval,
         delay,
         count,
@@ -82,8 +126,7 @@ fn metric_of(alloc: Global, metric: &Value) -> Result<MetricSpec, FormFault>
         failed,
         inconclusive,
         errors,
-    )
-    .ok_or(FormFault::Unreadable)
+    })
 }
 
 // The names of the metrics that are dry-run; none where the member is absent.

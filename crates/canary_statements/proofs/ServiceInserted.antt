@@ -1,9 +1,10 @@
 -- What the INSERT of a service does.
-use Rattle.std.proofs.Common.{◌≡◌, ℕ, pos, List, [], ◌∷◌, ◌++◌, codes, slice_get, Some, Ok, Err, Result, OnOk, refl}
+use Rattle.std.proofs.Common.{◌≡◌, ℕ, pos, List, [], ◌∷◌, ◌++◌, codes, slice_get, Some, Ok, Err, Result, OnOk, refl, subst}
 use Rattle.sqlite.specs.declared.types.Value.TheVariants.{Null}
 use Rattle.sqlite.specs.declared.error.Error.{Error}
 use Rattle.sqlite.specs.Term.{lit, col}
 use Rattle.sqlite.specs.Table.{Table}
+use Rattle.sqlite.specs.Order.{Row}
 use Rattle.sqlite.specs.Cast.{cast_row}
 use Rattle.sqlite.specs.Command.TheVariants.{Insert}
 use Rattle.sqlite.specs.Source.TheVariants.{Values}
@@ -43,10 +44,13 @@ stands at = refl
 kept_as_given : (at : Layout) (row : ServiceRow) → cast_row (table at) (Null ∷ service_cells row) ≡ Null ∷ service_cells row
 kept_as_given at row = rw (cast_null, cast_whole (pos row.standing.state), cast_whole (pos row.standing.step), cast_whole (pos row.standing.entered), cast_whole (pos row.standing.hold), cast_whole (pos row.standing.background), cast_whole (pos row.standing.runs), cast_whole (pos row.standing.last)) refl
 
-pub service_inserted : (old new : State) (t : Tables) (row : ServiceRow) (r : Result ℕ Error) → IsReady old t → ExecutesInside 0 text (service_cells row) old new r → OnOk r (IsReady new (with_service (row) t))
-service_inserted old new t row (Err e) ready h = tt
-service_inserted old new t row (Ok count) ready h =
+as_given : (old new : State) (t : Tables) (row : ServiceRow) (r : Result ℕ Error) → IsReady old t → ExecutesInside 0 text (service_cells row) old new r → OnOk r (IsReady new (with_service (row) t))
+as_given old new t row (Err e) ready h = tt
+as_given old new t row (Ok count) ready h =
     let at = ready.stores.layout in
     let has = ready.stores.holds in
     services_now at old new t has (t.services ++ row ∷ [])
     (inserted at text 3 _ 12 (table at) (service_cells row) (is_insert at) (is_plain at) (stands at) service_cells row refl (kept_as_given at row) old new count has.schema h t.services has.numbered.1.1.1.0 has.services refl)
+
+pub service_inserted : (old new : State) (t : Tables) (row : ServiceRow) (r : Result ℕ Error) → IsReady old t → (given : Row) → ExecutesInside 0 text given old new r → given ≡ service_cells row → OnOk r (IsReady new (with_service (row) t))
+service_inserted old new t row r ready given h is = as_given old new t row r ready (subst (λ (cells : Row). ExecutesInside 0 text cells old new r) is h)

@@ -156,16 +156,36 @@ fn runs_copied(alloc: Global, service: &Service) -> Option<bool> {
     Some(runs.count == 2 && is_run(runs.open_runs.as_slice().first()))
 }
 
+fn service_copied(alloc: Global, web: &Service) -> Option<bool> {
+    Some(stands(&web.copy(alloc).ok()?))
+}
+
+fn time_passed(alloc: Global, web: &Service) -> Option<bool> {
+    Some(is_passed(&passed(alloc, web, B + 90)?))
+}
+
+fn passed_copied(alloc: Global, web: &Service) -> Option<bool> {
+    Some(is_passed(&passed(alloc, web, B + 90)?.copy(alloc).ok()?))
+}
+
+fn run_copied(alloc: Global, run: &OpenRun) -> Option<bool> {
+    Some(is_run(Some(&run.copy(alloc).ok()?)))
+}
+
+fn tallies_made(alloc: Global) -> Option<bool> {
+    Some(new_tallies(alloc, 3).ok()?.as_slice().len() == 3)
+}
+
 // The calls on a service.
 fn of_service(alloc: Global, web: &Service, call: u32) -> Option<bool> {
     match call {
-        0 => Some(stands(&web.copy(alloc).ok()?)),
+        0 => service_copied(alloc, web),
         1 => service_made(alloc, web),
-        2 => Some(is_passed(&passed(alloc, web, B + 90)?)),
-        3 => Some(is_passed(&passed(alloc, web, B + 90)?.copy(alloc).ok()?)),
-        4 => Some(is_run(Some(&web.open_runs().first()?.copy(alloc).ok()?))),
+        2 => time_passed(alloc, web),
+        3 => passed_copied(alloc, web),
+        4 => run_copied(alloc, web.open_runs().first()?),
         5 => runs_copied(alloc, web),
-        _ => Some(new_tallies(alloc, 3).ok()?.as_slice().len() == 3),
+        _ => tallies_made(alloc),
     }
 }
 
@@ -221,12 +241,24 @@ fn settlement(alloc: Global, decision: Decision) -> Option<Settlement> {
     })
 }
 
+// A copy of what a request comes to; none where memory was refused.
+fn decided_copy(alloc: Global, desk: &Desk, asked: &str) -> Option<Decision> {
+    decided(alloc, desk, asked)?.copy(alloc).ok()
+}
+
+// A copy of a promotion that is settled so; none where memory was refused.
+fn settlement_copy(alloc: Global, decision: Decision) -> Option<Settlement> {
+    settlement(alloc, decision)?.copy(alloc).ok()
+}
+
+fn settled(alloc: Global, desk: &Desk, asked: &str) -> Option<Settlement> {
+    settlement_copy(alloc, decided_copy(alloc, desk, asked)?)
+}
+
 // Whether a row's request comes to its reply, of which copies are made.
 fn is_decided(alloc: Global, desk: &Desk, row: &str) -> Option<bool> {
     let (asked, told) = split(row).ok()?;
-    let decision = decided(alloc, desk, asked)?.copy(alloc).ok()?;
-    let settled = settlement(alloc, decision)?.copy(alloc).ok()?;
-    Some(settled.receipt.reply.body.as_str() == told)
+    Some(settled(alloc, desk, asked)?.receipt.reply.body.as_str() == told)
 }
 
 fn check_desk(rt: &impl Abort, alloc: Global, desk: &Desk, rows: &str) {

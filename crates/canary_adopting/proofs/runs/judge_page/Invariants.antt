@@ -1,9 +1,0 @@
-use Rattle.canary_adopting.proofs.PageLemmas.{RunsSoFar, AreBegun}
-use Rattle.canary_adopting.proofs.Standing.{Goes}
-use Rattle.canary_adopting.proofs.runs.judge_page.Given as goal
-
--- the runs so far are found
-abbrev pub invariant-loop-place : goal.invariant-loop-place
-invariant-loop-place g l =
-    Goes g.Q.Reader.IsReady g.Q.Reader.place g.Q.Reader.below l.initial.conn l.conn
-    × RunsSoFar l.strategy l.name (AreBegun l.strategy l.name l.count l.last l.initial.runs l.initial.memo l.page) l.place (g.Q.Reader.shows l.initial.conn) (g.Q.Reader.shows l.conn) l.runs l.memo
