@@ -4,6 +4,19 @@
 # The tools without which nothing here runs, and those that `./check --without` may name.
 required=(rt bash python3 awk)
 optional=(cc strace sqlite3 curl pyyaml)
+optional+=(haproxy)
+optional+=(nginx)
+optional+=(openssl)
+# Where Debian has haproxy and nginx: only root's PATH has it.
+PATH=$PATH:/usr/sbin
+
+# A configuration of HAProxy with all that the examples ask of it.
+haproxy_of_scripts() {
+    printf '%s\n' defaults 'mode http' 'timeout connect 1s' 'timeout client 1s' 'timeout server 1s' \
+        'frontend f' 'bind 127.0.0.1:1' \
+        'http-request set-var(txn.token) http_auth_bearer,sha2(256),hex' \
+        "http-request set-var(txn.name) req.body,json_query('$.name')"
+}
 
 # The tool $1 is here, and does what the scripts ask of it; or the machine has IPv6.
 has() {
@@ -16,6 +29,8 @@ sys.exit(sys.version_info < (3, 10) or sqlite3.sqlite_version_info < (3, 37))' ;
         ipv6) python3 -c 'import socket; socket.socket(socket.AF_INET6).bind(("::1", 0))' ;;
         sqlite3) sqlite3 :memory: 'CREATE TABLE made (id INTEGER) STRICT' ;;
         pyyaml) python3 -c 'import yaml' ;;
+        haproxy) haproxy -c -f <(haproxy_of_scripts) ;;
+        nginx) nginx -V 2>&1 | grep -e --with-http_ssl_module ;;
         *) command -v "$1" ;;
     esac > /dev/null 2>&1 < /dev/null
 }
@@ -30,6 +45,8 @@ described() {
         strace) echo "strace, which has to be able to trace a process" ;;
         sqlite3) echo "sqlite3 3.37 or later" ;;
         pyyaml) echo "PyYAML, the module yaml of python3" ;;
+        haproxy) echo "haproxy 2.5 or later, built with OpenSSL" ;;
+        nginx) echo "nginx with its module http_ssl" ;;
         *) echo "$1" ;;
     esac
 }
@@ -58,9 +75,13 @@ left_out_without() {
             "backups, pages and copies in turn (tests/files/run)" ;;
         sqlite3) echo "sqlite3: what it reads in a desk's file, and files that it changed" \
             "(tests/tables/run, tests/files/run)" ;;
-        curl) echo "curl: its long request (tests/listener/run), and docs/API.md's session" \
-            "(tests/client/run)" ;;
+        curl) echo "curl: its long request (tests/listener/run), docs/API.md's session" \
+            "(tests/client/run), and roles by a proxy (tests/proxies/run)" ;;
         pyyaml) echo "pyyaml: manifests in YAML beside what PyYAML reads (tests/yaml/run)" ;;
+        haproxy) echo "haproxy: what follows a release by HAProxy, several desks behind it, roles" \
+            "and tunnels by it (tests/proxies/run)" ;;
+        nginx) echo "nginx: what follows a release by nginx, and roles by it (tests/proxies/run)" ;;
+        openssl) echo "openssl: roles by a proxy (tests/proxies/run)" ;;
     esac
 }
 

@@ -1,0 +1,47 @@
+"""What follow-haproxy and follow-nginx share: how a service stands, by `canary watch`."""
+import json
+import os
+import re
+import subprocess
+import sys
+import time
+
+# `canary watch` ends with this program, however that ends.
+WATCH = ["setpriv", "--pdeathsig", "TERM", "canary", "watch", "--forever", "--json", "--"]
+VERSION = re.compile("[A-Za-z0-9._-]{1,63}")
+
+
+def shares_of(line):
+    """The stable version, and the share of each in percent; all of it is the stable one's if the
+    release is aborted. ValueError, KeyError or TypeError if it is no line of `canary watch`."""
+    stand = json.loads(line)
+    stable, version = stand["stable"], stand["version"]
+    if not (VERSION.fullmatch(stable) and VERSION.fullmatch(version)):
+        raise ValueError("no version")
+    weight = 0 if stand["status"] == "Degraded" else range(101).index(stand["weight"])
+    return stable, {version: weight, stable: 100 if version == stable else 100 - weight}
+
+
+def follow(service, act):
+    """Calls `act` with the stable version and the shares, each second from the first line on, and
+    says what it answers, if it answers something else than before. While no desk answers, they are
+    the last ones. What a desk says is text from outside: only versions and weights pass."""
+    watch = subprocess.Popen([*WATCH, service], stdin=subprocess.DEVNULL, stdout=subprocess.PIPE)
+    os.set_blocking(watch.stdout.fileno(), False)
+    stand, said, rest = None, None, b""
+    while (piece := watch.stdout.read()) != b"":
+        *lines, rest = (rest + (piece or b"")).split(b"\n")
+        for line in lines:
+            try:
+                stand = shares_of(line)
+            except (ValueError, KeyError, TypeError, RecursionError):
+                print(f"no line of canary watch: {line[:200]!r}", file=sys.stderr, flush=True)
+        try:
+            told = stand and act(*stand)
+        except (OSError, ValueError, subprocess.SubprocessError) as error:
+            told = f"{type(error).__name__}: {error}"
+        if told and told != said:
+            print(told, file=sys.stderr, flush=True)
+        said = told
+        time.sleep(1)
+    sys.exit("canary watch has ended")

@@ -1,0 +1,217 @@
+"""Several desks behind HAProxy, by examples/operations/desks.haproxy.cfg: a part of proxies.py."""
+import concurrent.futures
+import contextlib
+import http.client
+import json
+import random
+import threading
+import time
+
+from parts import HAProxy, filled
+from world import (
+    ABORTED, ADDED, ENDED, PROMOTED, STARTED, Wrong, expect, free_port, shows, two_pauses,
+    wait_until,
+)
+
+GROUPS = ("shop", "pay", "mail", "edge")
+NOBODY = (421, "no desk has this name\n")
+
+
+class Group:
+    """The caller and the service of a group, and what a desk that has this group alone answers, by
+    the rules of docs/API.md."""
+
+    def __init__(self, name, seed):
+        self.caller, self.service = f"{name}-ops", f"{name}-web"
+        self.others = [other for other in GROUPS if other != name]
+        self.random = random.Random(f"{name} {seed}")
+        self.settled, self.place, self.version, self.stable = [], None, "v0", "v0"
+
+    def next(self):
+        """The method, the path and the command of the next request, and the reply to it. The status
+        of a service has a moment, which is left out."""
+        kind = self.random.choice(("new",) * 6 + ("kept", "reused", "ahead", "get", "get", "none"))
+        if kind == "new" or not self.settled:
+            command, reply = self.new_command()
+            self.settled.append((command, reply))
+            return self.put(len(self.settled), command, reply)
+        if kind == "get":
+            return "GET", f"/services/{self.service}", None, (200, self.stands())
+        if kind == "none":
+            return self.random.choice(self.nobodys())
+        return self.old(kind)
+
+    def put(self, number, command, reply):
+        return "PUT", f"/callers/{self.caller}/requests/{number}", command, reply
+
+    def old(self, kind):
+        """A request under a number that is not the next one."""
+        if kind == "ahead":
+            count = len(self.settled)
+            return self.put(count + 2, {"tick": {"service": self.service}},
+                            (409, f'{{"code":"ahead","expected":{count + 1}}}'))
+        number = self.random.randrange(len(self.settled))
+        command, reply = self.settled[number]
+        if kind == "reused":
+            command, reply = {"retry": {"service": "other"}}, (409, '{"code":"reused"}')
+        return self.put(number + 1, command, reply)
+
+    def nobodys(self):
+        """What no desk has, or not this one."""
+        other = self.random.choice(self.others)
+        added = {"service": {"version": "v0", "manifest": two_pauses(f"{other}-new")}}
+        return [
+            ("GET", f"/services/{self.service}-2", None, (404, '{"code":"unknown-service"}')),
+            ("GET", "/services/other-web", None, NOBODY),
+            ("PUT", "/callers/other-ops/requests/1", added, NOBODY),
+            self.put(len(self.settled) + 1, added, NOBODY),
+            ("GET", "/", None, NOBODY),
+        ]
+
+    def new_command(self):
+        """The next command, and the reply to it."""
+        if self.place is None:
+            return self.adds()
+        kind = self.random.choice(("start", "start", "promote", "promote", "promoteFull", "abort",
+                                   "retry", "tick", "other"))
+        if kind == "other":
+            # one of another group, which this desk does not have
+            other = self.random.choice(self.others)
+            return {"promote": {"service": f"{other}-web"}}, (422, '{"code":"unknown-service"}')
+        command = {kind: {"service": self.service}}
+        if kind == "start":
+            command[kind]["version"] = f"v{self.random.randrange(1000)}"
+        code = self.code_of(kind, command[kind].get("version"))
+        if code:
+            return command, (422, f'{{"code":"{code}"}}')
+        self.act(kind, command[kind].get("version"))
+        return command, (200, shows(self.service, *self.place))
+
+    def adds(self):
+        self.place = ADDED
+        manifest = two_pauses(self.service)
+        # a long one, which HAProxy has to see as a whole
+        manifest = {"metadata": {**manifest.pop("metadata"), "annotations": {}}, **manifest}
+        manifest["metadata"]["annotations"]["note"] = "x" * self.random.randrange(60000)
+        return ({"service": {"version": "v0", "manifest": manifest}},
+                (200, shows(self.service, *self.place)))
+
+    def code_of(self, kind, version):
+        """The code by which the rules refuse the command, or none."""
+        is_done, is_aborted = self.place[0] == "Healthy", self.place[0] == "Degraded"
+        if kind == "start":
+            if is_done:
+                return "already-stable" if version == self.stable else None
+            return None if is_aborted else "in-progress"
+        if kind == "retry":
+            return None if is_aborted else "not-aborted"
+        if kind == "tick":
+            return None
+        return "not-in-progress" if is_done or is_aborted else None
+
+    def act(self, kind, version):
+        """What the command does to a service with two pauses without an end."""
+        if kind in ("start", "retry"):
+            self.place, self.version = STARTED, version or self.version
+            if version == self.stable:
+                self.place = ENDED
+        elif kind == "promoteFull" or kind == "promote" and self.place == PROMOTED:
+            self.place, self.stable = ENDED, self.version
+        elif kind == "promote":
+            self.place = PROMOTED
+        elif kind == "abort":
+            self.place = (ABORTED[0], self.place[1], ABORTED[2])
+
+    def stands(self):
+        """The reply to the query of the service, without its moment."""
+        status, step, weight = self.place
+        return {"code": "ok", "hold": "none", "open": [], "runs": 0, "service": self.service,
+                "stable": self.stable, "status": status, "step": step, "version": self.version,
+                "weight": weight}
+
+
+class Sender:
+    """Sends the requests of a group, each until a desk answers."""
+
+    def __init__(self, group, port):
+        self.group, self.port, self.connection = group, port, None
+        self.sent = self.again = 0
+        self.slowest = 0.0
+
+    def ask(self, method, path, command):
+        """The status and the body of the reply; 503 if there is none."""
+        if self.connection is None:
+            self.connection = http.client.HTTPConnection("127.0.0.1", self.port, timeout=30)
+        try:
+            self.connection.request(method, path, None if command is None else json.dumps(command))
+            reply = self.connection.getresponse()
+            return reply.status, reply.read().decode()
+        except (OSError, http.client.HTTPException):
+            self.connection.close()
+            self.connection = None
+            return 503, ""
+
+    def send(self, count, is_over):
+        """So many requests, and further ones until it is over."""
+        while self.sent < count or not is_over.is_set():
+            method, path, command, wanted = self.group.next()
+            begun = time.monotonic()
+            while (found := self.ask(method, path, command))[0] in (502, 503, 504):
+                self.again += 1
+                time.sleep(.02)
+            self.slowest = max(self.slowest, time.monotonic() - begun)
+            if isinstance(wanted[1], dict):
+                found = found[0], {name: value for name, value in json.loads(found[1]).items()
+                                   if name != "moment"}
+            expect(f"{method} {path} {json.dumps(command)[:200]}", found, wanted)
+            self.sent += 1
+
+
+@contextlib.contextmanager
+def four_desks(world):
+    """Four desks by desks.haproxy.cfg, each by the name of its group, and HAProxy's port."""
+    with contextlib.ExitStack() as stack:
+        desks = {name: stack.enter_context(world.desk(f"desk-{name}")) for name in GROUPS}
+        folder, port = world.place("desks"), free_port()
+        places = [(f"127.0.0.1:{8101 + at}", f"127.0.0.1:{desks[name].port}")
+                  for at, name in enumerate(GROUPS)]
+        text = filled("desks.haproxy.cfg", ("127.0.0.1:8080", f"127.0.0.1:{port}"), *places)
+        stack.enter_context(HAProxy(folder, port, text))
+        yield desks, port
+
+
+def kill_for_a_while(desk, others):
+    """Kills a desk, and starts it again; meanwhile the others are answered. The seconds of that."""
+    before, begun = [sender.sent for sender in others], time.monotonic()
+    desk.kill()
+    time.sleep(1.5)
+    now = [sender.sent for sender in others]
+    desk.start()
+    if min(after - sent for after, sent in zip(now, before)) < 20:
+        raise Wrong(f"while a desk was away, the others went from {before} to {now} answers")
+    return time.monotonic() - begun
+
+
+def try_desks(world):
+    """Through HAProxy each request gets the reply that a desk of its group alone gives. As one desk
+    is killed and started again, no request of another group is slower, or is sent again."""
+    count, is_over = 2500 if world.is_whole else 250, threading.Event()
+    with four_desks(world) as (desks, port):
+        senders = {name: Sender(Group(name, count), port) for name in GROUPS}
+        others = [sender for name, sender in senders.items() if name != "pay"]
+        with concurrent.futures.ThreadPoolExecutor(len(GROUPS)) as pool:
+            sending = [pool.submit(sender.send, count, is_over) for sender in senders.values()]
+            try:
+                wait_until("a third is sent", lambda: senders["pay"].sent > count // 3
+                           or any(each.done() for each in sending))
+                away = kill_for_a_while(desks["pay"], others)
+            finally:
+                is_over.set()
+            for each in sending:
+                each.result()
+        if senders["pay"].slowest < 1 and not senders["pay"].again:
+            raise Wrong("no request of the desk that was killed had to wait")
+        expect("the others are answered at once", [sender.again for sender in others], [0, 0, 0])
+        slowest = max(sender.slowest for sender in others)
+        if slowest > away / 2:
+            raise Wrong(f"a request of another group took {slowest:.1f} of {away:.1f} seconds")

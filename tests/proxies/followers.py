@@ -1,0 +1,249 @@
+"""The followers of examples/operations with real proxies: what they set beside the desk's weight,
+and what stays when the desk, the proxy or the follower is away: parts of proxies.py."""
+import contextlib
+import json
+import shlex
+import time
+
+from parts import (
+    HAProxy, Nginx, children_of, filled, follower, is_alive, lasts, speaking, version, want_shares,
+)
+from silence import variables
+from world import Caller, Wrong, add, expect, free_port, wait_until
+
+# What a hostile desk may give for a version, and for a weight.
+NO_VERSIONS = (
+    "v2; disable frontend web", "v2\ndisable frontend web", "v2 weight 0; disable server web/v1",
+    "web/v1", "../v2", "", " v2", "v2\n", "v" * 64, 'v2;\n}\nreturn 500;', "v2 {", "$request_id",
+    "*", "\u001b[2J", "v\u0000", "\u00fc", None, 2, ["v2"], {"v2": 1})
+NO_WEIGHTS = ("20", "20; disable frontend web", -1, 101, 1 << 70, 20.5, None, [20], {})
+NO_LINES = (b"", b"null", b"[]", b'"v2"', b"{", b"\xff\xfe", b"{}", b'{"stable":"v1"}',
+            b"[" * 100000)
+
+
+def line(**members):
+    stand = {"stable": "v1", "version": "v2", "weight": 35, "status": "Paused"}
+    return json.dumps({**stand, **members}).encode()
+
+
+HOSTILE = [*NO_LINES, *(line(version=name) for name in NO_VERSIONS),
+           *(line(stable=name) for name in NO_VERSIONS),
+           *(line(weight=weight) for weight in NO_WEIGHTS)]
+
+
+def want_all_said(said):
+    def count():
+        return said().count("no line of canary watch: ")
+
+    wait_until("each is said", lambda: count() >= 2 * len(HOSTILE), 20)
+    expect("each is said once", count(), 2 * len(HOSTILE))
+
+
+def said_after(script_folder, lines):
+    """The variables under which `canary` writes these lines, and then nothing more."""
+    (script_folder / "lines").write_bytes(b"".join(each + b"\n" for each in lines))
+    return speaking(script_folder, f"cat {shlex.quote(str(script_folder / 'lines'))}")
+
+
+@contextlib.contextmanager
+def haproxy(folder):
+    """HAProxy by follow.haproxy.cfg, before two versions."""
+    port = free_port()
+    with version("v1") as first, version("v2") as second:
+        text = filled("follow.haproxy.cfg", ("/run/haproxy/admin.sock", folder / "socket"),
+                      ("bind :8081", f"bind 127.0.0.1:{port}"),
+                      ("127.0.0.1:9101", f"127.0.0.1:{first}"),
+                      ("127.0.0.1:9102", f"127.0.0.1:{second}"))
+        with HAProxy(folder, port, text) as proxy:
+            yield proxy
+
+
+def words_for(proxy):
+    return "follow-haproxy", "web", proxy.folder / "socket", "web"
+
+
+def want_weights(row, proxy, first, second):
+    wanted = {"v1": first, "v2": second}
+    try:
+        wait_until(row, lambda: proxy.weights() == wanted, 10)
+    except Wrong as wrong:
+        raise Wrong(f"{row}: {proxy.weights()} in place of {wanted}") from wrong
+    want_shares(row, proxy.port, wanted, 2)
+
+
+def try_haproxy(world):
+    """HAProxy has the desk's weights: through a release, after a restart of HAProxy, while the desk
+    is away, and after the follower was killed."""
+    with world.desk("haproxy") as desk, haproxy(desk.folder) as proxy:
+        add(desk)
+        ops = Caller(desk, "ops")
+        want_shares("before", proxy.port, {"v1": 100, "v2": 0}, 0)
+        with follower(desk.folder, variables(desk), *words_for(proxy)) as (process, _):
+            want_weights("20%", proxy, 80, 20)
+            proxy.restart()
+            want_weights("HAProxy restarted", proxy, 80, 20)
+            desk.kill()
+            lasts("the desk is away", lambda: proxy.weights() == {"v1": 80, "v2": 20})
+            proxy.restart()
+            want_weights("HAProxy restarted, and no desk", proxy, 80, 20)
+            desk.start()
+            ops.send({"promote": {"service": "web"}})
+            want_weights("50%", proxy, 50, 50)
+            watches = children_of(process)
+            expect("its canary watch", [is_alive(pid) for pid in watches], [True])
+        wait_until("canary watch ends with the follower", lambda: not is_alive(watches[0]), 10)
+        ops.send({"promote": {"service": "web"}})
+        lasts("no follower", lambda: proxy.weights() == {"v1": 50, "v2": 50}, 1.5)
+        with follower(desk.folder, variables(desk), *words_for(proxy)) as (_, said):
+            want_weights("another follower", proxy, 0, 100)
+            want_ends(desk, proxy, ops, said)
+
+
+def want_ends(desk, proxy, ops, said):
+    """A version without a server, and aborts, after which the stable version has all."""
+    ops.send({"start": {"service": "web", "version": "v3"}})
+    wait_until("v3 has no server",
+               lambda: said().endswith("web has no server v3: v2 has all\n"), 10)
+    want_weights("v3 has no server", proxy, 0, 100)
+    # HAProxy begins with another weight: still the stable version has all
+    proxy.restart()
+    want_weights("v3 has no server, and HAProxy restarted", proxy, 0, 100)
+    ops.send({"abort": {"service": "web"}})
+    ops.send({"start": {"service": "web", "version": "v1"}})
+    want_weights("back to v1", proxy, 20, 80)
+    ops.send({"abort": {"service": "web"}})
+    want_weights("aborted", proxy, 0, 100)
+    ops.send({"start": {"service": "web", "version": "v4"}})
+    ops.send({"promoteFull": {"service": "web"}})
+    wait_until("v4 has no server",
+               lambda: said().endswith("web has no server v4: nothing is changed\n"), 10)
+    want_weights("v4 has no server", proxy, 0, 100)
+
+
+def try_haproxy_words(world):
+    """No word of a hostile desk is a command of HAProxy's, and none ends the follower."""
+    folder = world.place("haproxy-words")
+    with haproxy(folder) as proxy:
+        spoken = said_after(folder, [*HOSTILE, line(), *HOSTILE])
+        with follower(folder, spoken, *words_for(proxy)) as (process, said):
+            want_weights("the last line that is one", proxy, 65, 35)
+            expect("it goes on", process.poll(), None)
+            want_all_said(said)
+            expect("in plain text", [mark for mark in said() if mark < " " and mark != "\n"], [])
+    folder = world.place("haproxy-degraded")
+    with haproxy(folder) as proxy:
+        proxy.ask("set server web/v2 weight 50")
+        spoken = said_after(folder, [line(status="Degraded")])
+        with follower(folder, spoken, *words_for(proxy)):
+            want_weights("Degraded", proxy, 100, 0)
+
+
+@contextlib.contextmanager
+def nginx(folder):
+    """nginx by follow.nginx.conf, before two versions; its follower has to run before it."""
+    port = free_port()
+    with version("v1") as first, version("v2") as second:
+        text = filled("follow.nginx.conf",
+                      ("/var/lib/canary-follow/web.conf;", f"{folder}/web.conf;"),
+                      ("listen 8081", f"listen 127.0.0.1:{port}"),
+                      ("127.0.0.1:9101", f"127.0.0.1:{first}"),
+                      ("127.0.0.1:9102", f"127.0.0.1:{second}"))
+        proxy = Nginx(folder, port, text)
+        try:
+            yield proxy
+        finally:
+            proxy.kill()
+
+
+def words_of(proxy):
+    return ["follow-nginx", "web", proxy.folder / "web.conf", *proxy.called()]
+
+
+def want_answers(row, proxy, first, second):
+    """Both versions have such shares, once nginx has loaded them."""
+    wanted, until = {"v1": first, "v2": second}, time.monotonic() + 10
+    while True:
+        try:
+            return want_shares(row, proxy.port, wanted, 11)
+        except Wrong:
+            if time.monotonic() > until:
+                raise
+
+
+def try_nginx(world):
+    """nginx has the desk's shares: through a release, after a restart, while the desk is away, and
+    after the follower was killed."""
+    with world.desk("nginx") as desk, nginx(desk.folder) as proxy:
+        add(desk)
+        ops = Caller(desk, "ops")
+        with follower(desk.folder, variables(desk), *words_of(proxy)) as (process, said):
+            wait_until("it writes its file", (desk.folder / "web.conf").exists, 10)
+            proxy.start()
+            want_answers("20%", proxy, 80, 20)
+            desk.kill()
+            proxy.restart()
+            want_answers("no desk, and nginx restarted", proxy, 80, 20)
+            desk.start()
+            ops.send({"promote": {"service": "web"}})
+            wait_until("50% are loaded", lambda: "'v2': 50" in said(), 10)
+            want_answers("50%", proxy, 50, 50)
+            watches = children_of(process)
+        wait_until("canary watch ends", lambda: not any(map(is_alive, watches)), 10)
+        ops.send({"promote": {"service": "web"}})
+        time.sleep(1.5)
+        want_shares("no follower", proxy.port, {"v1": 50, "v2": 50}, 11)
+        with follower(desk.folder, variables(desk), *words_of(proxy)) as (_, said):
+            want_answers("another follower", proxy, 0, 100)
+            want_refused(proxy, ops, said)
+
+
+def want_refused(proxy, ops, said):
+    """What is not loaded: a version without an upstream, and a configuration that nginx refuses."""
+    ops.send({"start": {"service": "web", "version": "v3"}})
+    wait_until("v3 has no upstream", lambda: said().endswith(
+        "there is no upstream web_v3: nothing is changed\n"), 10)
+    ops.send({"abort": {"service": "web"}})
+    good = proxy.file.read_text(encoding="utf-8")
+    proxy.file.write_text(good.replace("events {}", "events {}\nnonsense on;"), encoding="utf-8")
+    before = proxy.reloads()
+    ops.send({"start": {"service": "web", "version": "v1"}})
+    wait_until("a configuration that nginx refuses", lambda: said().count(
+        'unknown directive "nonsense"') == 1, 10)
+    want_shares("refused", proxy.port, {"v1": 0, "v2": 100}, 0)
+    expect("not reloaded", proxy.reloads(), before)
+    proxy.file.write_text(good, encoding="utf-8")
+    want_answers("it is right again", proxy, 20, 80)
+    ops.send({"abort": {"service": "web"}})
+    want_answers("aborted", proxy, 0, 100)
+
+
+def try_nginx_words(world):
+    """No word of a hostile desk comes into nginx's configuration, and nginx is not reloaded more
+    than once a second."""
+    folder = world.place("nginx-words")
+    (folder / "web.conf").write_text('split_clients "" $canary_web {\n* web_v1;\n}\n',
+                                     encoding="utf-8")
+    with nginx(folder) as proxy:
+        proxy.start()
+        spoken = said_after(folder, [*HOSTILE, line(), *HOSTILE])
+        with follower(folder, spoken, *words_of(proxy)) as (process, said):
+            want_answers("the last line that is one", proxy, 65, 35)
+            expect("it goes on", process.poll(), None)
+            want_all_said(said)
+        expect("its file", (folder / "web.conf").read_text(encoding="utf-8"),
+               'split_clients "$request_id" $canary_web {\n    35% web_v2;\n    * web_v1;\n}\n')
+        expect("nothing is left beside it", [*folder.glob("web.conf?*")], [])
+    folder = world.place("nginx-often")
+    (folder / "web.conf").write_text('split_clients "" $canary_web {\n* web_v1;\n}\n',
+                                     encoding="utf-8")
+    with nginx(folder) as proxy:
+        proxy.start()
+        lines = " ".join(shlex.quote(line(weight=weight).decode()) for weight in range(1, 41))
+        script = f'for line in {lines}; do echo "$line"; sleep 0.1; done\n'
+        script += f"echo {shlex.quote(line(status='Degraded').decode())}"
+        with follower(folder, speaking(folder, script), *words_of(proxy)) as (_, said):
+            wait_until("all lines are out", lambda: "'v2': 0" in said(), 20)
+            want_answers("Degraded", proxy, 100, 0)
+        # 40 lines in some 4 seconds: a reload for the first, and one a second
+        if not 2 <= proxy.reloads() <= 8:
+            raise Wrong(f"{proxy.reloads()} reloads in some 5 seconds")
