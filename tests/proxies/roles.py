@@ -228,7 +228,7 @@ def try_roles_nginx(world):
                       ("/etc/nginx/canary-clients.crt", folder / "ca.crt"),
                       ("/etc/nginx/canary.crt", folder / "server.crt"),
                       ("/etc/nginx/canary.key", folder / "server.key"),
-                      ("unix:/run/canary-nginx/roles.sock", f"unix:{folder}/roles.sock"),
+                      ("127.0.0.1:8079", f"127.0.0.1:{free_port()}"),
                       ("/run/canary-page", folder),
                       ("127.0.0.1:8080", f"127.0.0.1:{desk.port}"))
         front = Front(folder, port, lambda who: ["--cert", folder / f"{who}.crt", "--key",

@@ -1,0 +1,36 @@
+"""A service as a toy: service.py PORT VERSION ERRORS. It answers with its version, by 500 for such a
+share of the requests, and /metrics counts both for Prometheus."""
+import http.server
+import random
+import sys
+import threading
+
+PORT, VERSION, ERRORS = int(sys.argv[1]), sys.argv[2], float(sys.argv[3])
+counted, lock = {200: 0, 500: 0}, threading.Lock()
+
+
+class Handler(http.server.BaseHTTPRequestHandler):
+    protocol_version = "HTTP/1.1"
+    wbufsize = -1
+
+    def do_GET(self):  # pylint: disable=invalid-name
+        if self.path == "/metrics":
+            rows = [f'requests_total{{code="{code}"}} {count}\n' for code, count in counted.items()]
+            return self.answer(200, "# TYPE requests_total counter\n" + "".join(rows))
+        status = 500 if random.random() < ERRORS else 200
+        with lock:
+            counted[status] += 1
+        return self.answer(status, VERSION)
+
+    def answer(self, status, text):
+        self.send_response(status)
+        self.send_header("Content-Type", "text/plain; version=0.0.4")
+        self.send_header("Content-Length", str(len(text)))
+        self.end_headers()
+        self.wfile.write(text.encode())
+
+    def log_message(self, *_):  # pylint: disable=arguments-differ
+        """Nothing."""
+
+
+http.server.ThreadingHTTPServer(("127.0.0.1", PORT), Handler).serve_forever()
