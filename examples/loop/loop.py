@@ -18,7 +18,7 @@ import urllib.request
 
 HERE = pathlib.Path(__file__).resolve().parent
 OPERATIONS = HERE.parent / "operations"
-PARTS = ("v1", "v2", "v3", "prometheus", "haproxy", "desk")
+PARTS = ("v1", "v2", "v3", "prometheus", "desk", "web")
 # The share of errors of each version.
 VERSIONS = {"v1": 0.01, "v2": 0.01, "v3": 0.3}
 # How many requests the service gets in a second.
@@ -55,9 +55,9 @@ class Loop:
 
     def __init__(self, program, folder):
         self.folder = pathlib.Path(folder)
-        self.port = dict(zip((*PARTS, "web"), free_ports(len(PARTS) + 1)))
+        self.port = dict(zip(PARTS, free_ports(len(PARTS))))
         self.running, self.is_over = {}, threading.Event()
-        self.answered = collections.Counter()
+        self.answered, self.told = collections.Counter(), 0
         (self.folder / "bin").mkdir()
         (self.folder / "bin" / "canary").symlink_to(program)
         self.variables = {**os.environ, "PATH": f"{self.folder}/bin:{os.environ['PATH']}",
@@ -83,7 +83,7 @@ class Loop:
         self.start("haproxy", "haproxy", "-db", "-f", "haproxy.cfg")
         self.start("desk", "canary", "serve", "--listen", f"127.0.0.1:{self.port['desk']}", "--db",
                    "desk.db")
-        for name in (*PARTS, "web"):
+        for name in PARTS:
             wait_until(f"{name} listens", lambda name=name: self.listens(self.port[name]))
         threading.Thread(target=self.send_traffic, daemon=True).start()
         self.do("--argo", "template", "web.yaml")
@@ -167,7 +167,7 @@ class Loop:
     def reports(self):
         """What the agent has said since the last time."""
         lines = (self.folder / "agent.log").read_text(encoding="utf-8").splitlines()
-        new, self.told = lines[getattr(self, "told", 0):], len(lines)
+        new, self.told = lines[self.told:], len(lines)
         return new
 
     def show(self):
@@ -176,7 +176,7 @@ class Loop:
         stand, weights, count = self.stand(), self.weights(), max(1, sum(answered.values()))
         of = {version: sum(found for (name, _), found in answered.items() if name == version)
               for version in (*VERSIONS, "none")}
-        shares = " ".join(f"{name} {found * 100 // count:3}%" for name, found in of.items() if found)
+        shares = " ".join(f"{name} {found * 100 / count:3.0f}%" for name, found in of.items() if found)
         print(f"{time.strftime('%H:%M:%S')}  {stand['status']:11} step {stand['step']}"
               f"  {stand['version']} {stand['weight']:3}%  | "
               f"{' '.join(f'{name} {weight:>3}' for name, weight in weights.items())}  | "
@@ -215,7 +215,8 @@ def main():
         for line in json.loads(get(loop.port["desk"], "/services/web/history")[1])["lines"]:
             print(f"  {line}")
         print("\nWhat the follower did:")
-        print((loop.folder / "follower.log").read_text(encoding="utf-8").replace("\n", "\n  "))
+        for line in (loop.folder / "follower.log").read_text(encoding="utf-8").splitlines():
+            print(f"  {line}")
     finally:
         loop.stop_all()
 

@@ -164,17 +164,20 @@ def want_client(desk, front, tokens):
     with tunnel(front, "agent-web", **variables("agent-web")) as port:
         options = {"port": port, "caller": "agent-web", "journal": "agent.journal"}
         found = desk.do("report", "web", "1", "m", "1", **options)
-        expect("a report", found.status, DONE)
+        expect(f"a report: {found.errors}", found.status, DONE)
         expect("its verdict", json.loads(found.output)["verdict"], "Successful")
         found = desk.do("promote-full", "web", **options)
         expect("a promotion by an agent", (found.status, FOREIGN in found.errors), (PENDING, True))
         found = desk.do("promote-full", "web", port=port)
         expect("as somebody else", (found.status, found.errors.splitlines()[-1]),
                (PENDING, f"canary: {NOT_BEGUN}"))
-        page = subprocess.run(
-            ["curl", "-s", "-o", os.devnull, "-w", "%{http_code}", "-H", "Origin: https://a.example",
-             f"http://127.0.0.1:{port}/services/web"], stdout=subprocess.PIPE, check=False)
-        expect("a page of a browser", page.stdout, b"403")
+        for fields, status in ((["Host: desk"], b"200"), (["Host: 127.0.0.1"], b"403"),
+                               (["Host: desk", "Origin: https://a.example"], b"403")):
+            words = [word for field in fields for word in ("-H", field)]
+            page = subprocess.run(
+                ["curl", "-s", "-o", os.devnull, "-w", "%{http_code}", *words,
+                 f"http://127.0.0.1:{port}/services/web"], stdout=subprocess.PIPE, check=False)
+            expect(f"a page of a browser: {fields}", page.stdout, status)
     expect("nothing was promoted", desk.count("promote full"), {})
     with tunnel(front, "ops", **variables("ops")) as port:
         found = desk.do("promote-full", "web", port=port)
