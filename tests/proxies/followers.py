@@ -164,7 +164,7 @@ def want_answers(row, proxy, first, second):
     wanted, until = {"v1": first, "v2": second}, time.monotonic() + 10
     while True:
         try:
-            return want_shares(row, proxy.port, wanted, 11)
+            return want_shares(row, proxy.port, wanted, 12, 300)
         except Wrong:
             if time.monotonic() > until:
                 raise
@@ -191,7 +191,7 @@ def try_nginx(world):
         wait_until("canary watch ends", lambda: not any(map(is_alive, watches)), 10)
         ops.send({"promote": {"service": "web"}})
         time.sleep(1.5)
-        want_shares("no follower", proxy.port, {"v1": 50, "v2": 50}, 11)
+        want_shares("no follower", proxy.port, {"v1": 50, "v2": 50}, 12, 300)
         with follower(desk.folder, variables(desk), *words_of(proxy)) as (_, said):
             want_answers("another follower", proxy, 0, 100)
             want_refused(proxy, ops, said)

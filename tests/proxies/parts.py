@@ -195,7 +195,7 @@ def answers(port, count):
     return found
 
 
-def want_shares(row, port, wanted, within, count=400):
+def want_shares(row, port, wanted, within, count=200):
     """The share of each version, in percent, is such a one, or that many percent beside it; one
     that is to have none has none."""
     found = answers(port, count)
