@@ -18,7 +18,7 @@ from world import (
 
 HOST = "canary.example.com"
 NEW_KEY = ("-newkey", "ec", "-pkeyopt", "ec_paramgen_curve:P-256", "-nodes")
-PEOPLE = {"ops": "engineers", "agent-web": "agents", "reader": "readers"}
+PEOPLE = {"ops": "engineers", "agent": "agents", "reader": "readers"}
 TICK = '{"tick":{"service":"web"}}'
 FULL = '{"promoteFull":{"service":"web"}}'
 MEASURING = shows("web", "Progressing", 1, 20)
@@ -106,39 +106,46 @@ def want_rows(front):
     for row in (
             Row("reader", "PUT", "/callers/reader/requests/1", TICK, 403),
             Row("reader", "PUT", own + "1", TICK, 403),
-            Row("agent-web", "PUT", foreign, TICK, 403),
-            Row("agent-web", "PUT", foreign + "?/callers/agent-web/requests/1", TICK, 403),
+            Row("agent", "PUT", foreign, TICK, 403),
+            Row("agent", "PUT", foreign + "?/callers/agent-web/requests/1", TICK, 403),
             Row("ops", "PUT", own + "1", TICK, 403),
-            Row("agent-web", "PUT", own + "1", TICK, 200, MEASURING),
-            Row("agent-web", "PUT", own + "2", ' \t\r\n{ \n"tick" : {"service":"web"}}', 200,
+            *(Row("agent", "PUT", f"/callers/{name}/requests/1", TICK, 403)
+              for name in ("agents", "agentweb", "a", "my-agent", "gent", "reader")),
+            Row("agent", "PUT", "/callers/agent/requests/1", TICK, 200, MEASURING),
+            *(Row("ops", "PUT", f"/callers/{name}/requests/1", TICK, 403)
+              for name in ("ops-web", "op", "setup")),
+            Row("agent", "PUT", own + "1", TICK, 200, MEASURING),
+            Row("agent", "PUT", own + "2", ' \t\r\n{ \n"tick" : {"service":"web"}}', 200,
                 MEASURING),
             # the proxy sees a tick, and the desk refuses what has two members
-            Row("agent-web", "PUT", own + "3", TICK[:-1] + "," + FULL[1:], 400,
+            Row("agent", "PUT", own + "3", TICK[:-1] + "," + FULL[1:], 400,
                 '{"code":"unreadable"}'),
-            Row("agent-web", "PUT", own + "3", '{"report":{"service":"web","run":2,"entries":[{'
+            Row("agent", "PUT", own + "3", '{"report":{"service":"web","run":2,"entries":[{'
                 '"metric":"m","ordinal":1,"taken":0,"result":1}]}}', 422, '{"code":"unknown-run"}'),
-            *(Row("agent-web", "PUT", own + "4", body, 403) for body in FORBIDDEN),
-            Row("agent-web", "POST", own + "4", FULL, 403)):
+            *(Row("agent", "PUT", own + "4", body, 403) for body in FORBIDDEN),
+            Row("agent", "POST", own + "4", FULL, 403)):
         front.want(row)
     for who in PEOPLE:
         found = front.curl(who, "GET", "/services/web")
         expect(f"a query by {who}", found[0], 200)
         expect(f"a query by {who}", json.loads(found[1])["status"], "Progressing")
-    forbidden = Row("agent-web", "PUT", own + "4", FULL, 403)
+    forbidden = Row("agent", "PUT", own + "4", FULL, 403)
     for name in ("X-Canary-Rights", "X_Canary_Rights", "x-canary-rights"):
         front.want(forbidden, ("-H", f"{name}: engineers report"))
     front.want(forbidden, ("-H", "Transfer-Encoding: chunked"))
 
 
-def send_slowly(front, context, head):
-    """The status of a body that comes in two pieces, the second of which says what it is."""
-    with socket.create_connection(("127.0.0.1", front.port), 20) as plain, \
-            context.wrap_socket(plain, server_hostname=HOST) as stream:
-        stream.sendall(f"PUT /callers/agent-web/requests/4 HTTP/1.1\r\nHost: {HOST}\r\n{head}"
-                       f"Content-Length: {len(FULL)}\r\n\r\n{FULL[:1]}".encode())
-        time.sleep(.3)
-        stream.sendall(FULL[1:].encode())
-        return stream.recv(65536).split(b" ", 2)[1]
+def want_slow(front, context, fields):
+    """Bodies that come in two pieces, the second of which says what each is."""
+    for number, body, status in ((4, FULL, b"403"), (4, TICK, b"200"), (5, FULL, b"403")):
+        with socket.create_connection(("127.0.0.1", front.port), 20) as plain, \
+                context.wrap_socket(plain, server_hostname=HOST) as stream:
+            head = f"Host: {HOST}\r\n{fields}Content-Length: {len(body)}\r\n\r\n"
+            stream.sendall(f"PUT /callers/agent-web/requests/{number} HTTP/1.1\r\n{head}"
+                           f"{body[:1]}".encode())
+            time.sleep(.3)
+            stream.sendall(body[1:].encode())
+            expect(f"{body}, slowly", stream.recv(65536).split(b" ", 2)[1], status)
 
 
 @contextlib.contextmanager
@@ -149,7 +156,7 @@ def tunnel(front, who, **more):
     text = filled("tunnel.haproxy.cfg", ("bind 127.0.0.1:8080", f"bind 127.0.0.1:{port}"),
                   (f"proxy {HOST}:8443", f"proxy 127.0.0.1:{front.port}"),
                   ("/etc/canary/proxy-ca.crt", front.folder / "ca.crt"),
-                  ("/etc/canary/agent-web.pem", front.folder / f"{who}.pem"))
+                  ("/etc/canary/agent.pem", front.folder / f"{who}.pem"))
     proxy = HAProxy(folder, port, text)
     proxy.variables = {**os.environ, **more}
     with proxy:
@@ -161,7 +168,7 @@ def want_client(desk, front, tokens):
     def variables(who):
         return {"CANARY_TOKEN": tokens[who]} if tokens else {}
 
-    with tunnel(front, "agent-web", **variables("agent-web")) as port:
+    with tunnel(front, "agent", **variables("agent")) as port:
         options = {"port": port, "caller": "agent-web", "journal": "agent.journal"}
         found = desk.do("report", "web", "1", "m", "1", **options)
         expect(f"a report: {found.errors}", found.status, DONE)
@@ -185,7 +192,7 @@ def want_client(desk, front, tokens):
                (DONE, shows("web", "Healthy", 4, 100) + "\n"))
     expect("promoted once", desk.count("promote full"), {"web": 1})
     expect("what agents settled", [status for _, status, _ in desk.kept("agent-web")],
-           [200, 200, 422, 200])
+           [200, 200, 422, 200, 200])
 
 
 def try_roles_haproxy(world):
@@ -212,8 +219,7 @@ def try_roles_haproxy(world):
             expect("no token", front.curl(None, "GET", "/services/web")[0], 401)
             expect("another path", front.curl("ops", "GET", "/desk.html")[0], 403)
             context = ssl.create_default_context(cafile=folder / "ca.crt")
-            expect("a slow body", send_slowly(
-                front, context, f"Authorization: Bearer {tokens['agent-web']}\r\n"), b"403")
+            want_slow(front, context, f"Authorization: Bearer {tokens['agent']}\r\n")
             want_client(desk, front, tokens)
 
 
@@ -240,8 +246,8 @@ def try_roles_nginx(world):
             want_rows(front)
             want_strangers(front)
             context = ssl.create_default_context(cafile=folder / "ca.crt")
-            context.load_cert_chain(folder / "agent-web.pem")
-            expect("a slow body", send_slowly(front, context, ""), b"403")
+            context.load_cert_chain(folder / "agent.pem")
+            want_slow(front, context, "")
             want_client(desk, front, None)
 
 
