@@ -3,7 +3,7 @@
 // ---- options that several commands have
 
 pub(crate) const DESK_OPTION_HELP: &str = concat!(
-    "Where the desk listens: an address, or a name that is looked up once, as the call begins; ",
+    "Where the desk listens; a name is looked up once, as the call begins; ",
     "CANARY_DESK counts in its place [default: 127.0.0.1:8080]"
 );
 
