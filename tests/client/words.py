@@ -10,12 +10,13 @@ import tty
 
 from reports import COMMAND, INVALID_NAME, add_measured, metric
 from world import (
-    ADDED, CONTRADICTION, DONE, ENDED, KEY_USED, LOCAL, PROMOTED, REFUSED, STARTED, WORDS, Caller,
-    Wrong, add, answering, ask, environment, expect, free_port, process, running, shown,
+    ADDED, CONTRADICTION, DONE, ENDED, KEY_USED, LOCAL, PENDING, PROMOTED, REFUSED, STARTED, WORDS,
+    Caller, Wrong, add, answering, ask, environment, expect, free_port, process, running, shown,
     two_pauses, wait_until, want, want_delivered,
 )
 
-ADDRESS = "the desk's address is not IP:PORT (--desk or CANARY_DESK)"
+ADDRESS = "the desk's address is not HOST:PORT (--desk or CANARY_DESK)"
+NO_ADDRESS = "the system knows no address of the desk's name: nothing was asked"
 NO_CALLER = "a caller has to be given: --as NAME or CANARY_AS"
 NO_VERSION = "the VERSION is missing: a version is 1 to 63 of A-Z, a-z, 0-9, '.', '_' and '-'"
 BAD_VERSION = "the VERSION is invalid: a version is 1 to 63 of A-Z, a-z, 0-9, '.', '_' and '-'"
@@ -67,8 +68,8 @@ def try_variables(world):
                                 variables=only_desk), DONE,
              "web Paused, step 3, weight 50%, version v2, waits for a promotion\n")
         want("due", world.run(["due", "web"], desk.folder, variables=only_desk), REFUSED)
-        for name in ("nowhere", "", "127.0.0.1", "localhost:80", "127.0.0.1:65536",
-                     "http://127.0.0.1:80"):
+        for name in ("nowhere", "", ":80", "127.0.0.1", "localhost:", "localhost:http",
+                     "127.0.0.1:65536", "http://127.0.0.1:80", "no host:80", "a/b:80", "\u00f6:80"):
             for command in (["do", "--as", "ops", "--journal", "new", "tick", "web"],
                             ["get", "web"], ["watch", "web"], ["due", "web"], ["send", "x.csv"]):
                 found = world.run([command[0], "--desk", name, *command[1:]], desk.folder)
@@ -76,6 +77,27 @@ def try_variables(world):
         for name in ("", "Ops", "-ops", "ops-", "o" * 64, "o p", "\u00f6"):
             want(repr(name), desk.do("tick", "web", caller=name), WORDS, said=BAD_CALLER)
         want_delivered("variables", desk)
+
+
+def try_host_names(world):
+    """A desk by its host's name; a name that has no address (RFC 6761, 6.4)."""
+    with world.desk("names") as desk:
+        add(desk, "web")
+        named = ["--desk", f"localhost:{desk.port}"]
+        asked = ["do", *named, "--as", "ops", "--journal", "named.journal"]
+        want("do", world.run([*asked, "promote", "web"], desk.folder), DONE, shown(PROMOTED))
+        want("watch", world.run(["watch", *named, "--until", "Paused", "web"], desk.folder), DONE,
+             "web Paused, step 3, weight 50%, version v2, waits for a promotion\n")
+        want("get", world.run(["get", *named, "none"], desk.folder), REFUSED,
+             '{"code":"unknown-service"}\n')
+        want("due", world.run(["due", *named, "web"], desk.folder), REFUSED)
+        nowhere = ["--desk", f"nowhere.invalid:{desk.port}"]
+        for command in (["do", *nowhere, "--as", "two", "--journal", "two.journal", "tick", "web"],
+                        ["get", *nowhere, "web"], ["watch", *nowhere, "web"],
+                        ["due", *nowhere, "web"], ["send", *nowhere, "x.csv"]):
+            want(command[0], world.run(command, desk.folder), PENDING, said=NO_ADDRESS)
+        expect("no journal", (desk.folder / "two.journal").exists(), False)
+        want_delivered("names", desk)
 
 
 def try_words(world):

@@ -39,6 +39,7 @@ use Rattle.canary_argo.specs.Tokens.{is_held}
 use Rattle.canary_argo.specs.Trees.{Tree}
 use Rattle.canary_argo.specs.Trees.Tree.{Or, And, Not, Bracket, Compare, IsNaN, IsInf}
 use Rattle.canary_argo.proofs.PrintedTests.{EndsWord, IsLexed, IsSmall, Small, SmallOperand, close_lexed, constant_is, constant_small, desk_small, made_is, number_token, open_lexed, operand_tokens, place_small, test_lexed, test_tokens}
+
 -- ---- what the desk asks
 
 abbrev joined_signs : DeskTest → Token → DeskTest → List Token

@@ -57,6 +57,7 @@ use Rattle.canary_argo.proofs.Printed.{fit_is, nan_fit, inf_fit, guarded_is, non
 use Rattle.canary_argo.proofs.Groups.{spelled_tokens}
 use Rattle.canary_argo.proofs.Skeletons.{signs_of, unspelled}
 use Rattle.canary_argo.proofs.SamePlaces.{Agrees, IsAlike, agrees, apart_nan, compares_turned, in_order_so, place_agrees, place_alike, times_one}
+
 -- ---- what is no decimal
 
 -- what lies below each constant, and what lies above

@@ -54,6 +54,7 @@ outcome_of stop.NoMetric = Refused
 outcome_of stop.Query = Refused
 -- no answer came: the same call again finds out
 outcome_of stop.NotBegun = Pending
+outcome_of stop.DeskName = Pending
 outcome_of stop.NoDesk = Pending
 outcome_of stop.Unanswered = Pending
 outcome_of stop.RowUnanswered = Pending

@@ -60,7 +60,7 @@ impl Outcome {
 /// Why a call ended before it was done.
 #[derive(Clone, Copy, Debug, PartialEq, Eq)]
 pub enum Stop {
-    /// The desk's address is not an IP address and a port.
+    /// The desk's address is not a host and a port.
     Address,
     /// No caller is given.
     NoCaller,
@@ -116,6 +116,8 @@ pub enum Stop {
     Query,
     /// No desk said which number comes next.
     NotBegun,
+    /// The desk's name has no address.
+    DeskName,
     /// No desk answered a query.
     NoDesk,
     /// No desk settled what is pending.
@@ -183,8 +185,8 @@ impl Stop {
             Stop::Argo | Stop::ArgoCommand | Stop::ArgoNothing => Outcome::Words,
             Stop::OtherCaller | Stop::ReportInstead | Stop::KeyInstead => Outcome::Words,
             Stop::NoService | Stop::NoRun | Stop::NoMetric | Stop::Query => Outcome::Refused,
-            Stop::NotBegun | Stop::NoDesk | Stop::Unanswered => Outcome::Pending,
-            Stop::RowUnanswered | Stop::TimeOut => Outcome::Pending,
+            Stop::NotBegun | Stop::DeskName | Stop::NoDesk => Outcome::Pending,
+            Stop::Unanswered | Stop::RowUnanswered | Stop::TimeOut => Outcome::Pending,
             Stop::Reused | Stop::Ahead | Stop::Unread | Stop::KeyUsed => Outcome::Contradiction,
             Stop::Replaced | Stop::Spent | Stop::Refused => Outcome::Contradiction,
             Stop::RowReused | Stop::RowAhead | Stop::RowUnread => Outcome::Contradiction,
@@ -216,7 +218,7 @@ impl Stop {
 
     fn of_words(self) -> &'static str {
         match self {
-            Stop::Address => "the desk's address is not IP:PORT (--desk or CANARY_DESK)",
+            Stop::Address => "the desk's address is not HOST:PORT (--desk or CANARY_DESK)",
             Stop::NoCaller => "a caller has to be given: --as NAME or CANARY_AS",
             Stop::BadCaller => {
                 "the caller has an invalid name: 1 to 63 of a-z, 0-9 and '-', no '-' at an end"
@@ -266,6 +268,9 @@ impl Stop {
             Stop::Query => "the desk refused the query",
             Stop::NotBegun => {
                 "no desk said which number of this caller comes next: nothing was asked"
+            }
+            Stop::DeskName => {
+                "the system knows no address of the desk's name: nothing was asked"
             }
             Stop::Unanswered => UNANSWERED,
             Stop::RowUnanswered => {

@@ -8,7 +8,8 @@ use canary_base::lists::Text;
 use canary_base::names::Name;
 use canary_words::words::AskedDesk;
 use std::env::{self, VarError};
-use std::net::SocketAddr;
+use std::io::ErrorKind;
+use std::net::{SocketAddr, ToSocketAddrs};
 
 // The desk's address, if neither the words nor the environment give one.
 const DESK: &str = "127.0.0.1:8080";
@@ -31,21 +32,20 @@ pub struct Place {
     pub wait_seconds: Option<u64>,
 }
 
-/// The place that these words name; where they do not, the environment's CANARY_DESK does.
+/// The place that these words name; if they name none, that of the environment's CANARY_DESK. A
+/// host's name is looked up, once: of its addresses the first of IPv4 counts, else the first.
 ///
 /// # Errors
-/// `Address` if the address is not IP:PORT; `Memory`.
+/// `Address` if the text is not HOST:PORT; `DeskName` if the system knows no address of the name;
+/// `Memory`.
 pub fn place_of(rt: &HostRuntime, asked: &AskedDesk) -> Result<Place, Stop>
     ensures { IfOk result (λ place. (place.tries ≡ tries_of asked.now.tries)
         × (place.reply_seconds ≡ reply_seconds_of asked.now.timeout)
         × (place.wait_seconds ≡ asked.now.timeout)) }
 {
     let given = given_or(rt, &asked.desk, "CANARY_DESK")?;
-    let Ok(desk) = address_of(&given).parse::<SocketAddr>() else {
-        return Err(Stop::Address);
-    };
     Ok(Place {
-        desk,
+        desk: looked_up(rt, address_of(&given))?,
         tries: asked.tries.unwrap_or(TRIES).min(u32::MAX as u64) as u32,
         reply_seconds: asked.timeout.unwrap_or(SECONDS),
         wait_seconds: asked.timeout,
@@ -60,6 +60,45 @@ fn address_of(given: &Option<Text>) -> &str
         Some(given) => given.as_str(),
         None => DESK,
     }
+}
+
+// The address that a text HOST:PORT names.
+fn looked_up(rt: &HostRuntime, text: &str) -> Result<SocketAddr, Stop> {
+    if !may_name(text) {
+        return Err(Stop::Address);
+    }
+    match text.to_socket_addrs(rt) {
+        Ok(addresses) => preferred(addresses),
+        Err(fault) if fault.kind() == ErrorKind::InvalidInput => Err(Stop::Address),
+        Err(_) => Err(Stop::DeskName),
+    }
+}
+
+// Whether a text may be HOST:PORT: a host's name, or a number with its marks, and a port. So no
+// system is asked for a text that somebody meant otherwise, as a URL.
+fn may_name(text: &str) -> bool {
+    match text.rsplit_once(':') {
+        Some((host, _)) => !host.is_empty() && host.as_bytes().iter().all(is_host_byte),
+        None => false,
+    }
+}
+
+fn is_host_byte(byte: &u8) -> bool {
+    byte.is_ascii_alphanumeric() || b"-._:[]%".contains(byte)
+}
+
+// Of a host's addresses the first of IPv4, else the first.
+fn preferred<I: Iterator<Item = SocketAddr>>(addresses: I) -> Result<SocketAddr, Stop> {
+    let mut found = Err(Stop::DeskName);
+    for address in addresses {
+        if address.is_ipv4() {
+            return Ok(address);
+        }
+        if found.is_err() {
+            found = Ok(address);
+        }
+    }
+    found
 }
 
 /// The place of a call that waits: the most seconds are those of the whole call, and each exchange
