@@ -1,5 +1,4 @@
 //! `agent`: measurements by themselves.
-use crate::call::AgentCall;
 use crate::ended::Ended;
 use crate::manner::Manner;
 use crate::reader::Reader;
@@ -8,6 +7,7 @@ use canary_base::lists::Text;
 use canary_client::outcome::{Outcome, Stop, say};
 use canary_client::place::{given_or, place_of};
 use canary_client::tcp::Tcp;
+use canary_words::words::AgentCall;
 use std::fs::DirBuilder;
 use std::io::{Read, Write};
 use std::os::unix::fs::DirBuilderExt;

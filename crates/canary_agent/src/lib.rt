@@ -14,7 +14,6 @@ pub mod agent;
 mod asking;
 mod attended;
 mod beginning;
-pub mod call;
 mod ended;
 mod files;
 mod health;

@@ -12,6 +12,7 @@ ghost use Rattle.canary_cli.specs.Performed.{MayTell, AsksForOneThatTells, IsAsk
 use crate::argo::argo;
 use crate::check::check;
 use crate::place::Place;
+use canary_agent::agent::agent;
 use canary_base::lists::Text;
 use canary_base::moments::Moment;
 use canary_client::ask::ask;
@@ -342,6 +343,7 @@ fn client_outcome<R: Read, W: Write, F: Write>(
             let sought = Sought { waits: wait, late };
             due(rt, &desk, &services, sought, output, errors, is_terminal)
         }
+        Asked::Agent(call) => agent(rt, call, input, output, errors, is_terminal),
     }
 }
 
