@@ -72,3 +72,19 @@ impl<T: Drop> From<AllocFailed<T>> for Ended {
         Ended::Stopped(Stop::Memory)
     }
 }
+
+/// The worse of two outcomes.
+pub(crate) fn worse(one: Outcome, other: Outcome) -> Outcome {
+    if rank(one) < rank(other) { other } else { one }
+}
+
+fn rank(outcome: Outcome) -> u8 {
+    match outcome {
+        Outcome::Done => 0,
+        Outcome::Refused | Outcome::RowsRefused | Outcome::Held | Outcome::Late => 1,
+        Outcome::Pending => 2,
+        Outcome::Contradiction => 3,
+        Outcome::Words => 4,
+        Outcome::Local => 5,
+    }
+}
