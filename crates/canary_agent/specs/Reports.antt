@@ -1,5 +1,5 @@
 -- What a report says of what was measured, and which messages go out for it.
-use Rattle.std.specs.Prelude.{⊤, ◌≡◌, ◌⊎◌, ℕ, ◌≤◌, List, [], ◌∷◌, ◌++◌, length, None}
+use Rattle.std.specs.Prelude.{⊤, ◌≡◌, ◌⊎◌, ℕ, ◌≤◌, List, [], ◌∷◌, ◌++◌, length, None, Result, Ok, Err}
 use Rattle.canary_condition.specs.declared.outcome.Outcome.{Outcome}
 use Rattle.canary_condition.specs.declared.outcome.Outcome.TheVariants as outcome
 use Rattle.canary_plan.specs.declared.command.Command.{Command}
@@ -15,6 +15,8 @@ use Rattle.canary_client.specs.Beginning.{IsSettledSo}
 use Rattle.canary_measure.specs.declared.measured.Measured.{Measured}
 use Rattle.canary_measure.specs.Measures.{measured_of}
 use Rattle.canary_measure.specs.Results.{IsOutcomeOf}
+use Rattle.canary_fetch.specs.declared.fault.Fault.{Fault}
+use Rattle.canary_fetch.specs.declared.reply.Reply.{Reply}
 use Rattle.canary_provider.specs.declared.plan.Answer.{Answer}
 use Rattle.canary_provider.specs.Answers.{IsMeasured}
 use Rattle.canary_agent.specs.declared.plan.Served.{Served}
@@ -30,6 +32,16 @@ abbrev pub IsCame : Answer → ℕ → List ℕ → Came → Type 0
 IsCame answer status body (came.Measured m) = IsMeasured answer status body m
 IsCame answer status body (came.Failed text) =
     (m : Measured) → IsMeasured answer status body m → ⊥
+
+-- nothing was measured
+abbrev pub IsFailed : Came → Type 0
+IsFailed (came.Measured m) = ⊥
+IsFailed (came.Failed text) = ⊤
+
+-- what came of a message: that of its reply; without a reply nothing was measured
+abbrev pub IsCameOf : Answer → Result Reply Fault → Came → Type 0
+IsCameOf answer (Ok reply) c = IsCame answer reply.status reply.body.items c
+IsCameOf answer (Err fault) c = IsFailed c
 
 -- What is reported.
 

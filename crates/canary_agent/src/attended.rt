@@ -6,11 +6,11 @@ ghost use Rattle.canary_agent.specs.Lateness.{IsTooLate};
 
 use crate::asking::Asking;
 use crate::beginning::{Begun, came_for, shortest_limit, start, taking_of, with_asked};
+use crate::ended::worse;
 use crate::journal::OpenJournal;
 use crate::late::{Lateness, Sightings, is_late, is_too_late, seconds_late};
 use crate::look::{Due, Looked, look};
 use crate::manner::Manner;
-use crate::ended::worse;
 use crate::pauses::{NEVER, is_away, look_after, look_at, pause_after};
 use crate::plan::{Metric, Served};
 use crate::taken::{Came, failed};
@@ -162,8 +162,7 @@ impl Attended {
         self.open(rt, network, manner, output)?;
         let looked = look(rt.alloc(), network, self.served.name, TRIES)?;
         self.look_at = look_at(&looked, now, manner.is_once);
-        self.sightings
-            .take(rt.alloc(), looked.due.as_slice(), now)?;
+        self.sightings.take(rt.alloc(), looked.due.as_slice(), now)?;
         self.tell_late(rt.alloc(), &looked, now, errors)?;
         match self.run_given_up(manner, &looked, now) {
             Some(run) => self.abort(rt.alloc(), network, manner, run, output),

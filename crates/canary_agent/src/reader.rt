@@ -197,7 +197,11 @@ fn origin_of(rt: &HostRuntime, name: &str) -> io::Result<Origin> {
     if name == INPUT {
         return Ok(Origin::Input);
     }
-    let is_fifo = fs::metadata(rt, name)?.file_type().is_fifo();
+    let found = fs::metadata(rt, name)?;
+    if found.is_dir() {
+        return Err(ErrorKind::IsADirectory.into());
+    }
+    let is_fifo = found.file_type().is_fifo();
     let file = OpenOptions::new().read(true).write(is_fifo).open(rt, name)?;
     Ok(Origin::File(file))
 }

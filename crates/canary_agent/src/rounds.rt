@@ -71,8 +71,8 @@ impl Rounds {
     /// The services of these files, of which none was looked at.
     ///
     /// # Errors
-    /// `Manifests` if the files are not translated, and `errors` says why; `Connections`, `Clock`;
-    /// `Memory`.
+    /// `Manifests` if the files are not translated, and `errors` says why; `NoService` if there is
+    /// none; `Connections`, `Clock`; `Memory`.
     pub(crate) fn new<F: Write>(
         rt: &HostRuntime,
         named: &Named<'_>,
@@ -97,6 +97,9 @@ impl Rounds {
             outcome: Outcome::Done,
         };
         rounds.serve(alloc, named.prefix, plan, errors)?;
+        if rounds.list.is_empty() {
+            return Err(Ended::NoService);
+        }
         Ok(rounds)
     }
 
