@@ -1,5 +1,5 @@
 -- What a report says of what was measured, and which messages go out for it.
-use Rattle.std.specs.Prelude.{◌≡◌, ◌⊎◌, ℕ, ◌≤◌, List, length, All, Contains, None}
+use Rattle.std.specs.Prelude.{⊤, ◌≡◌, ◌⊎◌, ℕ, ◌≤◌, List, [], ◌∷◌, ◌++◌, length, None, Result, Ok, Err}
 use Rattle.canary_condition.specs.declared.outcome.Outcome.{Outcome}
 use Rattle.canary_condition.specs.declared.outcome.Outcome.TheVariants as outcome
 use Rattle.canary_plan.specs.declared.command.Command.{Command}
@@ -15,6 +15,8 @@ use Rattle.canary_client.specs.Beginning.{IsSettledSo}
 use Rattle.canary_measure.specs.declared.measured.Measured.{Measured}
 use Rattle.canary_measure.specs.Measures.{measured_of}
 use Rattle.canary_measure.specs.Results.{IsOutcomeOf}
+use Rattle.canary_fetch.specs.declared.fault.Fault.{Fault}
+use Rattle.canary_fetch.specs.declared.reply.Reply.{Reply}
 use Rattle.canary_provider.specs.declared.plan.Answer.{Answer}
 use Rattle.canary_provider.specs.Answers.{IsMeasured}
 use Rattle.canary_agent.specs.declared.plan.Served.{Served}
@@ -31,6 +33,16 @@ IsCame answer status body (came.Measured m) = IsMeasured answer status body m
 IsCame answer status body (came.Failed text) =
     (m : Measured) → IsMeasured answer status body m → ⊥
 
+-- nothing was measured
+abbrev pub IsFailed : Came → Type 0
+IsFailed (came.Measured m) = ⊥
+IsFailed (came.Failed text) = ⊤
+
+-- what came of a message: that of its reply; without a reply nothing was measured
+abbrev pub IsCameOf : Answer → Result Reply Fault → Came → Type 0
+IsCameOf answer (Ok reply) c = IsCame answer reply.status reply.body.items c
+IsCameOf answer (Err fault) c = IsFailed c
+
 -- What is reported.
 
 -- under a label, of what came: what canary_measure makes of what was measured, or the failure
@@ -38,24 +50,32 @@ abbrev pub IsOutcomeFor : List ℕ → Came → Outcome → Type 0
 IsOutcomeFor label (came.Measured m) said = IsOutcomeOf label (measured_of m) said
 IsOutcomeFor label (came.Failed text) said = said ≡ outcome.Failure text
 
--- an entry is that of a measurement that was taken
-pub record IsEntryOf (t : Taken) (e : Entry) : Type 0 where
+-- an entry is that of a measurement that was taken, of a metric that the plan has
+pub record IsEntryOf (served : Served) (t : Taken) (e : Entry) : Type 0 where
+  pub planned : IsPlanned served t.metric
   pub metric : e.metric ≡ t.metric
   pub ordinal : e.ordinal ≡ t.ordinal
   pub taken : e.taken ≡ t.moment
   pub outcome : IsOutcomeFor t.metric t.came e.outcome
 
--- an entry is that of one of these, and the plan has its metric
-abbrev pub IsAmong : Served → List Taken → Entry → Type 0
-IsAmong served taken e =
-    IsPlanned served e.metric × ((t : Taken) × Contains taken t × IsEntryOf t e)
+-- the entries are those of some of these measurements, each once, in their order
+abbrev pub AreEntriesOf : Served → List Taken → List Entry → Type 0
+AreEntriesOf served taken [] = ⊤
+AreEntriesOf served [] (e ∷ es) = ⊥
+AreEntriesOf served (t ∷ taken) (e ∷ es) =
+    (IsEntryOf served t e × AreEntriesOf served taken es) ⊎ AreEntriesOf served taken (e ∷ es)
 
--- a report of that run of the service has nothing but entries of these: at least one, and no more
--- than a desk takes
+-- the entries are these, or one of this measurement stands behind them
+abbrev pub IsWithEntry : Served → Taken → List Entry → List Entry → Type 0
+IsWithEntry served t es new =
+    (new ≡ es) ⊎ ((e : Entry) × IsEntryOf served t e × (new ≡ es ++ e ∷ []))
+
+-- a report of that run of the service has entries of some of these alone, each once: at least one,
+-- and no more than a desk takes
 pub record IsReportOf (served : Served) (run : ℕ) (taken : List Taken) (r : Report) : Type 0 where
   pub service : r.service ≡ served.name
   pub run_of : r.run ≡ run
-  pub entries : All (IsAmong served taken) r.entries
+  pub entries : AreEntriesOf served taken r.entries
   pub some : 1 ≤ length r.entries
   pub few : length r.entries ≤ 32
 

@@ -4,6 +4,7 @@ use crate::manner::Manner;
 use crate::reader::Reader;
 use crate::rounds::{Named, Rounds};
 use canary_base::lists::Text;
+use canary_base::names::Name;
 use canary_client::outcome::{Outcome, Stop, say};
 use canary_client::place::{given_or, place_of};
 use canary_client::tcp::Tcp;
@@ -56,7 +57,7 @@ fn try_agent<R: Read, W: Write, F: Write>(
     let named = Named {
         files: &call.files,
         health: &call.health,
-        prefix: prefix_of(&call.caller),
+        prefix: prefix_of(&call.caller)?,
     };
     let manner = Manner {
         folder: folder.as_str(),
@@ -121,9 +122,13 @@ fn reader_of(rt: &HostRuntime, values: &Option<Text>) -> Result<Option<Reader>, 
     }
 }
 
-fn prefix_of(caller: &Option<Text>) -> &str {
-    match caller {
-        Some(caller) => caller.as_str(),
-        None => PREFIX,
+// What callers' names begin with: a name itself.
+fn prefix_of(caller: &Option<Text>) -> Result<&str, Ended> {
+    let Some(caller) = caller else {
+        return Ok(PREFIX);
+    };
+    match Name::read(caller.as_str().as_bytes()) {
+        Some(_) => Ok(caller.as_str()),
+        None => Err(Ended::Stopped(Stop::BadCaller)),
     }
 }

@@ -1,14 +1,17 @@
 //! A service that is attended: looked at, measured and reported.
-ghost use Rattle.std.specs.Prelude.{◌≡◌, IsTrue};
+ghost use Rattle.std.specs.Prelude.{◌≡◌, Contains, IfSome, IsTrue};
 ghost use Rattle.canary_sending.specs.Networks.{GoesOn};
 ghost use Rattle.canary_client.specs.Promises.{IsQuery};
+ghost use Rattle.canary_agent.specs.Lateness.{IsTooLate};
 
 use crate::asking::Asking;
 use crate::beginning::{Begun, came_for, shortest_limit, start, taking_of, with_asked};
+use crate::ended::worse;
 use crate::journal::OpenJournal;
-use crate::late::{Lateness, is_late, is_too_late, seconds_late};
+use crate::late::{Lateness, Sightings, is_late, is_too_late, seconds_late};
 use crate::look::{Due, Looked, look};
 use crate::manner::Manner;
+use crate::pauses::{NEVER, is_away, look_after, look_at, pause_after};
 use crate::plan::{Metric, Served};
 use crate::taken::{Came, failed};
 use crate::taking::Takings;
@@ -25,20 +28,6 @@ use std::io::Write;
 
 // How often a message is sent at each call.
 const TRIES: u32 = 1;
-
-// The milliseconds until a service is looked at again: if none of its runs is open, or it is not
-// there; and at most otherwise.
-const IDLE: u64 = 1_000;
-
-const ABSENT: u64 = 5_000;
-
-const MOST: u64 = 5_000;
-
-// The longest pause before one is looked at again that could not be.
-const LONGEST_PAUSE: u64 = 30_000;
-
-// When one is looked at that is not looked at any more.
-const NEVER: u64 = u64::MAX;
 
 const UNGIVEN: &str = "no value: the other program gave none in time";
 
@@ -58,6 +47,8 @@ pub(crate) struct Attended {
     // The labels of the desk that the plan does not have, as they were said.
     unknown: Vec<Label>,
     lateness: Lateness,
+    // What is due, as the looks since the last fault found it.
+    sightings: Sightings,
     // The run of which a measurement was so late that the service was aborted.
     aborted: Option<Number>,
     outcome: Outcome,
@@ -76,6 +67,7 @@ impl Attended {
             told: None,
             unknown: Vec::new(alloc),
             lateness: Lateness::new(alloc),
+            sightings: Sightings::new(alloc),
             aborted: None,
             outcome: Outcome::Done,
         }
@@ -86,9 +78,11 @@ impl Attended {
         self.served.name
     }
 
-    /// What is measured of it by files that were read anew.
-    pub(crate) fn serve(&mut self, served: Served) {
+    /// What is measured of it by files that were read anew. What a provider is asked for is asked
+    /// anew, since another query may stand there now; or `Memory`.
+    pub(crate) fn serve(&mut self, alloc: Global, served: Served) -> Result<(), Memory> {
         self.served = served;
+        self.takings.forget_asked(alloc)
     }
 
     /// The label in the plan of the metric of this name, or of this label, if another program gives
@@ -168,7 +162,9 @@ impl Attended {
         self.open(rt, network, manner, output)?;
         let looked = look(rt.alloc(), network, self.served.name, TRIES)?;
         self.look_at = look_at(&looked, now, manner.is_once);
-        match self.tell_late(rt.alloc(), manner, &looked, now, errors)? {
+        self.sightings.take(rt.alloc(), looked.due.as_slice(), now)?;
+        self.tell_late(rt.alloc(), &looked, now, errors)?;
+        match self.run_given_up(manner, &looked, now) {
             Some(run) => self.abort(rt.alloc(), network, manner, run, output),
             None => self.begin_all(rt, manner, asking, &looked, now, output, errors),
         }
@@ -189,7 +185,7 @@ impl Attended {
     {
         let looked = look(rt.alloc(), network, self.served.name, TRIES)?;
         self.look_at = NEVER;
-        self.tell_late(rt.alloc(), manner, &looked, now, errors)?;
+        self.tell_late(rt.alloc(), &looked, now, errors)?;
         self.begin_all(rt, manner, asking, &looked, now, output, errors)
     }
 
@@ -227,28 +223,49 @@ impl Attended {
         Ok(())
     }
 
-    // Says which measurements are late, and has the run of one that is too late, unless the service
-    // was aborted for that run already.
+    // Says which measurements are late.
     fn tell_late<F: Write>(
         &mut self,
         alloc: Global,
-        manner: &Manner<'_>,
         looked: &Looked,
         now: u64,
         errors: &mut F,
-    ) -> Result<Option<Number>, Stop> {
-        let mut too_late = None;
+    ) -> Result<(), Stop> {
         for due in &looked.due {
             let late = seconds_late(due, looked.moment.get());
             let interval = self.served.metric(&due.metric).and_then(interval_of);
             if is_late(late, interval) && self.lateness.is_to_say(alloc, due, now)? {
                 say_late(alloc, self.served.name, due, late, errors)?;
             }
-            if is_too_late(late, manner.abort_late) && self.aborted != Some(due.run) {
-                too_late = Some(due.run);
+        }
+        Ok(())
+    }
+
+    // The run of a measurement for which the service is to be aborted.
+    fn run_given_up(&self, manner: &Manner<'_>, looked: &Looked, now: u64) -> Option<Number>
+        ensures { IfSome result (λ run. (due : Due) × Contains looked.now.due.items due
+            × (due.run ≡ run) × IsTooLate manner.now.abort_late looked.now.moment due) }
+    {
+        for due in &looked.due {
+            let late = seconds_late(due, looked.moment.get());
+            if is_too_late(late, manner.abort_late) && self.is_given_up(manner, due, now) {
+                return Some(due.run);
             }
         }
-        Ok(too_late)
+        None
+    }
+
+    // Whether a measurement is not waited for any longer, if it is too late. What can be measured is
+    // measured first, so the agent has to have had the time for that, with the desk there. If each
+    // service is looked at once, one is given up if nothing measures it.
+    fn is_given_up(&self, manner: &Manner<'_>, due: &Due, now: u64) -> bool {
+        if self.aborted == Some(due.run) || self.takings.has(due.run, &due.metric) {
+            return false;
+        }
+        if manner.is_once {
+            return !self.served.is_measured(&due.metric);
+        }
+        self.sightings.are_long(due, now)
     }
 
     fn abort<N: Network, W: Write>(
@@ -259,11 +276,11 @@ impl Attended {
         run: Number,
         output: &mut W,
     ) -> Result<(), Stop> {
-        self.aborted = Some(run);
         let Some(journal) = self.journal.take() else {
             return Ok(());
         };
         let journal = journal.aborted(alloc, network, self.served.name)?;
+        self.aborted = Some(run);
         show_last(alloc, &journal, manner, output)?;
         self.journal = Some(journal);
         Ok(())
@@ -434,10 +451,10 @@ impl Attended {
         let journal = settled(alloc, network, manner, journal, output)?;
         let journal = journal.reported(alloc, network, &self.served, run, taken.as_slice())?;
         show_last(alloc, &journal, manner, output)?;
-        self.journal = Some(journal);
         if !manner.is_once {
-            self.look_at = now;
+            self.look_at = look_after(journal.is_refused(), now);
         }
+        self.journal = Some(journal);
         Ok(())
     }
 
@@ -459,6 +476,7 @@ impl Attended {
             self.told = Some(stop);
         }
         self.outcome = worse(self.outcome, stop.outcome());
+        self.sightings.clear();
         self.pause = pause_after(stop, self.pause);
         self.look_at = if manner.is_once {
             NEVER
@@ -466,55 +484,6 @@ impl Attended {
             now.saturating_add(self.pause)
         };
         Ok(())
-    }
-}
-
-// Whether nobody answered.
-fn is_away(stop: Stop) -> bool {
-    match stop {
-        Stop::NoDesk | Stop::NotBegun | Stop::Unanswered => true,
-        _ => false,
-    }
-}
-
-// The pause behind this one, before a service is looked at again that could not be.
-fn pause_after(stop: Stop, pause: u64) -> u64 {
-    if stop == Stop::NoService {
-        return ABSENT;
-    }
-    pause.saturating_mul(2).max(IDLE).min(LONGEST_PAUSE)
-}
-
-// When a service is looked at again that was found so.
-fn look_at(looked: &Looked, now: u64, is_once: bool) -> u64 {
-    if is_once {
-        return NEVER;
-    }
-    if !looked.is_open {
-        return now.saturating_add(IDLE);
-    }
-    let left = match looked.next {
-        Some(next) => next
-            .saturating_sub(looked.moment.get())
-            .saturating_mul(1_000),
-        None => MOST,
-    };
-    now.saturating_add(left.min(MOST))
-}
-
-/// The worse of two outcomes.
-pub(crate) fn worse(one: Outcome, other: Outcome) -> Outcome {
-    if rank(one) < rank(other) { other } else { one }
-}
-
-fn rank(outcome: Outcome) -> u8 {
-    match outcome {
-        Outcome::Done => 0,
-        Outcome::Refused | Outcome::RowsRefused | Outcome::Held | Outcome::Late => 1,
-        Outcome::Pending => 2,
-        Outcome::Contradiction => 3,
-        Outcome::Words => 4,
-        Outcome::Local => 5,
     }
 }
 

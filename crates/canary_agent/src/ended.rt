@@ -14,8 +14,10 @@ pub(crate) enum Ended {
     Folder,
     /// No file is given.
     NoFiles,
-    /// The files have something that is not translated, or no Rollout.
+    /// The files have something that is not translated.
     Manifests,
+    /// The files have no service that can be measured.
+    NoService,
     /// The file with values cannot be read.
     Values,
     /// The system tells nothing of connections.
@@ -28,7 +30,7 @@ impl Ended {
         match self {
             Ended::Stopped(stop) => stop.outcome(),
             Ended::NoJournals | Ended::NoFiles => Outcome::Words,
-            Ended::Manifests => Outcome::Words,
+            Ended::Manifests | Ended::NoService => Outcome::Words,
             Ended::Folder | Ended::Values | Ended::Connections => Outcome::Local,
         }
     }
@@ -43,6 +45,7 @@ impl Ended {
             Ended::Folder => "the folder of the journals cannot be made",
             Ended::NoFiles => "give files or folders of Argo's manifests",
             Ended::Manifests => "nothing is measured: these manifests are not translated",
+            Ended::NoService => "nothing is measured: these files have no Rollout to measure for",
             Ended::Values => "the file with values cannot be read",
             Ended::Connections => "the system tells nothing of connections",
         }
@@ -70,5 +73,21 @@ impl From<AllocError> for Ended {
 impl<T: Drop> From<AllocFailed<T>> for Ended {
     fn from(_: AllocFailed<T>) -> Ended {
         Ended::Stopped(Stop::Memory)
+    }
+}
+
+/// The worse of two outcomes.
+pub(crate) fn worse(one: Outcome, other: Outcome) -> Outcome {
+    if rank(one) < rank(other) { other } else { one }
+}
+
+fn rank(outcome: Outcome) -> u8 {
+    match outcome {
+        Outcome::Done => 0,
+        Outcome::Refused | Outcome::RowsRefused | Outcome::Held | Outcome::Late => 1,
+        Outcome::Pending => 2,
+        Outcome::Contradiction => 3,
+        Outcome::Words => 4,
+        Outcome::Local => 5,
     }
 }

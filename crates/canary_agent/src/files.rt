@@ -26,8 +26,8 @@ pub(crate) struct Files {
 }
 
 impl Files {
-    /// The files of these names, and those of manifests in the folders of these names, not deeper;
-    /// or `Memory`. A file that is not there is one without a byte.
+    /// The files of these names, and the regular files of manifests in the folders of these names,
+    /// not deeper; or `Memory`. A file that is not there is one without a byte.
     pub(crate) fn look(rt: &HostRuntime, given: &[Text]) -> Result<Files, Memory> {
         let mut files = Files {
             list: Vec::new(rt.alloc()),
@@ -69,7 +69,9 @@ impl Files {
 
     fn add_folder(&mut self, rt: &HostRuntime, name: &str) -> Result<(), Memory> {
         for file in names_in(rt, name)? {
-            self.add_file(rt, file)?;
+            if is_regular(rt, file.as_str()) {
+                self.add_file(rt, file)?;
+            }
         }
         Ok(())
     }
@@ -125,6 +127,13 @@ fn names_in(rt: &HostRuntime, folder: &str) -> Result<Vec<String>, Memory> {
     }
     names.sort()?;
     Ok(names)
+}
+
+fn is_regular(rt: &HostRuntime, name: &str) -> bool {
+    match fs::metadata(rt, name) {
+        Ok(found) => found.is_file(),
+        Err(_) => false,
+    }
 }
 
 fn is_manifest(name: &str) -> bool {

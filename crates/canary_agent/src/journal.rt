@@ -20,6 +20,9 @@ use std::fs;
 // How often a message is sent at each call: who has no answer is asked again by a later round.
 const TRIES: u32 = 1;
 
+// The least status of a reply that refuses.
+const REFUSED: u16 = 400;
+
 // With so many commands that are settled a journal is long: it is in memory as long as it is open.
 const LONG: usize = 2_000;
 
@@ -77,6 +80,14 @@ impl OpenJournal {
     /// What was settled last.
     pub(crate) fn last(&self) -> Option<&Kept> {
         self.kept.journal.kept().last()
+    }
+
+    /// Whether the desk refused what was settled last.
+    pub(crate) fn is_refused(&self) -> bool {
+        match self.last() {
+            Some(kept) => kept.reply.status >= REFUSED,
+            None => false,
+        }
     }
 
     /// Settles what is pending.

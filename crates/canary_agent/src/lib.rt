@@ -22,6 +22,7 @@ mod late;
 mod lines;
 pub mod look;
 mod manner;
+mod pauses;
 pub mod plan;
 mod planning;
 mod reader;

@@ -46,6 +46,15 @@ pub struct Plan {
     pub services: Vec<Served>,
 }
 
+impl Metric {
+    fn is_measured(&self) -> bool {
+        match &self.source {
+            Source::Provider(_) | Source::Lines => true,
+            Source::Nowhere => false,
+        }
+    }
+}
+
 // Whether a label is this name with the ending of a form.
 fn is_named(label: &Label, name: &str) -> bool
     ensures { IsTrue result → IsNamed label.now name.now }
@@ -79,6 +88,14 @@ impl Served {
             }
         }
         None
+    }
+
+    /// Whether something measures the metric of that label: a provider, or another program.
+    pub fn is_measured(&self, label: &Label) -> bool {
+        match self.metric(label) {
+            Some(metric) => metric.is_measured(),
+            None => false,
+        }
     }
 
     /// Whether the plan has a metric of that label.

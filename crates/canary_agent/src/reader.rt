@@ -127,15 +127,22 @@ impl Reader {
                 return Ok(Told::Nothing);
             }
             match self.read(input)? {
-                0 if self.gate.is_some() => {
-                    self.is_ended = true;
-                    return Ok(Told::End);
-                }
-                0 => return Ok(Told::Nothing),
-                _ => {}
+                Some(0) if self.gate.is_some() => return self.rest(alloc),
+                Some(0) | None => return Ok(Told::Nothing),
+                Some(_) => {}
             }
         }
         Ok(Told::Nothing)
+    }
+
+    // The last line, if it has no end; else that no more comes.
+    fn rest(&mut self, alloc: Global) -> Result<Told, AllocError> {
+        if self.held.is_empty() {
+            self.is_ended = true;
+            return Ok(Told::End);
+        }
+        let end = self.held.len();
+        self.line_to(alloc, end)
     }
 
     // The line up to this place, which is held no more.
@@ -166,8 +173,9 @@ impl Reader {
         }
     }
 
-    // Reads some bytes more: none at the end, or if the file cannot be read.
-    fn read<R: Read>(&mut self, input: &mut R) -> Result<usize, AllocError> {
+    // Reads some bytes more: none at the end, or if the file cannot be read. No answer if the read
+    // was interrupted.
+    fn read<R: Read>(&mut self, input: &mut R) -> Result<Option<usize>, AllocError> {
         let mut piece = [0u8; PIECE];
         let count = match &mut self.origin {
             Origin::Input => input.read(&mut piece),
@@ -175,12 +183,12 @@ impl Reader {
         };
         let count = match count {
             Ok(count) => count,
-            Err(error) if error.kind() == ErrorKind::Interrupted => return Ok(0),
+            Err(error) if error.kind() == ErrorKind::Interrupted => return Ok(None),
             Err(_) => 0,
         };
         self.held
             .extend_from_slice(piece.get(..count).unwrap_or(&[]))?;
-        Ok(count)
+        Ok(Some(count))
     }
 }
 
@@ -189,7 +197,11 @@ fn origin_of(rt: &HostRuntime, name: &str) -> io::Result<Origin> {
     if name == INPUT {
         return Ok(Origin::Input);
     }
-    let is_fifo = fs::metadata(rt, name)?.file_type().is_fifo();
+    let found = fs::metadata(rt, name)?;
+    if found.is_dir() {
+        return Err(ErrorKind::IsADirectory.into());
+    }
+    let is_fifo = found.file_type().is_fifo();
     let file = OpenOptions::new().read(true).write(is_fifo).open(rt, name)?;
     Ok(Origin::File(file))
 }

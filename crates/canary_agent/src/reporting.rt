@@ -1,9 +1,9 @@
 //! Reports of what was taken, over any network and any device.
-ghost use Rattle.std.specs.Prelude.{◌≡◌, ◌<◌, ◌≤◌, length, All, IfOk, IfSome, OnOk};
+ghost use Rattle.std.specs.Prelude.{◌≡◌, ◌<◌, ◌≤◌, length, IfOk, IfSome, OnOk};
 ghost use Rattle.canary_plan.specs.declared.command.Command.TheVariants.{Abort};
 ghost use Rattle.canary_sending.specs.Keeping.{IsKept};
 ghost use Rattle.canary_sending.specs.Networks.{GoesOn};
-ghost use Rattle.canary_agent.specs.Reports.{wish_of, IsOutcomeFor, IsEntryOf, IsAmong};
+ghost use Rattle.canary_agent.specs.Reports.{wish_of, IsOutcomeFor, IsEntryOf, IsWithEntry, AreEntriesOf};
 ghost use Rattle.canary_agent.specs.Reports.{IsReportOf, IsCommandSettled, IsSentFor};
 ghost use Rattle.canary_agent.specs.Reports.{IsReported, IsSentForReport};
 
@@ -135,8 +135,9 @@ pub fn report_of(
 }
 
 // The entries of the first 32 of these of which the plan has the metric.
+#[tactic(auto, using(crate::proofs::EntryLemmas::none_of, crate::proofs::EntryLemmas::with_next, crate::proofs::EntryLemmas::among_all))]
 fn entries_of(alloc: Global, served: &Served, taken: &[Taken]) -> Result<Listed<Entry>, Memory>
-    ensures entries { IfOk result (All (IsAmong served.now taken.now)) }
+    ensures entries { IfOk result (AreEntriesOf served.now taken.now) }
     ensures few { IfOk result (λ entries. length entries ≤ 32) }
 {
     let mut entries = Listed::of(Vec::new(alloc));
@@ -144,44 +145,43 @@ fn entries_of(alloc: Global, served: &Served, taken: &[Taken]) -> Result<Listed<
         if entries.as_slice().len() == MOST_ENTRIES {
             return Ok(entries);
         }
-        entries = with_entry(alloc, served, taken, place, entries)?;
+        entries = with_entry(alloc, served, &taken[place], entries)?;
     }
     Ok(entries)
 }
 
-// These entries, with that of the measurement at this place, if the plan has its metric.
+// These entries, with that of a measurement, if the plan has its metric.
 fn with_entry(
     alloc: Global,
     served: &Served,
-    taken: &[Taken],
-    place: usize,
+    taken: &Taken,
     entries: Listed<Entry>,
 ) -> Result<Listed<Entry>, Memory>
-    requires place { place < length taken.now }
-    requires entries { All (IsAmong served.now taken.now) entries }
-    requires few { length entries < 32 }
-    ensures entries { IfOk result (All (IsAmong served.now taken.now)) }
+    requires { length entries < 32 }
+    ensures entries { IfOk result (IsWithEntry served.now taken.now entries) }
     ensures few { IfOk result (λ entries. length entries ≤ 32) }
 {
-    let mut entries = entries;
-    let measurement = &taken[place];
-    if !served.has(&measurement.metric) {
+    let Some(entry) = entry_of(alloc, served, taken)? else {
         return Ok(entries);
-    }
-    entries.push(entry_of(alloc, measurement)?)?;
+    };
+    let mut entries = entries;
+    entries.push(entry)?;
     Ok(entries)
 }
 
-// The entry of a measurement.
-fn entry_of(alloc: Global, taken: &Taken) -> Result<Entry, Memory>
-    ensures { IfOk result (IsEntryOf taken.now) }
+// The entry of a measurement, if the plan has its metric.
+fn entry_of(alloc: Global, served: &Served, taken: &Taken) -> Result<Option<Entry>, Memory>
+    ensures { IfOk result (λ made. IfSome made (IsEntryOf served.now taken.now)) }
 {
-    Ok(Entry {
+    if !served.has(&taken.metric) {
+        return Ok(None);
+    }
+    Ok(Some(Entry {
         metric: taken.metric,
         ordinal: taken.ordinal.get(),
         taken: taken.moment,
         outcome: outcome_for(alloc, &taken.metric, &taken.came)?,
-    })
+    }))
 }
 
 /// What is reported under a label of what came.

@@ -4,8 +4,8 @@ ghost use Rattle.canary_sending.specs.Networks.{GoesOn};
 ghost use Rattle.canary_client.specs.Promises.{IsQuery};
 
 use crate::asking::Asking;
-use crate::attended::{Attended, worse};
-use crate::ended::Ended;
+use crate::attended::Attended;
+use crate::ended::{Ended, worse};
 use crate::files::Files;
 use crate::health::touch;
 use crate::manner::Manner;
@@ -71,8 +71,8 @@ impl Rounds {
     /// The services of these files, of which none was looked at.
     ///
     /// # Errors
-    /// `Manifests` if the files are not translated, and `errors` says why; `Connections`, `Clock`;
-    /// `Memory`.
+    /// `Manifests` if the files are not translated, and `errors` says why; `NoService` if there is
+    /// none; `Connections`, `Clock`; `Memory`.
     pub(crate) fn new<F: Write>(
         rt: &HostRuntime,
         named: &Named<'_>,
@@ -97,6 +97,9 @@ impl Rounds {
             outcome: Outcome::Done,
         };
         rounds.serve(alloc, named.prefix, plan, errors)?;
+        if rounds.list.is_empty() {
+            return Err(Ended::NoService);
+        }
         Ok(rounds)
     }
 
@@ -113,7 +116,7 @@ impl Rounds {
         let Plan { services } = plan;
         for served in services {
             match before.take(alloc, served.name)? {
-                Some(attended) => self.list.push(serving(attended, served))?,
+                Some(attended) => self.list.push(serving(alloc, attended, served)?)?,
                 None => self.add(alloc, prefix, served, errors)?,
             }
         }
@@ -161,7 +164,9 @@ impl Rounds {
             network.old network.new IsQuery }
     {
         let now = self.watch.now(rt)?;
-        self.look_at_files(rt, named, now, errors)?;
+        if !manner.is_once {
+            self.look_at_files(rt, named, now, errors)?;
+        }
         self.read_lines(rt.alloc(), now, input, errors)?;
         self.attend(rt, network, manner, now, output, errors)?;
         self.touch(rt, named.health, now, errors);
@@ -357,10 +362,10 @@ impl Known {
     }
 }
 
-fn serving(attended: Attended, served: Served) -> Attended {
+fn serving(alloc: Global, attended: Attended, served: Served) -> Result<Attended, Memory> {
     let mut attended = attended;
-    attended.serve(served);
-    attended
+    attended.serve(alloc, served)?;
+    Ok(attended)
 }
 
 fn asking(rt: &HostRuntime) -> Result<Asking, Ended> {

@@ -1,6 +1,6 @@
 //! Measurements that were taken.
 ghost use Rattle.std.specs.Prelude.{IfOk};
-ghost use Rattle.canary_agent.specs.Reports.{IsCame};
+ghost use Rattle.canary_agent.specs.Reports.{IsCame, IsCameOf, IsFailed};
 
 use canary_base::error::Memory;
 use canary_base::lists::Text;
@@ -41,7 +41,9 @@ pub struct Taken {
 ///
 /// # Errors
 /// `Memory` if an allocation was refused.
-pub fn came_of(alloc: Global, answer: &Answer, outcome: &Outcome) -> Result<Came, Memory> {
+pub fn came_of(alloc: Global, answer: &Answer, outcome: &Outcome) -> Result<Came, Memory>
+    ensures { IfOk result (IsCameOf answer.now outcome.now) }
+{
     match outcome {
         Ok(reply) => came_of_reply(alloc, answer, reply.status, reply.body.as_slice()),
         Err(fault) => failed(alloc, text_of(*fault)),
@@ -70,7 +72,9 @@ pub fn came_of_reply(
 ///
 /// # Errors
 /// `Memory` if an allocation was refused.
-pub fn failed(alloc: Global, text: &str) -> Result<Came, Memory> {
+pub fn failed(alloc: Global, text: &str) -> Result<Came, Memory>
+    ensures { IfOk result IsFailed }
+{
     match FailureText::of(Text::of(String::from_str(alloc, text)?)) {
         Some(text) => Ok(Came::Failed(text)),
         None => Err(Memory),

@@ -61,6 +61,17 @@ impl Takings {
         self.list.is_empty()
     }
 
+    /// Forgets those for which a provider is asked, if nothing came yet; or `Memory`.
+    pub(crate) fn forget_asked(&mut self, alloc: Global) -> Result<(), Memory> {
+        let list = mem::replace(&mut self.list, Vec::new(alloc));
+        for taking in list {
+            if taking.token.is_none() || taking.came.is_some() {
+                self.list.push(taking)?;
+            }
+        }
+        Ok(())
+    }
+
     /// Adds one, or `Memory`.
     pub(crate) fn add(&mut self, taking: Taking) -> Result<(), Memory> {
         self.list.push(taking)?;
