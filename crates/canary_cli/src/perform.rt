@@ -262,7 +262,7 @@ fn run<R: Read, W: Write, F: Write>(
         }
         Program::Backup { db, copy } => done(backup(rt, db.as_str(), copy.as_str())),
         Program::Ask(asked) => run_client(rt, asked, input, output, errors, terminals.output),
-        program => done(run_on_records(rt, &program, output, errors, terminals)),
+        program => run_on_records(rt, &program, output, errors, terminals),
     }
 }
 
@@ -273,13 +273,14 @@ fn run_on_records<W: Write, F: Write>(
     output: &mut W,
     errors: &mut F,
     terminals: Terminals,
-) -> Result<(), Fault>
+) -> Result<Outcome, Fault>
     requires { IsOfRecords program.now }
 {
     let shows = terminals.errors;
     match program {
         Program::History { db, service } => {
-            history(rt, db.as_str(), service.as_str(), output, errors, shows)
+            let (db, service) = (db.as_str(), service.as_str());
+            done(history(rt, db, service, output, errors, shows))
         }
         Program::Export {
             db,
@@ -287,23 +288,18 @@ fn run_on_records<W: Write, F: Write>(
             service,
         } => {
             let (db, caller, service) = (db.as_str(), caller.as_str(), service.as_str());
-            export(rt, db, caller, service, output, errors, shows)
+            done(export(rt, db, caller, service, output, errors, shows))
         }
         Program::Status { db, watch, json } => {
             let drawing = drawing(*watch, *json, terminals);
-            status(rt, db.as_str(), drawing, output, errors, shows)
+            done(status(rt, db.as_str(), drawing, output, errors, shows))
         }
         Program::Page { db, out, watch } => {
-            page(rt, db.as_str(), out.as_str(), *watch, output, errors, shows)
+            done(page(rt, db.as_str(), out.as_str(), *watch, output, errors, shows))
         }
-        Program::Migrate { db, dry_run } => migrate(
-            rt,
-            db.as_str(),
-            *dry_run,
-            output,
-            errors,
-            shows,
-        ),
+        Program::Migrate { db, dry_run } => {
+            done(migrate(rt, db.as_str(), *dry_run, output, errors, shows))
+        }
         _ => unreachable!(),
     }
 }
