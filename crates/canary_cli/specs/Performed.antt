@@ -19,7 +19,7 @@ use Rattle.canary_client.specs.Outcomes as client
 use Rattle.canary_client.specs.declared.outcome.Outcome as client_outcome
 use Rattle.canary_listen.specs.declared.limits.Limits.{Limits}
 use Rattle.canary_words.specs.declared.words.Asked.{Asked as AskedOf}
-use Rattle.canary_words.specs.declared.words.Asked.TheVariants.{Do, Get, Watch, Send, Due}
+use Rattle.canary_words.specs.declared.words.Asked.TheVariants.{Do, Get, Watch, Send, Due, Agent}
 use Rattle.canary_words.specs.declared.words.AskedLimits.{AskedLimits}
 use Rattle.canary_words.specs.declared.words.Program.{Program}
 use Rattle.canary_words.specs.declared.words.Program.TheVariants.{Pipe, Serve, Import, History, Export, Status, Page, Backup, Migrate, Check, Argo, Ask}
@@ -112,15 +112,16 @@ IsNoClient done = (outcome : client_outcome.Outcome) → done ≡ Ok (Asked outc
 abbrev pub IsChecked : Known → Known → Result Outcome Fault → Type 0
 IsChecked w new_w done = done ≡ Ok Done → Appends w new_w (codes "ok\n")
 
--- of the clients of a desk `send` alone reads the input
+-- of the clients of a desk `send` and `agent` alone may read the input
 abbrev pub IsAsked : Known → Known → AskedOf → Type 0
 IsAsked r new_r (Do call) = new_r ≡ r
 IsAsked r new_r (Get desk service part) = new_r ≡ r
 IsAsked r new_r (Watch desk until json forever service) = new_r ≡ r
 IsAsked r new_r (Send desk csv) = Unit {0}
 IsAsked r new_r (Due desk wait late services) = new_r ≡ r
+IsAsked r new_r (Agent call) = Unit {0}
 
--- the program was run so; `pipe`, `import`, `argo` and `send` alone read the input
+-- the program was run so; `pipe`, `import`, `argo`, `send` and `agent` alone may read the input
 abbrev pub IsRun : Known → Known → Known → Known → Program → Result Outcome Fault → Type 0
 IsRun r new_r w new_w (Pipe at step None cache) done =
     (piped : Result (Unit {0}) Fault) × (done ≡ outcome_of piped)
@@ -138,6 +139,15 @@ IsRun r new_r w new_w (Check file request strict) done =
     (new_r ≡ r) × IsChecked w new_w done × IsNoClient done
 IsRun r new_r w new_w (Argo files out json) done = IsNoClient done
 IsRun r new_r w new_w (Ask asked) done = IsAsked r new_r asked
+
+-- it shows what is in the file of a desk's records, or makes that one of this version
+abbrev pub IsOfRecords : Program → Type 0
+IsOfRecords (History db service) = Unit {0}
+IsOfRecords (Export db caller service) = Unit {0}
+IsOfRecords (Status db watch json) = Unit {0}
+IsOfRecords (Page db out watch) = Unit {0}
+IsOfRecords (Migrate db dry_run) = Unit {0}
+IsOfRecords _ = ⊥
 
 -- the program was run so, and ended with this exit status
 abbrev pub IsRunTo : Known → Known → Known → Known → Program → ℕ → Type 0

@@ -3,6 +3,11 @@
 //! Callers may rest on this: each message that is taken in has one outcome, a reply or a fault; and
 //! a reply is the one that the bytes of its connection begin with, by the grammar of RFC 9112, in
 //! whatever pieces they come. That a provider is asked, and when it answers, no contract says.
+//!
+//! In use (canary_agent, src/asking.rt):
+//!
+//!     match self.fetcher.start(rt, token, address, message, limit) {
+//!         Ok(()) => Ok(Asked::Token(token)),
 #![tactic(auto)]
 
 pub mod address;

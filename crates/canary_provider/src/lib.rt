@@ -5,6 +5,13 @@
 //! the plan names, and if nothing is measured, it says nothing there; a message has the lines that
 //! the plan asks for and no others; and no text that tells a failure has a character that a
 //! terminal takes for more than one.
+//!
+//! In use (canary_agent, src/taken.rt):
+//!
+//!     match measured_of(alloc, answer, status, body)? {
+//!         Ok(measured) => Ok(Came::Measured(measured)),
+//!         Err(text) => Ok(Came::Failed(text)),
+//!     }
 #![tactic(auto)]
 
 mod body;

@@ -11,7 +11,7 @@ use Rattle.clap.specs.Kinds.{check_kinds}
 use Rattle.clap.specs.Faults.{check_fault, level_fault}
 use Rattle.clap.specs.declared.builder.value_parser.ValueParser.TheVariants.{Bool as bool_parser, Unsigned}
 use Rattle.clap.proofs.ValueTestLemmas.{accepts-Accepts}
-use Rattle.canary_words.specs.CommandLine.{desk_command, number_option, pipe_command, HasArgo, HasAsked, HasCheck, HasDesk, HasDo, HasDue, HasExport, HasImport, HasListener, HasMigrate, HasPage, HasPipe, HasStatus, HasTexts, HasWatch, IsTrueOrFalse}
+use Rattle.canary_words.specs.CommandLine.{desk_command, number_option, pipe_command, HasAgent, HasArgo, HasAsked, HasCheck, HasDesk, HasDo, HasDue, HasExport, HasImport, HasListener, HasMigrate, HasPage, HasPipe, HasStatus, HasTexts, HasWatch, IsTrueOrFalse}
 use Rattle.canary_words.proofs.Walks.{AreOptions, AreRead, given_text, optional_text, read-level}
 
 -- the desk and its commands, as they are built
@@ -69,6 +69,9 @@ send = built_at 14
 abbrev pub due : Shape
 due = built_at 15
 
+abbrev pub agent : Shape
+agent = built_at 16
+
 -- ---- what each command has to be given
 
 pipe_options : AreOptions pipe.rules pipe.rules
@@ -118,6 +121,9 @@ send_options = (record { own = refl; default = tt; takes = inl (refl, refl) }, (
 
 due_options : AreOptions due.rules due.rules
 due_options = (record { own = refl; default = tt; takes = inl (refl, refl) }, (record { own = refl; default = tt; takes = inl (refl, refl) }, (record { own = refl; default = tt; takes = inl (refl, refl) }, (record { own = refl; default = refl; takes = inr (inl (refl, tt)) }, (record { own = refl; default = tt; takes = inl (refl, refl) }, (record { own = refl; default = tt; takes = inl (refl, refl) }, (record { own = refl; default = tt; takes = inr (inr refl) }, tt)))))))
+
+agent_options : AreOptions agent.rules agent.rules
+agent_options = (record { own = refl; default = tt; takes = inl (refl, refl) }, (record { own = refl; default = tt; takes = inl (refl, refl) }, (record { own = refl; default = tt; takes = inl (refl, refl) }, (record { own = refl; default = refl; takes = inr (inl (refl, tt)) }, (record { own = refl; default = refl; takes = inr (inl (refl, tt)) }, (record { own = refl; default = tt; takes = inl (refl, refl) }, (record { own = refl; default = tt; takes = inl (refl, refl) }, (record { own = refl; default = tt; takes = inl (refl, refl) }, (record { own = refl; default = tt; takes = inl (refl, refl) }, (record { own = refl; default = tt; takes = inl (refl, refl) }, (record { own = refl; default = tt; takes = inr (inr refl) }, tt)))))))))))
 
 -- what is required is given
 both_given : (at step : Bool) → check_kinds false false (not at || (not step || false)) ≡ [] → (at ≡ true) × (step ≡ true)
@@ -331,4 +337,17 @@ due_rows words none =
       asked_rows due (codes "service") _ words due_options refl refl refl (one_given (is_given (codes "service") rows)) none,
       flag_passed (one_of (codes "wait") rows) (optional_text due.rules (codes "wait") _ rows refl level.0),
       number_passed 31536000 (one_of (codes "late") rows) (optional_text due.rules (codes "late") _ rows refl level.0),
+    )
+
+-- the rows of `agent`
+pub agent_rows : (words : List Text) → level_fault agent [] nothing_held words false [] ≡ [] → HasAgent (rows_after agent.rules [] words)
+agent_rows words none =
+    let level = read-level agent [] words false [] agent_options none in
+    let rows : List Row = rows_after agent.rules [] words in
+    let file = given_text agent.rules (codes "file") _ rows refl level.0 (one_given (is_given (codes "file") rows) level.1) in (
+      number_passed 86400 (one_of (codes "timeout") rows) (optional_text agent.rules (codes "timeout") _ rows refl level.0),
+      (file.0, file.2),
+      flag_passed (one_of (codes "once") rows) (optional_text agent.rules (codes "once") _ rows refl level.0),
+      flag_passed (one_of (codes "dry-run") rows) (optional_text agent.rules (codes "dry-run") _ rows refl level.0),
+      number_passed 31536000 (one_of (codes "abort-late") rows) (optional_text agent.rules (codes "abort-late") _ rows refl level.0),
     )

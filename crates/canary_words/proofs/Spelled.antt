@@ -15,13 +15,13 @@ use Rattle.clap.specs.declared.error.kind.ErrorKind.{ErrorKind}
 use Rattle.clap.specs.declared.error.kind.ErrorKind.TheVariants.{MissingSubcommand}
 use Rattle.clap.specs.declared.parser.matches.ArgMatches.{ArgMatches}
 use Rattle.clap.specs.declared.parser.matches.ArgMatches.TheViews.{out-ArgMatches, out-SubCommand}
-use Rattle.canary_words.specs.CommandLine.{desk_command, faults_of, exported, export_of, flag_given, limits_of, number_given, of_two, pipe_of, piped, program_in, program_of, text_given, texts_given, with_db, HasArgo, HasAsked, HasCheck, HasClientProgram, HasDo, HasDue, HasExport, HasImport, HasListener, HasMigrate, HasMoment, HasPipe, HasPage, HasProgram, HasRecordsProgram, HasStatus, HasText, HasTexts, HasWatch}
+use Rattle.canary_words.specs.CommandLine.{desk_command, faults_of, exported, export_of, flag_given, limits_of, number_given, of_two, pipe_of, piped, program_in, program_of, text_given, texts_given, with_db, HasAgent, HasArgo, HasAsked, HasCheck, HasClientProgram, HasDo, HasDue, HasExport, HasImport, HasListener, HasMigrate, HasMoment, HasPipe, HasPage, HasProgram, HasRecordsProgram, HasStatus, HasText, HasTexts, HasWatch}
 use Rattle.canary_words.specs.CommandLine.{command_of, desk_of, do_of}
 use Rattle.canary_words.specs.declared.words.Program.{Program}
 use Rattle.canary_words.specs.declared.words.Asked.TheVariants.{Get, Watch, Send, Due}
 use Rattle.canary_words.specs.declared.words.Program.TheVariants.{Serve, Import, History, Status, Page, Backup, Migrate, Ask}
 use Rattle.canary_words.proofs.Chains.{ok_then}
-use Rattle.canary_words.proofs.Given.{argo, argo_rows, backup, backup_rows, check, check_rows, desk, do_rows, due, due_rows, export, export_rows, get, get_rows, history, history_rows, import, import_rows, migrate, migrate_rows, page, page_rows, pipe, pipe_rows, send, send_rows, serve, serve_rows, status, status_rows, asking, watch, watch_rows}
+use Rattle.canary_words.proofs.Given.{agent, agent_rows, argo, argo_rows, backup, backup_rows, check, check_rows, desk, do_rows, due, due_rows, export, export_rows, get, get_rows, history, history_rows, import, import_rows, migrate, migrate_rows, page, page_rows, pipe, pipe_rows, send, send_rows, serve, serve_rows, status, status_rows, asking, watch, watch_rows}
 use Rattle.canary_words.proofs.Walks.{IsNoHelp, below_none, stop-no_help}
 
 pub desk_is_simple : is_simple_and_free desk_command ≡ true
@@ -126,11 +126,14 @@ send_met : (words : List Text) → IsGiven send words
 send_met words none = of_client (Some (rows_at send words)) (inr (inr (inr (inl (rows_after send.rules [] words, refl, send_rows words none)))))
 
 due_met : (words : List Text) → IsGiven due words
-due_met words none = of_client (Some (rows_at due words)) (inr (inr (inr (inr (rows_after due.rules [] words, refl, due_rows words none)))))
+due_met words none = of_client (Some (rows_at due words)) (inr (inr (inr (inr (inl (rows_after due.rules [] words, refl, due_rows words none))))))
+
+agent_met : (words : List Text) → IsGiven agent words
+agent_met words none = of_client (Some (rows_at agent words)) (inr (inr (inr (inr (inr (rows_after agent.rules [] words, refl, agent_rows words none))))))
 
 -- the desk's commands, in their order; the last one is `help`
 each_given : (name : Text) (words : List Text) → answers_to name (codes "help", []) ≡ false → AreGiven name words (built desk_command).subs
-each_given name words other = (λ _. pipe_met words, (λ _. serve_met words, (λ _. import_met words, (λ _. history_met words, (λ _. export_met words, (λ _. status_met words, (λ _. page_met words, (λ _. backup_met words, (λ _. migrate_met words, (λ _. check_met words, (λ _. argo_met words, (λ _. asking_met words, (λ _. get_met words, (λ _. watch_met words, (λ _. send_met words, (λ _. due_met words, (λ is none. let bad : true ≡ false = sym is ∙ other in cc, tt)))))))))))))))))
+each_given name words other = (λ _. pipe_met words, (λ _. serve_met words, (λ _. import_met words, (λ _. history_met words, (λ _. export_met words, (λ _. status_met words, (λ _. page_met words, (λ _. backup_met words, (λ _. migrate_met words, (λ _. check_met words, (λ _. argo_met words, (λ _. asking_met words, (λ _. get_met words, (λ _. watch_met words, (λ _. send_met words, (λ _. due_met words, (λ _. agent_met words, (λ is none. let bad : true ≡ false = sym is ∙ other in cc, tt))))))))))))))))))
 
 met : (o : Option (Text × List Text)) (words : List Text) → IsNoHelp o
     → level_fault desk (names_of (built desk_command)) nothing_held words (is_some (entered (built desk_command) o)) (entered_fault (built desk_command) o) ≡ []
@@ -210,7 +213,8 @@ client_met met (inl h) = met_so met _ h.0 h.1 (do_spelled h.0 h.2)
 client_met met (inr (inl h)) = met_so met _ h.0 h.1 (made (λ service. Ask (Get (desk_of h.0) service (text_given (codes "part") h.0))) (codes "service") h.0 h.2.1)
 client_met met (inr (inr (inl h))) = met_so met _ h.0 h.1 (made (λ service. Ask (Watch (desk_of h.0) (text_given (codes "until") h.0) (flag_given (codes "json") h.0) (flag_given (codes "forever") h.0) service)) (codes "service") h.0 h.2.0.1)
 client_met met (inr (inr (inr (inl h)))) = met_so met _ h.0 h.1 (made (λ csv. Ask (Send (desk_of h.0) csv)) (codes "csv") h.0 h.2.1)
-client_met met (inr (inr (inr (inr h)))) = met_so met _ h.0 h.1 (made_of _ (texts_given (codes "service") h.0) (texts_there (codes "service") h.0 h.2.0.1))
+client_met met (inr (inr (inr (inr (inl h))))) = met_so met _ h.0 h.1 (made_of _ (texts_given (codes "service") h.0) (texts_there (codes "service") h.0 h.2.0.1))
+client_met met (inr (inr (inr (inr (inr h))))) = met_so met _ h.0 h.1 (made_of _ (texts_given (codes "file") h.0) (texts_there (codes "file") h.0 h.2.1))
 
 -- what was met spells a program
 program_met : (met : Option (Text × List Row)) → HasProgram met → IsSome (option_and_then program_in met)
@@ -247,7 +251,8 @@ IsAskedFor name rows = choose (bytes_eq name (codes "do")) (HasDo rows)
     (choose (bytes_eq name (codes "get")) (HasAsked (codes "service") rows)
     (choose (bytes_eq name (codes "watch")) (HasWatch rows)
     (choose (bytes_eq name (codes "send")) (HasAsked (codes "csv") rows)
-    (choose (bytes_eq name (codes "due")) (HasDue rows) ⊥))))
+    (choose (bytes_eq name (codes "due")) (HasDue rows)
+    (choose (bytes_eq name (codes "agent")) (HasAgent rows) ⊥)))))
 
 -- what the command of this name has to be given
 abbrev pub IsGivenFor : Text → List Row → Type 0
@@ -273,7 +278,8 @@ client_given_for o name rows (inl h) is = given_as o (codes "do") name h.0 rows 
 client_given_for o name rows (inr (inl h)) is = given_as o (codes "get") name h.0 rows h.1 is h.2
 client_given_for o name rows (inr (inr (inl h))) is = given_as o (codes "watch") name h.0 rows h.1 is h.2
 client_given_for o name rows (inr (inr (inr (inl h)))) is = given_as o (codes "send") name h.0 rows h.1 is h.2
-client_given_for o name rows (inr (inr (inr (inr h)))) is = given_as o (codes "due") name h.0 rows h.1 is h.2
+client_given_for o name rows (inr (inr (inr (inr (inl h))))) is = given_as o (codes "due") name h.0 rows h.1 is h.2
+client_given_for o name rows (inr (inr (inr (inr (inr h))))) is = given_as o (codes "agent") name h.0 rows h.1 is h.2
 
 pub given_for : (o : Option (Text × List Row)) (name : Text) (rows : List Row) → HasProgram o → o ≡ Some (name, rows) → IsGivenFor name rows
 given_for o name rows (inl h) is = given_as o (codes "pipe") name h.0 rows h.1 is h.2

@@ -17,7 +17,8 @@ use Rattle.clap.specs.declared.error.kind.ErrorKind.{ErrorKind}
 use Rattle.clap.specs.declared.error.kind.ErrorKind.TheVariants.{DisplayHelp, DisplayVersion}
 use Rattle.canary_words.specs.declared.commands.Part.{Part}
 use Rattle.canary_words.specs.declared.commands.Part.TheVariants as part
-use Rattle.canary_words.specs.declared.words.Asked.TheVariants.{Do, Get, Watch, Send, Due}
+use Rattle.canary_words.specs.declared.words.Asked.TheVariants.{Do, Get, Watch, Send, Due, Agent}
+use Rattle.canary_words.specs.declared.words.AgentCall.{AgentCall}
 use Rattle.canary_words.specs.declared.words.AskedCommand.{AskedCommand}
 use Rattle.canary_words.specs.declared.words.AskedDesk.{AskedDesk}
 use Rattle.canary_words.specs.declared.words.AskedLimits.{AskedLimits}
@@ -181,7 +182,7 @@ abbrev pub argo_command : App
 argo_command = with_rule (with_rule (with_rule (new_app (codes "argo"))
     (text_option (codes "out") false)) (flag (codes "json"))) (text_words (codes "file"))
 
--- `--desk IP:PORT --tries N --timeout SECONDS`
+-- `--desk HOST:PORT --tries N --timeout SECONDS`
 abbrev pub with_desk_options : App → App
 with_desk_options a = with_rule (with_rule (with_rule a (text_option (codes "desk") false))
     (number_option (codes "tries") 1000)) (number_option (codes "timeout") 86400)
@@ -224,11 +225,28 @@ abbrev pub due_command : App
 due_command = with_rule (with_rule (with_rule (with_desk_options (new_app (codes "due")))
     (flag (codes "wait"))) (number_option (codes "late") 31536000)) (text_words (codes "service"))
 
+-- `--desk HOST:PORT --journals FOLDER --as PREFIX --once --dry-run`
+abbrev pub with_agent_manner : App → App
+with_agent_manner a = with_rule (with_rule (with_rule (with_rule (with_rule a
+    (text_option (codes "desk") false)) (text_option (codes "journals") false))
+    (text_option (codes "as") false)) (flag (codes "once"))) (flag (codes "dry-run"))
+
+-- `--values FILE --abort-late SECONDS --health FILE --timeout SECONDS`
+abbrev pub with_agent_limits : App → App
+with_agent_limits a = with_rule (with_rule (with_rule (with_rule a
+    (text_option (codes "values") false)) (number_option (codes "abort-late") 31536000))
+    (text_option (codes "health") false)) (number_option (codes "timeout") 86400)
+
+-- `agent FILE..`, with its options
+abbrev pub agent_command : App
+agent_command = with_rule (with_agent_limits (with_agent_manner (new_app (codes "agent"))))
+    (text_words (codes "file"))
+
 -- with the commands that ask a desk
 abbrev pub with_client_commands : App → App
 with_client_commands a = with_subcommand (with_subcommand (with_subcommand (with_subcommand
-    (with_subcommand a do_command.top) get_command.top) watch_command.top) send_command.top)
-    due_command.top
+    (with_subcommand (with_subcommand a do_command.top) get_command.top) watch_command.top)
+    send_command.top) due_command.top) agent_command.top
 
 -- with the commands that work on the file of a desk's records
 abbrev pub with_records_commands : App → App
@@ -398,13 +416,35 @@ due_of rows = option_map (λ services. Ask (Due (desk_of rows)
     (flag_given (codes "wait") rows) (number_given (codes "late") rows) services))
     (texts_given (codes "service") rows)
 
+-- where the desk of an agent is, which sends a message once, and how long it waits for a reply
+abbrev pub agent_desk_of : List Row → AskedDesk
+agent_desk_of rows = record {
+  desk = text_given (codes "desk") rows;
+  tries = None;
+  timeout = number_given (codes "timeout") rows;
+}
+
+abbrev pub agent_of : List Row → Option Program
+agent_of rows = option_map (λ files. Ask (Agent record {
+  desk = agent_desk_of rows;
+  journals = text_given (codes "journals") rows;
+  caller = text_given (codes "as") rows;
+  is_once = flag_given (codes "once") rows;
+  is_dry_run = flag_given (codes "dry-run") rows;
+  values = text_given (codes "values") rows;
+  abort_late = number_given (codes "abort-late") rows;
+  health = text_given (codes "health") rows;
+  files = files;
+})) (texts_given (codes "file") rows)
+
 -- the program of the command that asks a desk
 abbrev pub client_program_in : Text × List Row → Option Program
 client_program_in p = if bytes_eq p.0 (codes "do") then do_of p.1
     else if bytes_eq p.0 (codes "get") then get_of p.1
     else if bytes_eq p.0 (codes "watch") then watch_of p.1
     else if bytes_eq p.0 (codes "send") then send_of p.1
-    else if bytes_eq p.0 (codes "due") then due_of p.1 else None
+    else if bytes_eq p.0 (codes "due") then due_of p.1
+    else if bytes_eq p.0 (codes "agent") then agent_of p.1 else None
 
 -- the program of the command of this name with these matches
 abbrev pub program_in : Text × List Row → Option Program
@@ -530,6 +570,15 @@ abbrev pub HasDue : List Row → Type 0
 HasDue rows = HasAsked (codes "service") rows × MayHaveFlag (codes "wait") rows
     × MayHaveNumber (codes "late") 31536000 rows
 
+-- how long an agent waits for a reply was given as a number, if it was
+abbrev pub HasTimeout : List Row → Type 0
+HasTimeout rows = MayHaveNumber (codes "timeout") 86400 rows
+
+abbrev pub HasAgent : List Row → Type 0
+HasAgent rows = HasTimeout rows × HasText (codes "file") rows
+    × MayHaveFlag (codes "once") rows × MayHaveFlag (codes "dry-run") rows
+    × MayHaveNumber (codes "abort-late") 31536000 rows
+
 -- the command of this name was met, with rows of which this holds
 abbrev pub Meets : Text → (List Row → Type 0) → Option (Text × List Row) → Type 0
 Meets name Holds met = (rows : List Row) × (met ≡ Some (name, rows)) × Holds rows
@@ -547,7 +596,8 @@ abbrev pub HasClientProgram : Option (Text × List Row) → Type 0
 HasClientProgram met = Meets (codes "do") HasDo met
     ⊎ (Meets (codes "get") (HasAsked (codes "service")) met
     ⊎ (Meets (codes "watch") HasWatch met
-    ⊎ (Meets (codes "send") (HasAsked (codes "csv")) met ⊎ Meets (codes "due") HasDue met)))
+    ⊎ (Meets (codes "send") (HasAsked (codes "csv")) met ⊎ (Meets (codes "due") HasDue met
+    ⊎ Meets (codes "agent") HasAgent met))))
 
 -- one of the commands was met, with all that it has to be given
 abbrev pub HasProgram : Option (Text × List Row) → Type 0

@@ -5,11 +5,13 @@ ghost use Rattle.canary_words.specs.CommandLine.{program_in, text_given, HasText
 ghost use Rattle.canary_words.specs.CommandLine.{watch_of, send_of, due_of, desk_of, command_of};
 ghost use Rattle.canary_words.specs.CommandLine.{HasClientProgram, HasDesk, HasAsked, HasDo};
 ghost use Rattle.canary_words.specs.CommandLine.{HasDue, HasWatch, texts_or_none};
+ghost use Rattle.canary_words.specs.CommandLine.{HasAgent, HasTimeout, agent_desk_of, agent_of};
+ghost use Rattle.canary_words.specs.CommandLine.{texts_given};
 
 use crate::values::{
     flag_given, number_given, optional_text, text_given, texts_given, texts_or_none, two_optional,
 };
-use crate::words::{Asked, AskedCommand, AskedDesk, Call, Program};
+use crate::words::{AgentCall, Asked, AskedCommand, AskedDesk, Call, Program};
 use canary_base::lists::{Listed, Text};
 use clap::ArgMatches;
 use std::alloc::{AllocError, Global};
@@ -35,7 +37,10 @@ pub(crate) fn client_program_of(
     if let Some(send) = matches.subcommand_matches("send") {
         return send_of(alloc, send);
     }
-    due_of(alloc, matches.subcommand_matches("due").unwrap())
+    if let Some(due) = matches.subcommand_matches("due") {
+        return due_of(alloc, due);
+    }
+    agent_of(alloc, matches.subcommand_matches("agent").unwrap())
 }
 
 // The program of `do` with these matches.
@@ -133,6 +138,62 @@ fn due_of(alloc: Global, due: &ArgMatches<'_>) -> Result<Program, AllocError>
         late: number_given(due, "late"),
         services: texts_given(alloc, due, "service")?,
     }))
+}
+
+// The program of `agent` with these matches.
+fn agent_of(alloc: Global, agent: &ArgMatches<'_>) -> Result<Program, AllocError>
+    requires { HasAgent (rows_of (found_of agent.now)) }
+    ensures { IfOk result (λ p. agent_of (rows_of (found_of agent.now)) ≡ Some p) }
+{
+    let named = names_of_agent(alloc, agent)?;
+    let (desk, files) = desk_and_files(alloc, agent)?;
+    let ((journals, caller), (values, health)) = named;
+    Ok(Program::Ask(Asked::Agent(AgentCall {
+        desk,
+        journals,
+        caller,
+        is_once: flag_given(agent, "once"),
+        is_dry_run: flag_given(agent, "dry-run"),
+        values,
+        abort_late: number_given(agent, "abort-late"),
+        health,
+        files,
+    })))
+}
+
+// The folder of the journals, what callers' names begin with, and the files of values and health,
+// as far as `agent` was given them.
+fn names_of_agent(
+    alloc: Global,
+    agent: &ArgMatches<'_>,
+) -> Result<((Option<Text>, Option<Text>), (Option<Text>, Option<Text>)), AllocError>
+    ensures { IfOk result (λ n.
+        (n.0.0 ≡ text_given (codes "journals") (rows_of (found_of agent.now)))
+        × (n.0.1 ≡ text_given (codes "as") (rows_of (found_of agent.now)))
+        × (n.1.0 ≡ text_given (codes "values") (rows_of (found_of agent.now)))
+        × (n.1.1 ≡ text_given (codes "health") (rows_of (found_of agent.now)))) }
+{
+    let caller = two_optional(alloc, agent, "journals", "as")?;
+    Ok((caller, two_optional(alloc, agent, "values", "health")?))
+}
+
+// The desk that `agent` asks, and the files of manifests.
+fn desk_and_files(
+    alloc: Global,
+    agent: &ArgMatches<'_>,
+) -> Result<(AskedDesk, Listed<Text>), AllocError>
+    requires { HasTimeout (rows_of (found_of agent.now))
+        × HasText (codes "file") (rows_of (found_of agent.now)) }
+    ensures { IfOk result (λ a. (a.0 ≡ agent_desk_of (rows_of (found_of agent.now)))
+        × (texts_given (codes "file") (rows_of (found_of agent.now)) ≡ Some a.1)) }
+{
+    let files = texts_given(alloc, agent, "file")?;
+    let desk = AskedDesk {
+        desk: optional_text(alloc, agent, "desk")?,
+        tries: None,
+        timeout: number_given(agent, "timeout"),
+    };
+    Ok((desk, files))
 }
 
 // The desk that a client asks, and the text that was given under this name.

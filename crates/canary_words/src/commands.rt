@@ -10,9 +10,9 @@ ghost use Rattle.canary_words.specs.CommandLine.{text_option, text_words, with_n
 ghost use Rattle.canary_words.specs.CommandLine.{with_client_commands, do_command, get_command};
 ghost use Rattle.canary_words.specs.CommandLine.{watch_command, send_command, due_command};
 ghost use Rattle.canary_words.specs.CommandLine.{with_desk_options, rule_for, with_parts};
-ghost use Rattle.canary_words.specs.CommandLine.{argo_command, more_words};
+ghost use Rattle.canary_words.specs.CommandLine.{agent_command, argo_command, more_words};
 
-use crate::help;
+use crate::{client_help, help};
 use canary_base::moments::LAST_MOMENT;
 use clap::builder::ValueParser;
 use clap::{Arg, ArgAction, Command};
@@ -74,6 +74,9 @@ enum Part {
 // `--cache BYTES`.
 const CACHE: Part = Part::Number("cache", "BYTES", MOST_CACHE, help::CACHE_HELP);
 
+// `--desk HOST:PORT`.
+const DESK: Part = Part::Optional("desk", "HOST:PORT", client_help::DESK_OPTION_HELP);
+
 // `--watch SECONDS`.
 const WATCH: Part = Part::Number("watch", "SECONDS", MOST_WATCH, help::WATCH_OPTION_HELP);
 
@@ -134,7 +137,8 @@ fn with_client_commands<'a>(
     let desk = with_command(desk, get_command(alloc));
     let desk = with_command(desk, watch_command(alloc));
     let desk = with_command(desk, send_command(alloc));
-    with_command(desk, due_command(alloc))
+    let desk = with_command(desk, due_command(alloc));
+    with_command(desk, agent_command(alloc))
 }
 
 // The desk's command with another one, if both were had.
@@ -317,22 +321,22 @@ fn do_command<'a>(alloc: Global) -> Result<Command<'a>, AllocError>
     ensures { IfOk result (λ c. app_of c ≡ do_command) }
 {
     static PARTS: [Part; 12] = [
-        Part::Optional("as", "NAME", help::AS_HELP),
-        Part::Optional("journal", "FILE", help::JOURNAL_HELP),
-        Part::Optional("once", "KEY", help::ONCE_HELP),
-        Part::Flag("instead", help::INSTEAD_HELP),
-        Part::Flag("argo", help::ARGO_OPTION_HELP),
-        Part::Optional("failure", "TEXT", help::FAILURE_HELP),
-        Part::Word("command", "COMMAND", help::COMMAND_HELP),
-        Part::OptionalWord("first", "FIRST", help::FIRST_HELP),
-        Part::OptionalWord("second", "SECOND", help::SECOND_HELP),
-        Part::OptionalWord("third", "THIRD", help::THIRD_HELP),
-        Part::OptionalWord("fourth", "FOURTH", help::FOURTH_HELP),
-        Part::MoreWords("more", "MORE", help::MORE_HELP),
+        Part::Optional("as", "NAME", client_help::AS_HELP),
+        Part::Optional("journal", "FILE", client_help::JOURNAL_HELP),
+        Part::Optional("once", "KEY", client_help::ONCE_HELP),
+        Part::Flag("instead", client_help::INSTEAD_HELP),
+        Part::Flag("argo", client_help::ARGO_OPTION_HELP),
+        Part::Optional("failure", "TEXT", client_help::FAILURE_HELP),
+        Part::Word("command", "COMMAND", client_help::COMMAND_HELP),
+        Part::OptionalWord("first", "FIRST", client_help::FIRST_HELP),
+        Part::OptionalWord("second", "SECOND", client_help::SECOND_HELP),
+        Part::OptionalWord("third", "THIRD", client_help::THIRD_HELP),
+        Part::OptionalWord("fourth", "FOURTH", client_help::FOURTH_HELP),
+        Part::MoreWords("more", "MORE", client_help::MORE_HELP),
     ];
-    let asked = command(alloc, "do", help::DO_ABOUT, help::DO_HELP);
-    let asked = asked.override_usage(help::DO_USAGE);
-    with_client_parts(alloc, asked, help::TIMEOUT_HELP, &PARTS)
+    let asked = command(alloc, "do", client_help::DO_ABOUT, client_help::DO_HELP);
+    let asked = asked.override_usage(client_help::DO_USAGE);
+    with_client_parts(alloc, asked, client_help::TIMEOUT_HELP, &PARTS)
 }
 
 // `get SERVICE`, and what of it; with the options of a client.
@@ -341,10 +345,10 @@ fn get_command<'a>(alloc: Global) -> Result<Command<'a>, AllocError>
 {
     static PARTS: [Part; 2] = [
         Part::Word("service", "SERVICE", help::SERVICE_HELP),
-        Part::OptionalWord("part", "PART", help::PART_HELP),
+        Part::OptionalWord("part", "PART", client_help::PART_HELP),
     ];
-    let get = command(alloc, "get", help::GET_ABOUT, help::GET_HELP);
-    with_client_parts(alloc, get, help::TIMEOUT_HELP, &PARTS)
+    let get = command(alloc, "get", client_help::GET_ABOUT, client_help::GET_HELP);
+    with_client_parts(alloc, get, client_help::TIMEOUT_HELP, &PARTS)
 }
 
 // `watch SERVICE` and its options.
@@ -352,22 +356,32 @@ fn watch_command<'a>(alloc: Global) -> Result<Command<'a>, AllocError>
     ensures { IfOk result (λ c. app_of c ≡ watch_command) }
 {
     static PARTS: [Part; 4] = [
-        Part::Optional("until", "STATUS,..", help::UNTIL_HELP),
-        Part::Flag("json", help::WATCH_JSON_HELP),
-        Part::Flag("forever", help::FOREVER_HELP),
+        Part::Optional("until", "STATUS,..", client_help::UNTIL_HELP),
+        Part::Flag("json", client_help::WATCH_JSON_HELP),
+        Part::Flag("forever", client_help::FOREVER_HELP),
         Part::Word("service", "SERVICE", help::SERVICE_HELP),
     ];
-    let watch = command(alloc, "watch", help::WATCH_ABOUT, help::WATCH_HELP);
-    with_client_parts(alloc, watch, help::WATCH_TIMEOUT_HELP, &PARTS)
+    let watch = command(
+        alloc,
+        "watch",
+        client_help::WATCH_ABOUT,
+        client_help::WATCH_HELP,
+    );
+    with_client_parts(alloc, watch, client_help::WATCH_TIMEOUT_HELP, &PARTS)
 }
 
 // `send CSV` and its options.
 fn send_command<'a>(alloc: Global) -> Result<Command<'a>, AllocError>
     ensures { IfOk result (λ c. app_of c ≡ send_command) }
 {
-    static PARTS: [Part; 1] = [Part::Word("csv", "CSV", help::SEND_CSV_HELP)];
-    let send = command(alloc, "send", help::SEND_ABOUT, help::SEND_HELP);
-    with_client_parts(alloc, send, help::TIMEOUT_HELP, &PARTS)
+    static PARTS: [Part; 1] = [Part::Word("csv", "CSV", client_help::SEND_CSV_HELP)];
+    let send = command(
+        alloc,
+        "send",
+        client_help::SEND_ABOUT,
+        client_help::SEND_HELP,
+    );
+    with_client_parts(alloc, send, client_help::TIMEOUT_HELP, &PARTS)
 }
 
 // `due SERVICE` and its options.
@@ -375,12 +389,47 @@ fn due_command<'a>(alloc: Global) -> Result<Command<'a>, AllocError>
     ensures { IfOk result (λ c. app_of c ≡ due_command) }
 {
     static PARTS: [Part; 3] = [
-        Part::Flag("wait", help::WAIT_HELP),
-        Part::Number("late", "SECONDS", MOST_LATE, help::LATE_HELP),
-        Part::SomeWords("service", "SERVICE", help::SERVICES_HELP),
+        Part::Flag("wait", client_help::WAIT_HELP),
+        Part::Number("late", "SECONDS", MOST_LATE, client_help::LATE_HELP),
+        Part::SomeWords("service", "SERVICE", client_help::SERVICES_HELP),
     ];
-    let due = command(alloc, "due", help::DUE_ABOUT, help::DUE_HELP);
-    with_client_parts(alloc, due, help::DUE_TIMEOUT_HELP, &PARTS)
+    let due = command(alloc, "due", client_help::DUE_ABOUT, client_help::DUE_HELP);
+    with_client_parts(alloc, due, client_help::DUE_TIMEOUT_HELP, &PARTS)
+}
+
+// `agent FILE..` and its options.
+fn agent_command<'a>(alloc: Global) -> Result<Command<'a>, AllocError>
+    ensures { IfOk result (λ c. app_of c ≡ agent_command) }
+{
+    static PARTS: [Part; 10] = [
+        DESK,
+        Part::Optional("journals", "FOLDER", client_help::JOURNALS_HELP),
+        Part::Optional("as", "PREFIX", client_help::AGENT_AS_HELP),
+        Part::Flag("once", client_help::AGENT_ONCE_HELP),
+        Part::Flag("dry-run", client_help::AGENT_DRY_RUN_HELP),
+        Part::Optional("values", "FILE", client_help::VALUES_HELP),
+        Part::Number(
+            "abort-late",
+            "SECONDS",
+            MOST_LATE,
+            client_help::ABORT_LATE_HELP,
+        ),
+        Part::Optional("health", "FILE", client_help::HEALTH_HELP),
+        Part::Number(
+            "timeout",
+            "SECONDS",
+            MOST_SECONDS,
+            client_help::AGENT_TIMEOUT_HELP,
+        ),
+        Part::SomeWords("file", "FILE", client_help::AGENT_FILES_HELP),
+    ];
+    let agent = command(
+        alloc,
+        "agent",
+        client_help::AGENT_ABOUT,
+        client_help::AGENT_HELP,
+    );
+    with_parts(alloc, agent, &PARTS)
 }
 
 // The command of this name, with no part yet.
@@ -400,12 +449,12 @@ fn with_client_parts<'a>(
     ensures { IfOk result (λ c. app_of c
         ≡ with_parts (with_desk_options (app_of client.entry)) parts.now) }
 {
-    static DESK: [Part; 2] = [
-        Part::Optional("desk", "IP:PORT", help::DESK_OPTION_HELP),
-        Part::Number("tries", "N", MOST_TRIES, help::TRIES_HELP),
+    static BEGUN: [Part; 2] = [
+        DESK,
+        Part::Number("tries", "N", MOST_TRIES, client_help::TRIES_HELP),
     ];
     let timeout = Part::Number("timeout", "SECONDS", MOST_SECONDS, timeout_help);
-    let client = with_parts(alloc, client, &DESK)?;
+    let client = with_parts(alloc, client, &BEGUN)?;
     let client = client.arg(arg_of(alloc, &timeout))?;
     with_parts(alloc, client, parts)
 }

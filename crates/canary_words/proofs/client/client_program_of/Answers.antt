@@ -45,10 +45,20 @@ returns-in-Some-subcommand_matches-3 c =
 
 pub due_of-requires : goal.due_of-requires
 due_of-requires c =
-    let met = met_by c.args.matches.now (codes "due") c.subcommand_matches-5.result c.unwrap.result c.subcommand_matches-5.ensures.found c.subcommand_matches-5.ensures.rows c.unwrap.ensures in
-    client_given_for (subcommand_rows_of c.args.matches.now) (codes "due") (rows_of (found_of c.unwrap.result.now)) c.requires met
+    let met = met_by c.args.matches.now (codes "due") c.subcommand_matches-5.result c.in-Some-subcommand_matches-4.due c.subcommand_matches-5.ensures.found c.subcommand_matches-5.ensures.rows c.in-Some-subcommand_matches-4.is in
+    client_given_for (subcommand_rows_of c.args.matches.now) (codes "due") (rows_of (found_of c.in-Some-subcommand_matches-4.due.now)) c.requires met
+
+pub returns-in-Some-subcommand_matches-4 : goal.returns-in-Some-subcommand_matches-4
+returns-in-Some-subcommand_matches-4 c =
+    let met = met_by c.args.matches.now (codes "due") c.subcommand_matches-5.result c.in-Some-subcommand_matches-4.due c.subcommand_matches-5.ensures.found c.subcommand_matches-5.ensures.rows c.in-Some-subcommand_matches-4.is in
+    program_so (subcommand_rows_of c.args.matches.now) (codes "due") (rows_of (found_of c.in-Some-subcommand_matches-4.due.now)) c.due_of.result met c.due_of.ensures
+
+pub agent_of-requires : goal.agent_of-requires
+agent_of-requires c =
+    let met = met_by c.args.matches.now (codes "agent") c.subcommand_matches-6.result c.unwrap.result c.subcommand_matches-6.ensures.found c.subcommand_matches-6.ensures.rows c.unwrap.ensures in
+    client_given_for (subcommand_rows_of c.args.matches.now) (codes "agent") (rows_of (found_of c.unwrap.result.now)) c.requires met
 
 pub returns : goal.returns
 returns c =
-    let met = met_by c.args.matches.now (codes "due") c.subcommand_matches-5.result c.unwrap.result c.subcommand_matches-5.ensures.found c.subcommand_matches-5.ensures.rows c.unwrap.ensures in
-    program_so (subcommand_rows_of c.args.matches.now) (codes "due") (rows_of (found_of c.unwrap.result.now)) c.due_of.result met c.due_of.ensures
+    let met = met_by c.args.matches.now (codes "agent") c.subcommand_matches-6.result c.unwrap.result c.subcommand_matches-6.ensures.found c.subcommand_matches-6.ensures.rows c.unwrap.ensures in
+    program_so (subcommand_rows_of c.args.matches.now) (codes "agent") (rows_of (found_of c.unwrap.result.now)) c.agent_of.result met c.agent_of.ensures

@@ -1,0 +1,174 @@
+//! What is measured, read from files of manifests.
+use crate::files::Files;
+use crate::plan::{Metric, Plan, Served, Source};
+use canary_argo_files::reading::{Manifests, ReadFault, read_files};
+use canary_argo_files::translated::{Translated, translate};
+use canary_base::durations::Seconds;
+use canary_base::error::Memory;
+use canary_base::lists::Text;
+use canary_base::names::{Label, Name};
+use canary_client::outcome::{say, say_lines, say_of};
+use canary_convert::conversion::Converted;
+use canary_convert::work::{Made, Planned};
+use canary_markup::shown::{Form, shown};
+use canary_provider::plan::Provider;
+use serde_json::Value;
+use std::alloc::Global;
+use std::io::Write;
+
+const UNREAD: &str = "the file cannot be read";
+
+const LATE: &str = "a value of it is known only as it is measured: let a program of your own ask \
+    it, and give what it measures to canary agent --values -, in lines SERVICE METRIC VALUE";
+
+/// What is measured by these files; none if they are not translated, and then `errors` says why.
+/// With `has_lines` another program gives what no provider is asked for; else `errors` has a line
+/// for each such metric.
+///
+/// # Errors
+/// `Memory` if an allocation was refused.
+pub(crate) fn plan_in<F: Write>(
+    rt: &HostRuntime,
+    files: &Files,
+    has_lines: bool,
+    errors: &mut F,
+) -> Result<Option<Plan>, Memory> {
+    let alloc = rt.alloc();
+    let names = files.names(alloc)?;
+    let mut nothing: &[u8] = &[];
+    match read_files(rt, names.as_slice(), &mut nothing) {
+        Ok(manifests) => plan_of(alloc, &manifests, has_lines, errors),
+        Err(ReadFault::Memory) => Err(Memory),
+        Err(ReadFault::File(index)) => {
+            say_unread(alloc, names.as_slice(), index, errors);
+            Ok(None)
+        }
+    }
+}
+
+fn say_unread<F: Write>(alloc: Global, names: &[Text], index: usize, errors: &mut F) {
+    match names.get(index) {
+        Some(name) => say_of(alloc, errors, UNREAD, name.as_str()),
+        None => say(errors, UNREAD),
+    }
+}
+
+fn plan_of<F: Write>(
+    alloc: Global,
+    manifests: &Manifests,
+    has_lines: bool,
+    errors: &mut F,
+) -> Result<Option<Plan>, Memory> {
+    let translated = translate(alloc, manifests)?;
+    if translated.is_found() {
+        say_lines(errors, translated.found.lines(alloc, manifests)?.as_str());
+        return Ok(None);
+    }
+    let Translated { made, .. } = translated;
+    Ok(Some(measured_by(alloc, &made, has_lines, errors)?))
+}
+
+// What is measured by what the manifests became.
+fn measured_by<F: Write>(
+    alloc: Global,
+    made: &Converted,
+    has_lines: bool,
+    errors: &mut F,
+) -> Result<Plan, Memory> {
+    let mut services = Vec::new(alloc);
+    for service in &made.services {
+        if let Some(name) = Name::read(service.name.as_str().as_bytes()) {
+            let metrics = metrics_of(alloc, made, name, has_lines, errors)?;
+            services.push(Served { name, metrics })?;
+        }
+    }
+    Ok(Plan { services })
+}
+
+fn metrics_of<F: Write>(
+    alloc: Global,
+    made: &Converted,
+    service: Name,
+    has_lines: bool,
+    errors: &mut F,
+) -> Result<Vec<Metric>, Memory> {
+    let mut metrics = Vec::new(alloc);
+    for planned in &made.plan {
+        if planned.service.as_str() == service.as_str()
+            && let Some(label) = Label::read(planned.label.as_str().as_bytes())
+        {
+            let interval = interval_of(alloc, made.templates.as_slice(), planned)?;
+            let source = source_of(alloc, planned, has_lines, errors)?;
+            let name = String::from_str(alloc, planned.metric.as_str())?;
+            metrics.push(Metric {
+                label,
+                name,
+                interval,
+                source,
+            })?;
+        }
+    }
+    Ok(metrics)
+}
+
+// Where what is measured of a metric comes from. If it is another program, and none gives lines, or
+// if the provider is not asked, `errors` says so.
+fn source_of<F: Write>(
+    alloc: Global,
+    planned: &Planned,
+    has_lines: bool,
+    errors: &mut F,
+) -> Result<Source, Memory> {
+    let why = if planned.late.as_str() != "{}" {
+        LATE
+    } else {
+        match Provider::read(alloc, planned.kind.as_str(), planned.provider.as_str())? {
+            Ok(provider) => return Ok(Source::Provider(provider)),
+            Err(refusal) => refusal.text(),
+        }
+    };
+    if has_lines {
+        return Ok(Source::Lines);
+    }
+    say(errors, refusal_line(alloc, planned, why)?.as_str());
+    Ok(Source::Nowhere)
+}
+
+fn refusal_line(alloc: Global, planned: &Planned, why: &str) -> Result<String, Memory> {
+    let (service, metric) = (planned.service.as_str(), planned.metric.as_str());
+    let kind = planned.kind.as_str();
+    let line = format!(in alloc; "{service} {metric}: {kind}: {why}")?;
+    shown(alloc, line.as_str(), Form::Line)
+}
+
+// The interval of a metric of the desk's templates.
+fn interval_of(
+    alloc: Global,
+    templates: &[Made],
+    planned: &Planned,
+) -> Result<Option<u32>, Memory> {
+    for template in templates {
+        if template.name.as_str() == planned.template.as_str() {
+            return interval_in(alloc, template.json.as_str(), planned.label.as_str());
+        }
+    }
+    Ok(None)
+}
+
+fn interval_in(alloc: Global, template: &str, label: &str) -> Result<Option<u32>, Memory> {
+    match Value::from_str(alloc, template) {
+        Ok(value) => Ok(interval_at(&value, label)),
+        Err(fault) if fault.is_memory() => Err(Memory),
+        Err(_) => Ok(None),
+    }
+}
+
+fn interval_at(template: &Value, label: &str) -> Option<u32> {
+    for metric in template.get("spec")?.get("metrics")?.as_array()?.iter() {
+        if metric.get("name").and_then(Value::as_str) == Some(label) {
+            let interval = metric.get("interval").and_then(Value::as_str)?;
+            return Some(Seconds::read(interval)?.get());
+        }
+    }
+    None
+}

@@ -1,0 +1,207 @@
+//! The lines of another program, read without waiting for any.
+use mio::unix::SourceFd;
+use mio::{Events, Interest, Poll, Token};
+use std::alloc::{AllocError, Global};
+use std::fs::{self, File, OpenOptions};
+use std::io::{self, ErrorKind, Read};
+use std::net::Net;
+use std::os::fd::{AsRawFd, RawFd};
+use std::os::unix::fs::FileTypeExt;
+
+// The name of standard input.
+const INPUT: &str = "-";
+
+// The descriptor of a process's standard input.
+const STANDARD_INPUT: RawFd = 0;
+
+// How many bytes are read at a time.
+const PIECE: usize = 16_384;
+
+/// The most bytes of a line.
+pub(crate) const MOST_LINE: usize = 4_096;
+
+// What says whether a descriptor has bytes to read.
+#[derive(Drop)]
+struct Gate {
+    poll: Poll,
+    events: Events<Global>,
+    descriptor: RawFd,
+}
+
+impl Gate {
+    // The gate of a descriptor; none if the system has none for it, as for a file, of which a read
+    // never waits.
+    fn new<R: Net + AllocGlobal>(rt: &R, descriptor: RawFd) -> Option<Gate> {
+        let poll = Poll::new(rt).ok()?;
+        let events = Events::with_capacity(rt.alloc(), 1).ok()?;
+        poll.registry()
+            .register(&mut SourceFd(&descriptor), Token(0), Interest::READABLE)
+            .ok()?;
+        Some(Gate {
+            poll,
+            events,
+            descriptor,
+        })
+    }
+
+    // Whether a read does not wait.
+    fn is_open(&mut self) -> io::Result<bool> {
+        self.poll.registry().reregister(
+            &mut SourceFd(&self.descriptor),
+            Token(0),
+            Interest::READABLE,
+        )?;
+        self.poll
+            .poll(&mut self.events, Some(std::time::Duration::ZERO))?;
+        Ok(self.events.iter().count() > 0)
+    }
+}
+
+// Where the lines come from.
+#[derive(Drop)]
+enum Origin {
+    Input,
+    File(File),
+}
+
+/// The lines of another program.
+#[derive(Drop)]
+pub(crate) struct Reader {
+    origin: Origin,
+    gate: Option<Gate>,
+    held: Vec<u8>,
+    // Whether the line that is held is too long, so that the rest of it is left out.
+    is_too_long: bool,
+    is_ended: bool,
+}
+
+/// What a reader has.
+#[derive(Drop)]
+pub(crate) enum Told {
+    /// A line, without its end.
+    Line(Vec<u8>),
+    /// That a line was too long.
+    TooLong,
+    /// That no more comes.
+    End,
+    /// Nothing now.
+    Nothing,
+}
+
+impl Reader {
+    /// The lines of the file of this name, a regular file or a FIFO; `-` is standard input, which
+    /// `input` then has to be.
+    ///
+    /// # Errors
+    /// What the system answers.
+    pub(crate) fn open(rt: &HostRuntime, name: &str) -> io::Result<Reader> {
+        let origin = origin_of(rt, name)?;
+        let descriptor = match &origin {
+            Origin::Input => STANDARD_INPUT,
+            Origin::File(file) => file.as_raw_fd(),
+        };
+        Ok(Reader {
+            gate: Gate::new(rt, descriptor),
+            origin,
+            held: Vec::new(rt.alloc()),
+            is_too_long: false,
+            is_ended: false,
+        })
+    }
+
+    /// The next line that is there.
+    ///
+    /// # Errors
+    /// `AllocError` if an allocation was refused.
+    pub(crate) fn next<R: Read>(
+        &mut self,
+        alloc: Global,
+        input: &mut R,
+    ) -> Result<Told, AllocError> {
+        for _ in 0..u64::MAX {
+            if let Some(end) = self.held.as_slice().iter().position(|byte| *byte == b'\n') {
+                return self.line_to(alloc, end);
+            }
+            self.shorten();
+            if self.is_ended || !self.is_open() {
+                return Ok(Told::Nothing);
+            }
+            match self.read(input)? {
+                Some(0) if self.gate.is_some() => return self.rest(alloc),
+                Some(0) | None => return Ok(Told::Nothing),
+                Some(_) => {}
+            }
+        }
+        Ok(Told::Nothing)
+    }
+
+    // The last line, if it has no end; else that no more comes.
+    fn rest(&mut self, alloc: Global) -> Result<Told, AllocError> {
+        if self.held.is_empty() {
+            self.is_ended = true;
+            return Ok(Told::End);
+        }
+        let end = self.held.len();
+        self.line_to(alloc, end)
+    }
+
+    // The line up to this place, which is held no more.
+    fn line_to(&mut self, alloc: Global, end: usize) -> Result<Told, AllocError> {
+        let held = self.held.as_slice();
+        let line = Vec::from_slice(alloc, held.get(..end).unwrap_or(&[]))?;
+        let rest = Vec::from_slice(alloc, held.get(end.saturating_add(1)..).unwrap_or(&[]))?;
+        self.held = rest;
+        if self.is_too_long || line.len() > MOST_LINE {
+            self.is_too_long = false;
+            return Ok(Told::TooLong);
+        }
+        Ok(Told::Line(line))
+    }
+
+    // Forgets a line that is too long already.
+    fn shorten(&mut self) {
+        if self.held.len() > MOST_LINE {
+            self.held.clear();
+            self.is_too_long = true;
+        }
+    }
+
+    fn is_open(&mut self) -> bool {
+        match &mut self.gate {
+            Some(gate) => gate.is_open().unwrap_or(false),
+            None => true,
+        }
+    }
+
+    // Reads some bytes more: none at the end, or if the file cannot be read. No answer if the read
+    // was interrupted.
+    fn read<R: Read>(&mut self, input: &mut R) -> Result<Option<usize>, AllocError> {
+        let mut piece = [0u8; PIECE];
+        let count = match &mut self.origin {
+            Origin::Input => input.read(&mut piece),
+            Origin::File(file) => file.read(&mut piece),
+        };
+        let count = match count {
+            Ok(count) => count,
+            Err(error) if error.kind() == ErrorKind::Interrupted => return Ok(None),
+            Err(_) => 0,
+        };
+        self.held
+            .extend_from_slice(piece.get(..count).unwrap_or(&[]))?;
+        Ok(Some(count))
+    }
+}
+
+// A FIFO is opened to be written, too, so that it never ends, and no open waits.
+fn origin_of(rt: &HostRuntime, name: &str) -> io::Result<Origin> {
+    if name == INPUT {
+        return Ok(Origin::Input);
+    }
+    let found = fs::metadata(rt, name)?;
+    if found.is_dir() {
+        return Err(ErrorKind::IsADirectory.into());
+    }
+    let is_fifo = found.file_type().is_fifo();
+    let file = OpenOptions::new().read(true).write(is_fifo).open(rt, name)?;
+    Ok(Origin::File(file))
+}

@@ -1,0 +1,400 @@
+//! Rounds over services: each has its turn when its time has come.
+ghost use Rattle.std.specs.Prelude.{IsTrue};
+ghost use Rattle.canary_sending.specs.Networks.{GoesOn};
+ghost use Rattle.canary_client.specs.Promises.{IsQuery};
+
+use crate::asking::Asking;
+use crate::attended::Attended;
+use crate::ended::{Ended, worse};
+use crate::files::Files;
+use crate::health::touch;
+use crate::manner::Manner;
+use crate::plan::{Plan, Served};
+use crate::planning::plan_in;
+use crate::reader::{Reader, Told};
+use crate::values::{Said, Values, measured_in};
+use crate::watch::Watch;
+use canary_base::error::Memory;
+use canary_base::lists::{Listed, Text};
+use canary_base::names::{Label, Name};
+use canary_client::outcome::{Outcome, Stop, say, say_of};
+use canary_fetch::fetcher::FetchFault;
+use canary_markup::shown::{Form, shown};
+use canary_sending::network::Network;
+use std::alloc::Global;
+use std::io::{Read, Write};
+use std::{mem, str};
+
+// The longest wait of a round, and the time between two looks at the files, in milliseconds.
+const LONGEST: u64 = 1_000;
+
+// The most lines of another program that are read in a round.
+const MOST_LINES: u32 = 1_000;
+
+// The most bytes that are shown of a line that is none.
+const MOST_SHOWN: usize = 200;
+
+const UNTOUCHED: &str = "the file of --health cannot be touched";
+
+const ENDED: &str = "the program that gives values has ended: no more come";
+
+const NO_CALLER: &str = "not measured: its caller's name would have more than 63 bytes";
+
+const NO_LINE: &str = "a line of --values is no SERVICE METRIC VALUE of these files";
+
+/// What a call goes round with.
+#[derive(Drop)]
+pub(crate) struct Rounds {
+    list: Vec<Attended>,
+    asking: Asking,
+    files: Files,
+    // When the files are looked at next, in milliseconds of the call.
+    files_at: u64,
+    reader: Option<Reader>,
+    values: Values,
+    // When the watchdog's file is touched next, and whether it could not be.
+    touch_at: u64,
+    is_untouched: bool,
+    watch: Watch,
+    outcome: Outcome,
+}
+
+/// What the words of a call name, with what its callers' names begin with.
+#[derive(Clone, Copy)]
+pub(crate) struct Named<'a> {
+    pub(crate) files: &'a Listed<Text>,
+    pub(crate) health: &'a Option<Text>,
+    pub(crate) prefix: &'a str,
+}
+
+impl Rounds {
+    /// The services of these files, of which none was looked at.
+    ///
+    /// # Errors
+    /// `Manifests` if the files are not translated, and `errors` says why; `NoService` if there is
+    /// none; `Connections`, `Clock`; `Memory`.
+    pub(crate) fn new<F: Write>(
+        rt: &HostRuntime,
+        named: &Named<'_>,
+        reader: Option<Reader>,
+        errors: &mut F,
+    ) -> Result<Rounds, Ended> {
+        let alloc = rt.alloc();
+        let files = Files::look(rt, named.files.as_slice())?;
+        let Some(plan) = plan_in(rt, &files, reader.is_some(), errors)? else {
+            return Err(Ended::Manifests);
+        };
+        let mut rounds = Rounds {
+            list: Vec::new(alloc),
+            asking: asking(rt)?,
+            files,
+            files_at: LONGEST,
+            reader,
+            values: Values::new(alloc),
+            touch_at: 0,
+            is_untouched: false,
+            watch: Watch::new(rt)?,
+            outcome: Outcome::Done,
+        };
+        rounds.serve(alloc, named.prefix, plan, errors)?;
+        if rounds.list.is_empty() {
+            return Err(Ended::NoService);
+        }
+        Ok(rounds)
+    }
+
+    // Attends the services of a plan from now on. One that was attended goes on.
+    fn serve<F: Write>(
+        &mut self,
+        alloc: Global,
+        prefix: &str,
+        plan: Plan,
+        errors: &mut F,
+    ) -> Result<(), Memory> {
+        let before = mem::replace(&mut self.list, Vec::new(alloc));
+        let mut before = Known { list: before };
+        let Plan { services } = plan;
+        for served in services {
+            match before.take(alloc, served.name)? {
+                Some(attended) => self.list.push(serving(alloc, attended, served)?)?,
+                None => self.add(alloc, prefix, served, errors)?,
+            }
+        }
+        Ok(())
+    }
+
+    fn add<F: Write>(
+        &mut self,
+        alloc: Global,
+        prefix: &str,
+        served: Served,
+        errors: &mut F,
+    ) -> Result<(), Memory> {
+        match caller_of(alloc, prefix, served.name)? {
+            Some(caller) => self.list.push(Attended::new(alloc, served, caller))?,
+            None => {
+                let service = served.name;
+                self.outcome = Outcome::Words;
+                say(
+                    errors,
+                    format!(in alloc; "{service}: {NO_CALLER}")?.as_str(),
+                );
+            }
+        }
+        Ok(())
+    }
+
+    /// Goes round once: whoever's time has come is looked at, what came is reported, and then it is
+    /// waited until more is to be done. If each service is looked at once and all is done, it
+    /// answers how the call ends.
+    ///
+    /// # Errors
+    /// `Output` if the output failed; `Connections`, `Clock`; `Memory`.
+    pub(crate) fn go<N: Network, R: Read, W: Write, F: Write>(
+        &mut self,
+        rt: &HostRuntime,
+        network: &mut N,
+        named: &Named<'_>,
+        manner: &Manner<'_>,
+        input: &mut R,
+        output: &mut W,
+        errors: &mut F,
+    ) -> Result<Option<Outcome>, Ended>
+        ensures dry { IsTrue manner.now.is_dry_run → GoesOn N.was_sent N.was_told N.was_unanswered
+            network.old network.new IsQuery }
+    {
+        let now = self.watch.now(rt)?;
+        if !manner.is_once {
+            self.look_at_files(rt, named, now, errors)?;
+        }
+        self.read_lines(rt.alloc(), now, input, errors)?;
+        self.attend(rt, network, manner, now, output, errors)?;
+        self.touch(rt, named.health, now, errors);
+        if manner.is_once && self.list.iter().all(Attended::is_done) {
+            return Ok(Some(self.ended()));
+        }
+        self.wait(rt)?;
+        self.settle(rt.alloc())?;
+        Ok(None)
+    }
+
+    // Reads the files again if one changed.
+    fn look_at_files<F: Write>(
+        &mut self,
+        rt: &HostRuntime,
+        named: &Named<'_>,
+        now: u64,
+        errors: &mut F,
+    ) -> Result<(), Memory> {
+        if now < self.files_at {
+            return Ok(());
+        }
+        self.files_at = now.saturating_add(LONGEST);
+        let files = Files::look(rt, named.files.as_slice())?;
+        if files.are_as(&self.files) {
+            return Ok(());
+        }
+        self.files = files;
+        match plan_in(rt, &self.files, self.reader.is_some(), errors)? {
+            Some(plan) => self.serve(rt.alloc(), named.prefix, plan, errors),
+            None => Ok(()),
+        }
+    }
+
+    // Takes in what another program gave.
+    fn read_lines<R: Read, F: Write>(
+        &mut self,
+        alloc: Global,
+        now: u64,
+        input: &mut R,
+        errors: &mut F,
+    ) -> Result<(), Memory> {
+        for _ in 0..MOST_LINES {
+            let Some(reader) = &mut self.reader else {
+                return Ok(());
+            };
+            match reader.next(alloc, input)? {
+                Told::Line(line) => self.read_line(alloc, line.as_slice(), now, errors)?,
+                Told::TooLong => say_no_line(alloc, b"", errors)?,
+                Told::End => say(errors, ENDED),
+                Told::Nothing => return Ok(()),
+            }
+        }
+        Ok(())
+    }
+
+    fn read_line<F: Write>(
+        &mut self,
+        alloc: Global,
+        line: &[u8],
+        now: u64,
+        errors: &mut F,
+    ) -> Result<(), Memory> {
+        let Some((service, metric, value)) = self.named_in(line) else {
+            return say_no_line(alloc, line, errors);
+        };
+        match measured_in(alloc, value)? {
+            Some(measured) => self.values.put(alloc, service, metric, measured, now),
+            None => say_no_line(alloc, line, errors),
+        }
+    }
+
+    // The service and the metric of the plan that a line names, and its value.
+    fn named_in<'a>(&self, line: &'a [u8]) -> Option<(Name, Label, &'a str)> {
+        let Said {
+            service,
+            metric,
+            value,
+        } = Said::read(str::from_utf8(line).ok()?)?;
+        for attended in &self.list {
+            if attended.name().as_str() == service {
+                let metric = attended.awaited(metric)?;
+                return Some((attended.name(), metric, value));
+            }
+        }
+        None
+    }
+
+    // Has each service its turn. If the desk is away, that takes time: the others have theirs in
+    // the next rounds.
+    fn attend<N: Network, W: Write, F: Write>(
+        &mut self,
+        rt: &HostRuntime,
+        network: &mut N,
+        manner: &Manner<'_>,
+        now: u64,
+        output: &mut W,
+        errors: &mut F,
+    ) -> Result<(), Stop>
+        ensures { IsTrue manner.now.is_dry_run → GoesOn N.was_sent N.was_told N.was_unanswered
+            network.old network.new IsQuery }
+    {
+        for attended in self.list.iter_mut() {
+            attended.take_values(rt.alloc(), &mut self.values, now)?;
+            let is_there = attended.report(rt, network, manner, now, output, errors)?
+                && attended.attend(rt, network, manner, &mut self.asking, now, output, errors)?;
+            if !is_there {
+                return Ok(());
+            }
+        }
+        Ok(())
+    }
+
+    // Touches the file of the watchdog once a second, and says once that it cannot.
+    fn touch<F: Write>(
+        &mut self,
+        rt: &HostRuntime,
+        health: &Option<Text>,
+        now: u64,
+        errors: &mut F,
+    ) {
+        let Some(name) = health else {
+            return;
+        };
+        if now < self.touch_at {
+            return;
+        }
+        self.touch_at = now.saturating_add(LONGEST);
+        let is_touched = touch(rt, name.as_str()).is_ok();
+        if !is_touched && !self.is_untouched {
+            say_of(rt.alloc(), errors, UNTOUCHED, name.as_str());
+        }
+        self.is_untouched = !is_touched;
+    }
+
+    // Waits until a provider answers, or the time of a service has come.
+    fn wait(&mut self, rt: &HostRuntime) -> Result<(), Ended> {
+        let now = self.watch.now(rt)?;
+        let mut left = LONGEST;
+        for attended in &self.list {
+            left = left.min(attended.next_at().saturating_sub(now));
+        }
+        match self.asking.wait(rt, left) {
+            Ok(()) => Ok(()),
+            Err(fault) => Err(ended_by(fault)),
+        }
+    }
+
+    // Has each service what came for it.
+    fn settle(&mut self, alloc: Global) -> Result<(), Memory> {
+        for _ in 0..u64::MAX {
+            let Some(answer) = self.asking.answer() else {
+                return Ok(());
+            };
+            for attended in self.list.iter_mut() {
+                if attended.settle(alloc, answer.token, &answer.outcome)? {
+                    break;
+                }
+            }
+        }
+        Ok(())
+    }
+
+    // How a call ends that looked at each service once.
+    fn ended(&self) -> Outcome {
+        let mut outcome = self.outcome;
+        for attended in &self.list {
+            outcome = worse(outcome, attended.outcome());
+        }
+        outcome
+    }
+}
+
+// Services that were attended.
+#[derive(Drop)]
+struct Known {
+    list: Vec<Attended>,
+}
+
+impl Known {
+    // Takes out the one of this name, or `Memory`.
+    fn take(&mut self, alloc: Global, name: Name) -> Result<Option<Attended>, Memory> {
+        let list = mem::replace(&mut self.list, Vec::new(alloc));
+        let mut found = None;
+        for attended in list {
+            if attended.name() == name {
+                found = Some(attended);
+            } else {
+                self.list.push(attended)?;
+            }
+        }
+        Ok(found)
+    }
+}
+
+fn serving(alloc: Global, attended: Attended, served: Served) -> Result<Attended, Memory> {
+    let mut attended = attended;
+    attended.serve(alloc, served)?;
+    Ok(attended)
+}
+
+fn asking(rt: &HostRuntime) -> Result<Asking, Ended> {
+    match Asking::new(rt) {
+        Ok(asking) => Ok(asking),
+        Err(fault) => Err(ended_by(fault)),
+    }
+}
+
+fn ended_by(fault: FetchFault) -> Ended {
+    match fault {
+        FetchFault::Poll => Ended::Connections,
+        FetchFault::Memory => Ended::Stopped(Stop::Memory),
+    }
+}
+
+// The caller of a service, if that is a name.
+fn caller_of(alloc: Global, prefix: &str, service: Name) -> Result<Option<Name>, Memory> {
+    let service = service.as_str();
+    let text = format!(in alloc; "{prefix}-{service}")?;
+    Ok(Name::read(text.as_str().as_bytes()))
+}
+
+// Says that a line is none, and how it begins.
+fn say_no_line<F: Write>(alloc: Global, line: &[u8], errors: &mut F) -> Result<(), Memory> {
+    let front = line.get(..line.len().min(MOST_SHOWN)).unwrap_or(&[]);
+    let front = String::from_utf8_lossy(alloc, front)?;
+    let front = shown(alloc, front.as_str(), Form::Line)?;
+    let front = front.as_str();
+    say(errors, format!(in alloc; "{NO_LINE}: {front}")?.as_str());
+    Ok(())
+}

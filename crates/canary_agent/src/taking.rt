@@ -1,0 +1,249 @@
+//! Measurements that are being taken.
+ghost use Rattle.std.specs.Prelude.{◌≡◌, ◌≤◌};
+
+use crate::plan::Metric;
+use crate::taken::{Came, Taken};
+use canary_base::error::Memory;
+use canary_base::moments::Moment;
+use canary_base::names::Label;
+use canary_base::numbers::Number;
+use std::alloc::Global;
+use std::mem;
+
+// The longest time of a measurement, in milliseconds.
+const LONGEST: u64 = 30_000;
+
+/// A measurement that is being taken.
+#[derive(Drop)]
+pub(crate) struct Taking {
+    /// The run.
+    pub(crate) run: Number,
+    /// The metric, by its label at the desk.
+    pub(crate) metric: Label,
+    /// Which measurement of it in its run it is, from 1.
+    pub(crate) ordinal: Number,
+    /// When it is taken, by the desk's clock.
+    pub(crate) moment: Moment,
+    /// The message to the provider; none if another program gives the value.
+    pub(crate) token: Option<usize>,
+    /// From when on it is reported, although others of its run are not there yet. These, and the
+    /// next, are milliseconds of the call.
+    pub(crate) report_at: u64,
+    /// When it began, and when it ends at the latest.
+    pub(crate) began_at: u64,
+    pub(crate) ends_at: u64,
+    /// What came of it, once that is there.
+    pub(crate) came: Option<Came>,
+}
+
+impl Taking {
+    fn is_of(&self, run: Number, metric: &Label) -> bool {
+        self.run == run && self.metric == *metric
+    }
+}
+
+/// The measurements of a service that are being taken.
+#[derive(Drop)]
+pub(crate) struct Takings {
+    list: Vec<Taking>,
+}
+
+impl Takings {
+    /// None.
+    pub(crate) fn new(alloc: Global) -> Takings {
+        Takings {
+            list: Vec::new(alloc),
+        }
+    }
+
+    /// Whether there is none.
+    pub(crate) fn is_empty(&self) -> bool {
+        self.list.is_empty()
+    }
+
+    /// Forgets those for which a provider is asked, if nothing came yet; or `Memory`.
+    pub(crate) fn forget_asked(&mut self, alloc: Global) -> Result<(), Memory> {
+        let list = mem::replace(&mut self.list, Vec::new(alloc));
+        for taking in list {
+            if taking.token.is_none() || taking.came.is_some() {
+                self.list.push(taking)?;
+            }
+        }
+        Ok(())
+    }
+
+    /// Adds one, or `Memory`.
+    pub(crate) fn add(&mut self, taking: Taking) -> Result<(), Memory> {
+        self.list.push(taking)?;
+        Ok(())
+    }
+
+    /// Whether there is one of this metric of a run.
+    pub(crate) fn has(&self, run: Number, metric: &Label) -> bool {
+        for taking in &self.list {
+            if taking.is_of(run, metric) {
+                return true;
+            }
+        }
+        false
+    }
+
+    /// The metric whose value the message of this token asks for.
+    pub(crate) fn metric_of(&self, token: usize) -> Option<Label> {
+        for taking in &self.list {
+            if taking.token == Some(token) {
+                return Some(taking.metric);
+            }
+        }
+        None
+    }
+
+    /// What came of the message of this token.
+    pub(crate) fn settle(&mut self, token: usize, came: Came) {
+        for taking in self.list.iter_mut() {
+            if taking.token == Some(token) {
+                taking.came = Some(came);
+                return;
+            }
+        }
+    }
+
+    /// The first one, from this place on, that another program gives, and that is not there yet.
+    pub(crate) fn awaited_from(&self, place: usize) -> Option<usize> {
+        for (index, taking) in self.list.iter().enumerate() {
+            if index >= place && taking.token.is_none() && taking.came.is_none() {
+                return Some(index);
+            }
+        }
+        None
+    }
+
+    /// The one at this place.
+    pub(crate) fn at(&self, place: usize) -> Option<&Taking> {
+        self.list.get(place)
+    }
+
+    /// What came of the one at this place.
+    pub(crate) fn give(&mut self, place: usize, came: Came) {
+        if let Some(taking) = self.list.get_mut(place) {
+            taking.came = Some(came);
+        }
+    }
+
+    /// A run of which a report is to be made now: each of its measurements is there, or one of them
+    /// has waited long enough for the others.
+    pub(crate) fn ready_run(&self, now: u64) -> Option<Number> {
+        for taking in &self.list {
+            if taking.came.is_some() && (taking.report_at <= now || self.are_there(taking.run)) {
+                return Some(taking.run);
+            }
+        }
+        None
+    }
+
+    // Whether each measurement of a run is there.
+    fn are_there(&self, run: Number) -> bool {
+        for taking in &self.list {
+            if taking.run == run && taking.came.is_none() {
+                return false;
+            }
+        }
+        true
+    }
+
+    /// Takes out what is there of a run, or `Memory`.
+    pub(crate) fn take(&mut self, alloc: Global, run: Number) -> Result<Vec<Taken>, Memory> {
+        let list = mem::replace(&mut self.list, Vec::new(alloc));
+        let mut found = Vec::new(alloc);
+        for taking in list {
+            match part_of(taking, run) {
+                Part::There(taken) => found.push(taken)?,
+                Part::Left(taking) => self.list.push(taking)?,
+            }
+        }
+        Ok(found)
+    }
+
+    /// When a report may be made at the latest, if one is to be made; or when one that another
+    /// program gives ends.
+    pub(crate) fn next_at(&self) -> Option<u64> {
+        let mut next: Option<u64> = None;
+        for taking in &self.list {
+            let at = if taking.came.is_some() {
+                taking.report_at
+            } else {
+                taking.ends_at
+            };
+            next = Some(next.unwrap_or(at).min(at));
+        }
+        next
+    }
+}
+
+// A measurement, by whether it is taken out.
+#[derive(Drop)]
+enum Part {
+    There(Taken),
+    Left(Taking),
+}
+
+fn part_of(taking: Taking, run: Number) -> Part {
+    if taking.run != run {
+        return Part::Left(taking);
+    }
+    let Taking {
+        metric,
+        ordinal,
+        moment,
+        token,
+        report_at,
+        began_at,
+        ends_at,
+        came,
+        ..
+    } = taking;
+    match came {
+        Some(came) => Part::There(Taken {
+            metric,
+            ordinal,
+            moment,
+            came,
+        }),
+        None => Part::Left(Taking {
+            run,
+            metric,
+            ordinal,
+            moment,
+            token,
+            report_at,
+            began_at,
+            ends_at,
+            came: None,
+        }),
+    }
+}
+
+/// How long a measurement of a metric may take, in milliseconds: its interval at most, 30 seconds,
+/// and what its provider's plan says; a second at least.
+pub(crate) fn limit_of(metric: &Metric, seconds: Option<u64>) -> u64 {
+    let interval = match metric.interval {
+        Some(interval) => in_milliseconds(u64::from(interval)),
+        None => LONGEST,
+    };
+    let given = match seconds {
+        Some(seconds) => in_milliseconds(seconds),
+        None => LONGEST,
+    };
+    shortest(interval, given)
+}
+
+fn in_milliseconds(seconds: u64) -> u64 {
+    seconds.saturating_mul(1_000)
+}
+
+fn shortest(interval: u64, given: u64) -> u64
+    ensures least { 1000 ≤ result }
+    ensures most { result ≤ 30000 }
+{
+    interval.min(given).min(LONGEST).max(1_000)
+}
