@@ -78,7 +78,10 @@ class Proxy:
                                             start_new_session=True)
         self.process.is_of_group = True
         running.add(self.process)
-        wait_until(f"{self.words()[0]} listens: {self.folder}", lambda: is_open(self.port), 20)
+        wait_until(f"{self.words()[0]} listens: {self.folder}", self.is_ready, 20)
+
+    def is_ready(self):
+        return is_open(self.port)
 
     def kill(self):
         if self.process is not None:
@@ -99,14 +102,22 @@ class Proxy:
 
 
 class HAProxy(Proxy):
-    """HAProxy by such a configuration, with a runtime socket if that has `SOCKET`."""
+    """HAProxy by such a configuration. If that has a runtime socket, it is the file `socket`."""
 
     def __init__(self, folder, port, text):
         super().__init__(folder, port)
+        self.has_socket = "stats socket" in text
         (folder / "haproxy.cfg").write_text(text, encoding="utf-8")
 
     def words(self):
         return ["haproxy", "-db", "-f", str(self.folder / "haproxy.cfg")]
+
+    def is_ready(self):
+        """It listens on its runtime socket a little later than on its port."""
+        try:
+            return super().is_ready() and (not self.has_socket or bool(self.weights()))
+        except OSError:
+            return False
 
     def ask(self, command):
         with socket.socket(socket.AF_UNIX) as haproxy:
