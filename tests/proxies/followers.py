@@ -2,14 +2,18 @@
 and what stays when the desk, the proxy or the follower is away: parts of proxies.py."""
 import contextlib
 import json
+import os
 import shlex
+import signal
+import subprocess
 import time
 
 from parts import (
-    HAProxy, Nginx, children_of, filled, follower, is_alive, lasts, speaking, version, want_shares,
+    OPERATIONS, HAProxy, Nginx, children_of, filled, follower, is_alive, lasts, speaking, version,
+    want_shares,
 )
 from silence import variables
-from world import Caller, Wrong, add, expect, free_port, wait_until
+from world import Caller, Wrong, add, environment, expect, free_port, process, wait_until
 
 # What a hostile desk may give for a version, and for a weight.
 NO_VERSIONS = (
@@ -78,7 +82,7 @@ def try_haproxy(world):
         add(desk)
         ops = Caller(desk, "ops")
         want_shares("before", proxy.port, {"v1": 100, "v2": 0}, 0)
-        with follower(desk.folder, variables(desk), *words_for(proxy)) as (process, _):
+        with follower(desk.folder, variables(desk), *words_for(proxy)) as (started, _):
             want_weights("20%", proxy, 80, 20)
             proxy.restart()
             want_weights("HAProxy restarted", proxy, 80, 20)
@@ -89,7 +93,7 @@ def try_haproxy(world):
             desk.start()
             ops.send({"promote": {"service": "web"}})
             want_weights("50%", proxy, 50, 50)
-            watches = children_of(process)
+            watches = children_of(started)
             expect("its canary watch", [is_alive(pid) for pid in watches], [True])
         wait_until("canary watch ends with the follower", lambda: not is_alive(watches[0]), 10)
         ops.send({"promote": {"service": "web"}})
@@ -125,9 +129,9 @@ def try_haproxy_words(world):
     folder = world.place("haproxy-words")
     with haproxy(folder) as proxy:
         spoken = said_after(folder, [*HOSTILE, line(), *HOSTILE])
-        with follower(folder, spoken, *words_for(proxy)) as (process, said):
+        with follower(folder, spoken, *words_for(proxy)) as (started, said):
             want_weights("the last line that is one", proxy, 65, 35)
-            expect("it goes on", process.poll(), None)
+            expect("it goes on", started.poll(), None)
             want_all_said(said)
             expect("in plain text", [mark for mark in said() if mark < " " and mark != "\n"], [])
     folder = world.place("haproxy-degraded")
@@ -176,7 +180,7 @@ def try_nginx(world):
     with world.desk("nginx") as desk, nginx(desk.folder) as proxy:
         add(desk)
         ops = Caller(desk, "ops")
-        with follower(desk.folder, variables(desk), *words_of(proxy)) as (process, said):
+        with follower(desk.folder, variables(desk), *words_of(proxy)) as (started, said):
             wait_until("it writes its file", (desk.folder / "web.conf").exists, 10)
             proxy.start()
             want_answers("20%", proxy, 80, 20)
@@ -187,7 +191,7 @@ def try_nginx(world):
             ops.send({"promote": {"service": "web"}})
             wait_until("50% are loaded", lambda: "'v2': 50" in said(), 10)
             want_answers("50%", proxy, 50, 50)
-            watches = children_of(process)
+            watches = children_of(started)
         wait_until("canary watch ends", lambda: not any(map(is_alive, watches)), 10)
         ops.send({"promote": {"service": "web"}})
         time.sleep(1.5)
@@ -226,9 +230,9 @@ def try_nginx_words(world):
     with nginx(folder) as proxy:
         proxy.start()
         spoken = said_after(folder, [*HOSTILE, line(), *HOSTILE])
-        with follower(folder, spoken, *words_of(proxy)) as (process, said):
+        with follower(folder, spoken, *words_of(proxy)) as (started, said):
             want_answers("the last line that is one", proxy, 65, 35)
-            expect("it goes on", process.poll(), None)
+            expect("it goes on", started.poll(), None)
             want_all_said(said)
         expect("its file", (folder / "web.conf").read_text(encoding="utf-8"),
                'split_clients "$request_id" $canary_web {\n    35% web_v2;\n    * web_v1;\n}\n')
@@ -247,3 +251,22 @@ def try_nginx_words(world):
         # 40 lines in some 4 seconds: a reload for the first, and one a second
         if not 2 <= proxy.reloads() <= 8:
             raise Wrong(f"{proxy.reloads()} reloads in some 5 seconds")
+
+
+def try_loop(world):
+    """The whole loop of examples/loop: a good version is promoted, and a bad one aborted."""
+    folder = world.place("loop")
+    with process([OPERATIONS.parent / "loop" / "run", world.program], cwd=folder,
+                 env=environment(TMPDIR=str(folder)), stdin=subprocess.DEVNULL,
+                 stdout=subprocess.PIPE, stderr=subprocess.STDOUT, text=True,
+                 start_new_session=True) as started:
+        started.is_of_group = True
+        try:
+            shown = started.communicate(timeout=170)[0]
+        finally:
+            with contextlib.suppress(ProcessLookupError):
+                os.killpg(started.pid, signal.SIGKILL)
+    expect(f"the loop: {shown}", started.returncode, 0)
+    for line in ("done v2", "abort run 3", "v1 100 -> 80", "v3 20 -> 0"):
+        expect(f"the loop shows {line}", line in shown, True)
+    expect("it leaves nothing", [*folder.iterdir()], [])

@@ -24,17 +24,21 @@ NEEDS = {
     "try_desks": {"haproxy"},
     "try_roles_haproxy": {"haproxy", "openssl", "curl"},
     "try_roles_nginx": {"nginx", "haproxy", "openssl", "curl"},
+    "try_loop": {"haproxy", "prometheus"},
 }
+# Those that take too long for the gate.
+LONG = {"try_loop"}
 PARTS = {name: getattr(module, name) for module in (desks, followers, roles) for name in NEEDS
          if hasattr(module, name)}
 
 
-def chosen(wanted):
+def chosen(wanted, is_whole):
     unknown = set(wanted) - set(PARTS)
     if unknown:
         sys.exit(f"proxies: unknown part: {' '.join(sorted(unknown))}")
     without = set(os.environ.get("CHECK_WITHOUT", "").split())
-    return [name for name in PARTS if name in (wanted or PARTS) and not NEEDS[name] & without]
+    tried = wanted or [name for name in PARTS if is_whole or name not in LONG]
+    return [name for name in PARTS if name in tried and not NEEDS[name] & without]
 
 
 def try_part(name, world):
@@ -56,7 +60,7 @@ def end_all(*_):
 def main():
     program, folder, is_whole, *wanted = sys.argv[1:]
     world = World(os.path.realpath(program), folder, is_whole == "1", 0)
-    names, failed = chosen(wanted), []
+    names, failed = chosen(wanted, world.is_whole), []
     for number in (signal.SIGTERM, signal.SIGINT, signal.SIGHUP):
         signal.signal(number, end_all)
     with concurrent.futures.ThreadPoolExecutor(len(PARTS)) as pool:
