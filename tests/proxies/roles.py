@@ -21,6 +21,7 @@ NEW_KEY = ("-newkey", "ec", "-pkeyopt", "ec_paramgen_curve:P-256", "-nodes")
 PEOPLE = {"ops": "engineers", "agent": "agents", "reader": "readers"}
 TICK = '{"tick":{"service":"web"}}'
 FULL = '{"promoteFull":{"service":"web"}}'
+CHUNKED = ("-H", "Transfer-Encoding: chunked")
 MEASURING = shows("web", "Progressing", 1, 20)
 # Commands that no agent may send, however they are written.
 FORBIDDEN = (
@@ -132,7 +133,7 @@ def want_rows(front):
     forbidden = Row("agent", "PUT", own + "4", FULL, 403)
     for name in ("X-Canary-Rights", "X_Canary_Rights", "x-canary-rights"):
         front.want(forbidden, ("-H", f"{name}: engineers report"))
-    front.want(forbidden, ("-H", "Transfer-Encoding: chunked"))
+    front.want(forbidden, CHUNKED)
 
 
 def want_slow(front, context, fields):
@@ -163,8 +164,9 @@ def tunnel(front, who, **more):
         yield port
 
 
-def want_client(desk, front, tokens):
-    """The client as an agent, and as an engineer, each through a tunnel of its own."""
+def want_client(desk, front, tokens, settled):
+    """The client as an agent, and as an engineer, each through a tunnel of its own. The agent's
+    caller has settled requests with these statuses before."""
     def variables(who):
         return {"CANARY_TOKEN": tokens[who]} if tokens else {}
 
@@ -192,7 +194,7 @@ def want_client(desk, front, tokens):
                (DONE, shows("web", "Healthy", 4, 100) + "\n"))
     expect("promoted once", desk.count("promote full"), {"web": 1})
     expect("what agents settled", [status for _, status, _ in desk.kept("agent-web")],
-           [200, 200, 422, 200, 200])
+           [*settled, 200])
 
 
 def try_roles_haproxy(world):
@@ -220,7 +222,10 @@ def try_roles_haproxy(world):
             expect("another path", front.curl("ops", "GET", "/desk.html")[0], 403)
             context = ssl.create_default_context(cafile=folder / "ca.crt")
             want_slow(front, context, f"Authorization: Bearer {tokens['agent']}\r\n")
-            want_client(desk, front, tokens)
+            # HAProxy gives chunks to the desk as they are
+            front.want(Row("agent", "PUT", "/callers/agent-web/requests/5", TICK, 411,
+                           '{"code":"length"}'), CHUNKED)
+            want_client(desk, front, tokens, [200, 200, 422, 200])
 
 
 def try_roles_nginx(world):
@@ -248,7 +253,10 @@ def try_roles_nginx(world):
             context = ssl.create_default_context(cafile=folder / "ca.crt")
             context.load_cert_chain(folder / "agent.pem")
             want_slow(front, context, "")
-            want_client(desk, front, None)
+            # nginx gives a body that came in chunks to the desk with its length
+            front.want(Row("agent", "PUT", "/callers/agent-web/requests/5", TICK, 200, MEASURING),
+                       CHUNKED)
+            want_client(desk, front, None, [200, 200, 422, 200, 200])
 
 
 def want_strangers(front):
