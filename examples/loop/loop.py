@@ -1,4 +1,5 @@
-"""The whole loop of a release: loop.py PROGRAM FOLDER. examples/loop/README.md says what it shows."""
+"""The whole loop of a release: loop.py PROGRAM FOLDER. examples/loop/README.md says what it
+shows."""
 import collections
 import contextlib
 import csv
@@ -176,7 +177,8 @@ class Loop:
         stand, weights, count = self.stand(), self.weights(), max(1, sum(answered.values()))
         of = {version: sum(found for (name, _), found in answered.items() if name == version)
               for version in (*VERSIONS, "none")}
-        shares = " ".join(f"{name} {found * 100 / count:3.0f}%" for name, found in of.items() if found)
+        shares = " ".join(f"{name} {found * 100 / count:3.0f}%"
+                          for name, found in of.items() if found)
         print(f"{time.strftime('%H:%M:%S')}  {stand['status']:11} step {stand['step']}"
               f"  {stand['version']} {stand['weight']:3}%  | "
               f"{' '.join(f'{name} {weight:>3}' for name, weight in weights.items())}  | "

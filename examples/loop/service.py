@@ -1,12 +1,20 @@
-"""A service as a toy: service.py PORT VERSION ERRORS. It answers with its version, by 500 for such a
-share of the requests, and /metrics counts both for Prometheus."""
+"""A service as a toy: service.py PORT VERSION ERRORS. It answers with its version, by 500 for such
+a share of the requests, and /metrics counts both for Prometheus."""
 import http.server
-import random
 import sys
 import threading
 
 PORT, VERSION, ERRORS = int(sys.argv[1]), sys.argv[2], float(sys.argv[3])
 counted, lock = {200: 0, 500: 0}, threading.Lock()
+
+
+def next_status():
+    """An error for each so many requests, evenly, so that few of them already show the share."""
+    with lock:
+        count = sum(counted.values())
+        status = 500 if int((count + 1) * ERRORS) > int(count * ERRORS) else 200
+        counted[status] += 1
+    return status
 
 
 class Handler(http.server.BaseHTTPRequestHandler):
@@ -17,10 +25,7 @@ class Handler(http.server.BaseHTTPRequestHandler):
         if self.path == "/metrics":
             rows = [f'requests_total{{code="{code}"}} {count}\n' for code, count in counted.items()]
             return self.answer(200, "# TYPE requests_total counter\n" + "".join(rows))
-        status = 500 if random.random() < ERRORS else 200
-        with lock:
-            counted[status] += 1
-        return self.answer(status, VERSION)
+        return self.answer(next_status(), VERSION)
 
     def answer(self, status, text):
         self.send_response(status)

@@ -15,6 +15,8 @@ from parts import (
 from silence import variables
 from world import Caller, Wrong, add, environment, expect, free_port, process, wait_until
 
+# How many seconds a change may take to come about: on a machine with much else to do, many.
+LONGEST = 40
 # What a hostile desk may give for a version, and for a weight.
 NO_VERSIONS = (
     "v2; disable frontend web", "v2\ndisable frontend web", "v2 weight 0; disable server web/v1",
@@ -39,7 +41,7 @@ def want_all_said(said):
     def count():
         return said().count("no line of canary watch: ")
 
-    wait_until("each is said", lambda: count() >= 2 * len(HOSTILE), 20)
+    wait_until("each is said", lambda: count() >= 2 * len(HOSTILE), LONGEST)
     expect("each is said once", count(), 2 * len(HOSTILE))
 
 
@@ -69,7 +71,7 @@ def words_for(proxy):
 def want_weights(row, proxy, first, second):
     wanted = {"v1": first, "v2": second}
     try:
-        wait_until(row, lambda: proxy.weights() == wanted, 10)
+        wait_until(row, lambda: proxy.weights() == wanted, LONGEST)
     except Wrong as wrong:
         raise Wrong(f"{row}: {proxy.weights()} in place of {wanted}") from wrong
     want_shares(row, proxy.port, wanted, 2)
@@ -95,7 +97,7 @@ def try_haproxy(world):
             want_weights("50%", proxy, 50, 50)
             watches = children_of(started)
             expect("its canary watch", [is_alive(pid) for pid in watches], [True])
-        wait_until("canary watch ends with the follower", lambda: not is_alive(watches[0]), 10)
+        wait_until("canary watch ends with the follower", lambda: not is_alive(watches[0]), LONGEST)
         ops.send({"promote": {"service": "web"}})
         lasts("no follower", lambda: proxy.weights() == {"v1": 50, "v2": 50}, 1.5)
         with follower(desk.folder, variables(desk), *words_for(proxy)) as (_, said):
@@ -107,7 +109,7 @@ def want_ends(desk, proxy, ops, said):
     """A version without a server, and aborts, after which the stable version has all."""
     ops.send({"start": {"service": "web", "version": "v3"}})
     wait_until("v3 has no server",
-               lambda: said().endswith("web has no server v3: v2 has all\n"), 10)
+               lambda: said().endswith("web has no server v3: v2 has all\n"), LONGEST)
     want_weights("v3 has no server", proxy, 0, 100)
     # HAProxy begins with another weight: still the stable version has all
     proxy.restart()
@@ -120,7 +122,7 @@ def want_ends(desk, proxy, ops, said):
     ops.send({"start": {"service": "web", "version": "v4"}})
     ops.send({"promoteFull": {"service": "web"}})
     wait_until("v4 has no server",
-               lambda: said().endswith("web has no server v4: nothing is changed\n"), 10)
+               lambda: said().endswith("web has no server v4: nothing is changed\n"), LONGEST)
     want_weights("v4 has no server", proxy, 0, 100)
 
 
@@ -165,7 +167,7 @@ def words_of(proxy):
 
 def want_answers(row, proxy, first, second):
     """Both versions have such shares, once nginx has loaded them."""
-    wanted, until = {"v1": first, "v2": second}, time.monotonic() + 10
+    wanted, until = {"v1": first, "v2": second}, time.monotonic() + LONGEST
     while True:
         try:
             return want_shares(row, proxy.port, wanted, 12, 300)
@@ -181,7 +183,7 @@ def try_nginx(world):
         add(desk)
         ops = Caller(desk, "ops")
         with follower(desk.folder, variables(desk), *words_of(proxy)) as (started, said):
-            wait_until("it writes its file", (desk.folder / "web.conf").exists, 10)
+            wait_until("it writes its file", (desk.folder / "web.conf").exists, LONGEST)
             proxy.start()
             want_answers("20%", proxy, 80, 20)
             desk.kill()
@@ -189,10 +191,10 @@ def try_nginx(world):
             want_answers("no desk, and nginx restarted", proxy, 80, 20)
             desk.start()
             ops.send({"promote": {"service": "web"}})
-            wait_until("50% are loaded", lambda: "'v2': 50" in said(), 10)
+            wait_until("50% are loaded", lambda: "'v2': 50" in said(), LONGEST)
             want_answers("50%", proxy, 50, 50)
             watches = children_of(started)
-        wait_until("canary watch ends", lambda: not any(map(is_alive, watches)), 10)
+        wait_until("canary watch ends", lambda: not any(map(is_alive, watches)), LONGEST)
         ops.send({"promote": {"service": "web"}})
         time.sleep(1.5)
         want_shares("no follower", proxy.port, {"v1": 50, "v2": 50}, 12, 300)
@@ -205,14 +207,14 @@ def want_refused(proxy, ops, said):
     """What is not loaded: a version without an upstream, and a configuration that nginx refuses."""
     ops.send({"start": {"service": "web", "version": "v3"}})
     wait_until("v3 has no upstream", lambda: said().endswith(
-        "there is no upstream web_v3: nothing is changed\n"), 10)
+        "there is no upstream web_v3: nothing is changed\n"), LONGEST)
     ops.send({"abort": {"service": "web"}})
     good = proxy.file.read_text(encoding="utf-8")
     proxy.file.write_text(good.replace("events {}", "events {}\nnonsense on;"), encoding="utf-8")
     before = proxy.reloads()
     ops.send({"start": {"service": "web", "version": "v1"}})
     wait_until("a configuration that nginx refuses", lambda: said().count(
-        'unknown directive "nonsense"') == 1, 10)
+        'unknown directive "nonsense"') == 1, LONGEST)
     want_shares("refused", proxy.port, {"v1": 0, "v2": 100}, 0)
     expect("not reloaded", proxy.reloads(), before)
     proxy.file.write_text(good, encoding="utf-8")
@@ -245,12 +247,15 @@ def try_nginx_words(world):
         lines = " ".join(shlex.quote(line(weight=weight).decode()) for weight in range(1, 41))
         script = f'for line in {lines}; do echo "$line"; sleep 0.1; done\n'
         script += f"echo {shlex.quote(line(status='Degraded').decode())}"
+        begun = time.monotonic()
         with follower(folder, speaking(folder, script), *words_of(proxy)) as (_, said):
-            wait_until("all lines are out", lambda: "'v2': 0" in said(), 20)
+            wait_until("all lines are out", lambda: "'v2': 0" in said(), LONGEST)
+            seconds = time.monotonic() - begun
             want_answers("Degraded", proxy, 100, 0)
-        # 40 lines in some 4 seconds: a reload for the first, and one a second
-        if not 2 <= proxy.reloads() <= 8:
-            raise Wrong(f"{proxy.reloads()} reloads in some 5 seconds")
+        # 40 lines in 4 seconds or more: a reload for the first, and one a second
+        if not 2 <= proxy.reloads() <= seconds + 2:
+            raise Wrong(f"{proxy.reloads()} reloads in {seconds} seconds")
+
 
 
 def try_loop(world):

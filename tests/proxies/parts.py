@@ -78,7 +78,7 @@ class Proxy:
                                             start_new_session=True)
         self.process.is_of_group = True
         running.add(self.process)
-        wait_until(f"{self.words()[0]} listens: {self.folder}", self.is_ready, 20)
+        wait_until(f"{self.words()[0]} listens: {self.folder}", self.is_ready, 40)
 
     def is_ready(self):
         return is_open(self.port)
