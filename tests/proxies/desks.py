@@ -161,6 +161,8 @@ class Sender:
             begun = time.monotonic()
             while (found := self.ask(method, path, command))[0] in (502, 503, 504):
                 self.again += 1
+                if time.monotonic() > begun + 60:
+                    raise Wrong(f"{method} {path}: no desk answers")
                 time.sleep(.02)
             self.slowest = max(self.slowest, time.monotonic() - begun)
             if isinstance(wanted[1], dict):
@@ -189,9 +191,11 @@ def kill_for_a_while(desk, senders, has_ended):
     desk.kill()
     time.sleep(1)
     before = [sender.sent for sender in senders]
-    wait_until("the others go on", lambda: has_ended() or all(
-        sender.sent > sent + 100 for sender, sent in zip(senders, before)))
-    desk.start()
+    try:
+        wait_until("the others go on", lambda: has_ended() or all(
+            sender.sent > sent + 100 for sender, sent in zip(senders, before)), 30)
+    finally:
+        desk.start()
 
 
 def try_desks(world):

@@ -142,6 +142,11 @@ def try_haproxy_words(world):
         spoken = said_after(folder, [line(status="Degraded")])
         with follower(folder, spoken, *words_for(proxy)):
             want_weights("Degraded", proxy, 100, 0)
+        # a canary watch that ends, after which the follower is to be started again
+        (folder / "bin" / "canary").write_text("#!/bin/sh\nexit 5\n", encoding="utf-8")
+        with follower(folder, spoken, *words_for(proxy)) as (started, said):
+            expect("it ends", started.wait(LONGEST), 1)
+            expect("it says why", said(), "v2 50 -> 0\ncanary watch has ended\n")
 
 
 @contextlib.contextmanager
