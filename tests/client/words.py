@@ -97,7 +97,7 @@ def try_host_names(world):
                         ["due", *nowhere, "web"], ["send", *nowhere, "x.csv"]):
             want(command[0], world.run(command, desk.folder), PENDING, said=NO_ADDRESS)
         expect("no journal", (desk.folder / "two.journal").exists(), False)
-        want_delivered("names", desk)
+        want_delivered("names", desk, journal="named.journal")
 
 
 def try_words(world):

@@ -1,5 +1,6 @@
 //! Messages to providers that are under way.
 use crate::taken::{Came, failed};
+use crate::taking::Message;
 use canary_base::error::Memory;
 use canary_client::outcome::Stop;
 use canary_fetch::address::Address;
@@ -42,8 +43,8 @@ pub(crate) struct Asking {
 /// What came of asking a provider, at once.
 #[derive(Drop)]
 pub(crate) enum Asked {
-    /// The message has this token, under which it is answered.
-    Token(usize),
+    /// This message is under way.
+    Message(Message),
     /// Nothing is asked.
     Failed(Came),
 }
@@ -68,18 +69,18 @@ impl Asking {
     pub(crate) fn ask(
         &mut self,
         rt: &HostRuntime,
-        provider: &Provider,
+        provider: Provider,
         limit: u64,
         now: u64,
     ) -> Result<Asked, Stop> {
         let Some(address) = self.address_of(rt, provider.address.as_str(), now)? else {
             return Ok(Asked::Failed(failed(rt.alloc(), NO_ADDRESS)?));
         };
-        let message = message_of(rt.alloc(), provider)?;
+        let message = message_of(rt.alloc(), &provider)?;
         let (token, limit) = (self.next, Duration::from_millis(limit));
         self.next = token.wrapping_add(1);
         match self.fetcher.start(rt, token, address, message, limit) {
-            Ok(()) => Ok(Asked::Token(token)),
+            Ok(()) => Ok(Asked::Message(Message::new(token, provider))),
             Err(StartFault::Memory) => Err(Stop::Memory),
             Err(StartFault::Taken) => Ok(Asked::Failed(failed(rt.alloc(), TAKEN)?)),
         }

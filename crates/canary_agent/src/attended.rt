@@ -5,7 +5,7 @@ ghost use Rattle.canary_client.specs.Promises.{IsQuery};
 ghost use Rattle.canary_agent.specs.Lateness.{IsTooLate};
 
 use crate::asking::Asking;
-use crate::beginning::{Begun, came_for, shortest_limit, start, taking_of, with_asked};
+use crate::beginning::{Begun, shortest_limit, start, taking_of, with_asked};
 use crate::ended::worse;
 use crate::journal::OpenJournal;
 use crate::late::{Lateness, Sightings, is_late, is_too_late, seconds_late};
@@ -78,11 +78,9 @@ impl Attended {
         self.served.name
     }
 
-    /// What is measured of it by files that were read anew. What a provider is asked for is asked
-    /// anew, since another query may stand there now; or `Memory`.
-    pub(crate) fn serve(&mut self, alloc: Global, served: Served) -> Result<(), Memory> {
+    /// What is measured of it by files that were read anew. What is being taken goes on as it began.
+    pub(crate) fn serve(&mut self, served: Served) {
         self.served = served;
-        self.takings.forget_asked(alloc)
     }
 
     /// The label in the plan of the metric of this name, or of this label, if another program gives
@@ -302,10 +300,10 @@ impl Attended {
             return Ok(());
         }
         if manner.is_dry_run {
-            show_asked(rt.alloc(), &self.served, due, manner, output)?;
+            show_asked(rt.alloc(), &self.served, looked, due, manner, output)?;
         }
         let report_at = now.saturating_add(shortest_limit(&self.served, looked, due.run));
-        match start(rt, asking, &self.served, due, now)? {
+        match start(rt, asking, &self.served, looked, due, now)? {
             Begun::Unknown => self.tell_unknown(rt.alloc(), due, errors),
             Begun::Nowhere => {
                 self.outcome = worse(self.outcome, Outcome::Refused);
@@ -347,12 +345,7 @@ impl Attended {
         token: usize,
         fetched: &Fetched,
     ) -> Result<bool, Memory> {
-        let Some(metric) = self.takings.metric_of(token) else {
-            return Ok(false);
-        };
-        let came = came_for(alloc, &self.served, &metric, fetched)?;
-        self.takings.settle(token, came);
-        Ok(true)
+        self.takings.settle(alloc, token, fetched)
     }
 
     /// Takes what another program gives, or a failure if it gave nothing in time; or `Memory`.

@@ -2,16 +2,11 @@
 use crate::asking::{Asked, Asking};
 use crate::look::{Due, Looked};
 use crate::plan::{Metric, Served, Source};
-use crate::taken::{Came, came_of, failed};
+use crate::query::Query;
+use crate::taken::failed;
 use crate::taking::{Taking, limit_of};
-use canary_base::error::Memory;
-use canary_base::names::Label;
 use canary_base::numbers::Number;
 use canary_client::outcome::Stop;
-use canary_fetch::query::Outcome as Fetched;
-use std::alloc::Global;
-
-const GONE: &str = "no value: the files changed while it was asked for";
 
 /// How a measurement begins.
 #[derive(Drop)]
@@ -41,7 +36,7 @@ pub(crate) fn shortest_limit(served: &Served, looked: &Looked, run: Number) -> u
 
 fn limit_for(metric: &Metric) -> u64 {
     match &metric.source {
-        Source::Provider(provider) => limit_of(metric, provider.seconds),
+        Source::Provider(query) => limit_of(metric, query.seconds),
         _ => limit_of(metric, None),
     }
 }
@@ -51,6 +46,7 @@ pub(crate) fn start(
     rt: &HostRuntime,
     asking: &mut Asking,
     served: &Served,
+    looked: &Looked,
     due: &Due,
     now: u64,
 ) -> Result<Begun, Stop> {
@@ -59,12 +55,27 @@ pub(crate) fn start(
     };
     let limit = limit_for(metric);
     match &metric.source {
-        Source::Provider(provider) => {
-            let asked = asking.ask(rt, provider, limit, now)?;
+        Source::Provider(query) => {
+            let asked = ask(rt, asking, query, looked, limit, now)?;
             Ok(Begun::Asked(asked, limit))
         }
         Source::Lines => Ok(Begun::Awaited(limit)),
         Source::Nowhere => Ok(Begun::Nowhere),
+    }
+}
+
+// Asks a provider, with the versions of the service that were found.
+fn ask(
+    rt: &HostRuntime,
+    asking: &mut Asking,
+    query: &Query,
+    looked: &Looked,
+    limit: u64,
+    now: u64,
+) -> Result<Asked, Stop> {
+    match query.provider(rt.alloc(), looked.latest.as_str(), looked.stable.as_str())? {
+        Ok(provider) => asking.ask(rt, provider, limit, now),
+        Err(refusal) => Ok(Asked::Failed(failed(rt.alloc(), refusal.text())?)),
     }
 }
 
@@ -81,7 +92,7 @@ pub(crate) fn taking_of(
         metric: due.metric,
         ordinal: due.ordinal,
         moment: looked.moment,
-        token: None,
+        message: None,
         report_at,
         began_at: now,
         ends_at: now.saturating_add(limit),
@@ -93,23 +104,8 @@ pub(crate) fn taking_of(
 pub(crate) fn with_asked(taking: Taking, asked: Asked) -> Taking {
     let mut taking = taking;
     match asked {
-        Asked::Token(token) => taking.token = Some(token),
+        Asked::Message(message) => taking.message = Some(message),
         Asked::Failed(came) => taking.came = Some(came),
     }
     taking
-}
-
-/// What came of a message to the provider of a metric.
-pub(crate) fn came_for(
-    alloc: Global,
-    served: &Served,
-    metric: &Label,
-    fetched: &Fetched,
-) -> Result<Came, Memory> {
-    if let Some(metric) = served.metric(metric)
-        && let Source::Provider(provider) = &metric.source
-    {
-        return came_of(alloc, &provider.answer, fetched);
-    }
-    failed(alloc, GONE)
 }

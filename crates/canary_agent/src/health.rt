@@ -21,9 +21,10 @@ pub(crate) fn touch(rt: &HostRuntime, name: &str) -> io::Result<()> {
     }
 }
 
-// Another file may have taken the name meanwhile, or a link.
+// Another file may have taken the name meanwhile, or a link. It is opened to be read, too, since an
+// open of a FIFO waits for a reader else.
 fn touch_same(rt: &HostRuntime, name: &str, device: u64, node: u64) -> io::Result<()> {
-    let file = OpenOptions::new().write(true).open(rt, name)?;
+    let file = OpenOptions::new().read(true).write(true).open(rt, name)?;
     let found = file.metadata()?;
     if found.dev() != device || found.ino() != node {
         return Err(ErrorKind::InvalidInput.into());

@@ -25,6 +25,7 @@ mod manner;
 mod pauses;
 pub mod plan;
 mod planning;
+pub mod query;
 mod reader;
 pub mod reporting;
 mod rounds;

@@ -29,6 +29,9 @@ pub struct Due {
 pub struct Looked {
     /// The desk's moment.
     pub moment: Moment,
+    /// The version of the last attempt, and the stable one.
+    pub latest: Label,
+    pub stable: Label,
     /// Whether a run is open.
     pub is_open: bool,
     /// The measurements that are due.
@@ -53,14 +56,28 @@ pub fn look<N: Network>(
     let name = service.as_str();
     let path = format!(in alloc; "/services/{name}")?;
     let value = value_at(alloc, network, path.as_str(), tries)?;
-    let moment = moment_of(&value)?;
     let runs = runs_of(alloc, &value)?;
-    look_at_runs(alloc, network, service, moment, runs.as_slice(), tries)
+    let looked = Looked {
+        moment: moment_of(&value)?,
+        latest: version_of(&value, "version")?,
+        stable: version_of(&value, "stable")?,
+        is_open: !runs.is_empty(),
+        due: Vec::new(alloc),
+        next: None,
+    };
+    look_at_runs(alloc, network, service, looked, runs.as_slice(), tries)
 }
 
 fn moment_of(service: &Value) -> Result<Moment, Stop> {
     match service.get("moment").and_then(Value::as_u64) {
         Some(seconds) => Moment::new(seconds).ok_or(Stop::Query),
+        None => Err(Stop::Query),
+    }
+}
+
+fn version_of(service: &Value, member: &str) -> Result<Label, Stop> {
+    match service.get(member).and_then(Value::as_str) {
+        Some(version) => Label::read(version.as_bytes()).ok_or(Stop::Query),
         None => Err(Stop::Query),
     }
 }
@@ -84,22 +101,18 @@ fn number_of(number: u64) -> Option<Number> {
     Number::new(u32::try_from(number).ok()?)
 }
 
+#[tactic(auto, using(crate::proofs::LookLemmas::queries_on))]
 fn look_at_runs<N: Network>(
     alloc: Global,
     network: &mut N,
     service: Name,
-    moment: Moment,
+    looked: Looked,
     runs: &[Number],
     tries: u32,
 ) -> Result<Looked, Stop>
     ensures { GoesOn N.was_sent N.was_told N.was_unanswered network.old network.new IsQuery }
 {
-    let mut looked = Looked {
-        moment,
-        is_open: !runs.is_empty(),
-        due: Vec::new(alloc),
-        next: None,
-    };
+    let mut looked = looked;
     for run in runs {
         let value = run_at(alloc, network, service, *run, tries)?;
         looked.add_run(*run, &value)?;

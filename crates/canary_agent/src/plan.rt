@@ -2,15 +2,15 @@
 ghost use Rattle.std.specs.Prelude.{Contains, IfSome, IsTrue};
 ghost use Rattle.canary_agent.specs.Plans.{IsOf, IsNamed, IsPlanned};
 
+use crate::query::Query;
 use canary_base::names::{Label, Name};
 use canary_measure::label::form_of;
-use canary_provider::plan::Provider;
 
 /// Where what is measured of a metric comes from.
 #[derive(Drop)]
 pub enum Source {
-    /// This provider.
-    Provider(Provider),
+    /// A provider, which is asked so.
+    Provider(Query),
     /// The lines of another program.
     Lines,
     /// Nowhere: its provider is not asked, and no other program gives lines.

@@ -1,6 +1,7 @@
 //! What is measured, read from files of manifests.
 use crate::files::Files;
 use crate::plan::{Metric, Plan, Served, Source};
+use crate::query::Query;
 use canary_argo_files::reading::{Manifests, ReadFault, read_files};
 use canary_argo_files::translated::{Translated, translate};
 use canary_base::durations::Seconds;
@@ -11,15 +12,11 @@ use canary_client::outcome::{say, say_lines, say_of};
 use canary_convert::conversion::Converted;
 use canary_convert::work::{Made, Planned};
 use canary_markup::shown::{Form, shown};
-use canary_provider::plan::Provider;
 use serde_json::Value;
 use std::alloc::Global;
 use std::io::Write;
 
 const UNREAD: &str = "the file cannot be read";
-
-const LATE: &str = "a value of it is known only as it is measured: let a program of your own ask \
-    it, and give what it measures to canary agent --values -, in lines SERVICE METRIC VALUE";
 
 /// What is measured by these files; none if they are not translated, and then `errors` says why.
 /// With `has_lines` another program gives what no provider is asked for; else `errors` has a line
@@ -119,13 +116,9 @@ fn source_of<F: Write>(
     has_lines: bool,
     errors: &mut F,
 ) -> Result<Source, Memory> {
-    let why = if planned.late.as_str() != "{}" {
-        LATE
-    } else {
-        match Provider::read(alloc, planned.kind.as_str(), planned.provider.as_str())? {
-            Ok(provider) => return Ok(Source::Provider(provider)),
-            Err(refusal) => refusal.text(),
-        }
+    let why = match Query::read(alloc, planned)? {
+        Ok(query) => return Ok(Source::Provider(query)),
+        Err(why) => why,
     };
     if has_lines {
         return Ok(Source::Lines);

@@ -116,7 +116,7 @@ impl Rounds {
         let Plan { services } = plan;
         for served in services {
             match before.take(alloc, served.name)? {
-                Some(attended) => self.list.push(serving(alloc, attended, served)?)?,
+                Some(attended) => self.list.push(serving(attended, served))?,
                 None => self.add(alloc, prefix, served, errors)?,
             }
         }
@@ -362,10 +362,10 @@ impl Known {
     }
 }
 
-fn serving(alloc: Global, attended: Attended, served: Served) -> Result<Attended, Memory> {
+fn serving(attended: Attended, served: Served) -> Attended {
     let mut attended = attended;
-    attended.serve(alloc, served)?;
-    Ok(attended)
+    attended.serve(served);
+    attended
 }
 
 fn asking(rt: &HostRuntime) -> Result<Asking, Ended> {

@@ -2,16 +2,35 @@
 ghost use Rattle.std.specs.Prelude.{◌≡◌, ◌≤◌};
 
 use crate::plan::Metric;
-use crate::taken::{Came, Taken};
+use crate::taken::{Came, Taken, came_of};
 use canary_base::error::Memory;
 use canary_base::moments::Moment;
 use canary_base::names::Label;
 use canary_base::numbers::Number;
+use canary_fetch::query::Outcome as Fetched;
+use canary_provider::plan::{Answer, Provider};
 use std::alloc::Global;
 use std::mem;
 
 // The longest time of a measurement, in milliseconds.
 const LONGEST: u64 = 30_000;
+
+/// A message to a provider that is under way.
+#[derive(Drop)]
+pub(crate) struct Message {
+    // What it is known by.
+    token: usize,
+    // How its reply is read.
+    answer: Answer,
+}
+
+impl Message {
+    /// The message to a provider that has this token.
+    pub(crate) fn new(token: usize, provider: Provider) -> Message {
+        let Provider { answer, .. } = provider;
+        Message { token, answer }
+    }
+}
 
 /// A measurement that is being taken.
 #[derive(Drop)]
@@ -25,7 +44,7 @@ pub(crate) struct Taking {
     /// When it is taken, by the desk's clock.
     pub(crate) moment: Moment,
     /// The message to the provider; none if another program gives the value.
-    pub(crate) token: Option<usize>,
+    pub(crate) message: Option<Message>,
     /// From when on it is reported, although others of its run are not there yet. These, and the
     /// next, are milliseconds of the call.
     pub(crate) report_at: u64,
@@ -39,6 +58,14 @@ pub(crate) struct Taking {
 impl Taking {
     fn is_of(&self, run: Number, metric: &Label) -> bool {
         self.run == run && self.metric == *metric
+    }
+
+    // How the reply to the message of this token is read, if it is asked for by it.
+    fn answer_to(&self, token: usize) -> Option<&Answer> {
+        match &self.message {
+            Some(message) if message.token == token => Some(&message.answer),
+            _ => None,
+        }
     }
 }
 
@@ -61,17 +88,6 @@ impl Takings {
         self.list.is_empty()
     }
 
-    /// Forgets those for which a provider is asked, if nothing came yet; or `Memory`.
-    pub(crate) fn forget_asked(&mut self, alloc: Global) -> Result<(), Memory> {
-        let list = mem::replace(&mut self.list, Vec::new(alloc));
-        for taking in list {
-            if taking.token.is_none() || taking.came.is_some() {
-                self.list.push(taking)?;
-            }
-        }
-        Ok(())
-    }
-
     /// Adds one, or `Memory`.
     pub(crate) fn add(&mut self, taking: Taking) -> Result<(), Memory> {
         self.list.push(taking)?;
@@ -88,30 +104,27 @@ impl Takings {
         false
     }
 
-    /// The metric whose value the message of this token asks for.
-    pub(crate) fn metric_of(&self, token: usize) -> Option<Label> {
-        for taking in &self.list {
-            if taking.token == Some(token) {
-                return Some(taking.metric);
-            }
-        }
-        None
-    }
-
-    /// What came of the message of this token.
-    pub(crate) fn settle(&mut self, token: usize, came: Came) {
+    /// Takes in what came of the message of this token, and says whether it is of one of these; or
+    /// `Memory`.
+    pub(crate) fn settle(
+        &mut self,
+        alloc: Global,
+        token: usize,
+        fetched: &Fetched,
+    ) -> Result<bool, Memory> {
         for taking in self.list.iter_mut() {
-            if taking.token == Some(token) {
-                taking.came = Some(came);
-                return;
+            if let Some(answer) = taking.answer_to(token) {
+                taking.came = Some(came_of(alloc, answer, fetched)?);
+                return Ok(true);
             }
         }
+        Ok(false)
     }
 
     /// The first one, from this place on, that another program gives, and that is not there yet.
     pub(crate) fn awaited_from(&self, place: usize) -> Option<usize> {
         for (index, taking) in self.list.iter().enumerate() {
-            if index >= place && taking.token.is_none() && taking.came.is_none() {
+            if index >= place && taking.message.is_none() && taking.came.is_none() {
                 return Some(index);
             }
         }
@@ -195,7 +208,7 @@ fn part_of(taking: Taking, run: Number) -> Part {
         metric,
         ordinal,
         moment,
-        token,
+        message,
         report_at,
         began_at,
         ends_at,
@@ -214,7 +227,7 @@ fn part_of(taking: Taking, run: Number) -> Part {
             metric,
             ordinal,
             moment,
-            token,
+            message,
             report_at,
             began_at,
             ends_at,

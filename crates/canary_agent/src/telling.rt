@@ -1,7 +1,7 @@
 //! What is said and shown of a service.
 use crate::journal::OpenJournal;
 use crate::lines::{show_ask, show_settled, show_wished};
-use crate::look::Due;
+use crate::look::{Due, Looked};
 use crate::manner::Manner;
 use crate::plan::{Served, Source};
 use crate::reporting::report_of;
@@ -54,23 +54,28 @@ pub(crate) fn show_last<W: Write>(
 pub(crate) fn show_asked<W: Write>(
     alloc: Global,
     served: &Served,
+    looked: &Looked,
     due: &Due,
     manner: &Manner<'_>,
     output: &mut W,
 ) -> Result<(), Stop> {
-    if let Some(metric) = served.metric(&due.metric)
-        && let Source::Provider(provider) = &metric.source
-    {
-        return show_ask(
+    let Some(metric) = served.metric(&due.metric) else {
+        return Ok(());
+    };
+    let Source::Provider(query) = &metric.source else {
+        return Ok(());
+    };
+    match query.provider(alloc, looked.latest.as_str(), looked.stable.as_str())? {
+        Ok(provider) => show_ask(
             alloc,
             served.name,
             due,
-            provider,
+            &provider,
             output,
             manner.is_terminal,
-        );
+        ),
+        Err(_) => Ok(()),
     }
-    Ok(())
 }
 
 /// Shows what would be reported of a run.
