@@ -3,7 +3,7 @@
 
 # The tools without which nothing here runs, and those that `./check --without` may name.
 required=(rt bash python3 awk)
-optional=(cc strace sqlite3 curl pyyaml)
+optional=(cc strace sqlite3 curl pyyaml prometheus)
 
 # The tool $1 is here, and does what the scripts ask of it; or the machine has IPv6.
 has() {
@@ -16,6 +16,7 @@ sys.exit(sys.version_info < (3, 10) or sqlite3.sqlite_version_info < (3, 37))' ;
         ipv6) python3 -c 'import socket; socket.socket(socket.AF_INET6).bind(("::1", 0))' ;;
         sqlite3) sqlite3 :memory: 'CREATE TABLE made (id INTEGER) STRICT' ;;
         pyyaml) python3 -c 'import yaml' ;;
+        prometheus) prometheus --version ;;
         *) command -v "$1" ;;
     esac > /dev/null 2>&1 < /dev/null
 }
@@ -30,6 +31,7 @@ described() {
         strace) echo "strace, which has to be able to trace a process" ;;
         sqlite3) echo "sqlite3 3.37 or later" ;;
         pyyaml) echo "PyYAML, the module yaml of python3" ;;
+        prometheus) echo "prometheus 2" ;;
         *) echo "$1" ;;
     esac
 }
@@ -61,6 +63,7 @@ left_out_without() {
         curl) echo "curl: its long request (tests/listener/run), and docs/API.md's session" \
             "(tests/client/run)" ;;
         pyyaml) echo "pyyaml: manifests in YAML beside what PyYAML reads (tests/yaml/run)" ;;
+        prometheus) echo "prometheus: releases that a real Prometheus measures (tests/agent/run)" ;;
     esac
 }
 

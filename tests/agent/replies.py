@@ -1,0 +1,157 @@
+"""Replies of providers, good and hostile, and what comes of them: parts of agent.py."""
+import os
+import select
+import subprocess
+import time
+import tty
+
+from agents import (
+    agent_of, agent_words, desk_for, measured, measured_beside, metric, of_web, provider, reply,
+    template, want_once, want_reported)
+from rows import ROWS, is_as_wanted, provider_of
+from world import MARKS, Wrong, environment, expect, free_port, process, wait_until
+
+GOOD = ("good-1", "good-2", "good-3")
+# The rows of providers that no server answers.
+GONE = "gone"
+# How late a measurement of a second's interval may come, in seconds.
+PATIENCE = 3
+
+
+def name_of(row):
+    return f"{row.kind[0]}-{row.name.replace('.', '-')}"
+
+
+def answering_rows(asked, client):
+    """What the server of all rows does."""
+    key = asked.target.rsplit("=", 1)[-1].rsplit("/", 1)[-1]
+    if key in GOOD:
+        return reply("0.25")
+    row = next(row for row in ROWS if row.name == key)
+    return row.answer if isinstance(row.answer, bytes) else row.answer(client)
+
+
+def manifests_of(port):
+    """A service for each row, and good ones beside them."""
+    made = []
+    for row in ROWS:
+        name = name_of(row)
+        made += [template(name, metric("m", provider_of(row, port), interval="2s",
+                                       successCondition=row.condition)),
+                 measured_beside(name, name)]
+    for name in (*GOOD, GONE):
+        made += [template(name, metric("m", of_web(free_port() if name == GONE else port, name),
+                                       successCondition="result < 0.5")),
+                 measured_beside(name, name)]
+    return made
+
+
+def want_row(row, found):
+    """Something came of a row, and each time what has to come of it."""
+    if not found:
+        raise Wrong(f"{row.name}: nothing was measured")
+    for each in found:
+        if not is_as_wanted(row, each):
+            raise Wrong(f"{row.name}: {each} in place of {row.value!r} or {row.says!r}")
+        if each.failure:
+            want_text(row.name, each.failure)
+
+
+def want_text(row, failure):
+    """A failure's text has 1 to 200 bytes, and nothing that commands a terminal."""
+    if not 1 <= len(failure.encode()) <= 200:
+        raise Wrong(f"{row}: a failure of {len(failure.encode())} bytes")
+    want_plain(row, failure)
+
+
+def want_plain(row, text, but=()):
+    marks = [mark for mark in text if ord(mark) in MARKS and mark not in but]
+    if marks:
+        raise Wrong(f"{row}: it has {marks!r} in {text!r}")
+
+
+def want_in_time(name, found, until):
+    """The measurements of a good service went on all the time, one a second."""
+    moments = [each.taken for each in found]
+    for one, other in zip(moments, [*moments[1:], int(until)]):
+        if other - one > PATIENCE:
+            raise Wrong(f"{name}: {other - one} seconds behind the measurement at {one}")
+
+
+def try_replies(world):
+    """Each reply of a provider becomes the measurement that it says, or a failure that says what
+    came. The agent goes on, others are measured in time, and no output has a control character."""
+    with provider(answering_rows) as server:
+        with desk_for(world, "replies", *manifests_of(server.port)) as desk:
+            names = [*map(name_of, ROWS), *GOOD, GONE]
+            with agent_of(desk) as agent:
+                time.sleep(30 if world.is_whole else 8)
+                wait_until("each row was measured", lambda: len(
+                    {each.service for each in measured(desk, *names)}) == len(names), 20)
+                until = time.time()
+            found = measured(desk, *names)
+            want_each(found, until)
+            want_said(agent, found)
+            want_shown(desk, names)
+        return f"{len(ROWS)} kinds of reply, {len(found)} measurements"
+
+
+def want_each(found, until):
+    by_service = {}
+    for each in found:
+        by_service.setdefault(each.service, []).append(each)
+    for row in ROWS:
+        want_row(row, by_service.get(name_of(row), []))
+    for name in GOOD:
+        expect(name, {each.result for each in by_service[name]}, {"250000"})
+        want_in_time(name, by_service[name], until)
+    for each in by_service[GONE]:
+        want_text(GONE, each.failure)
+        if "no answer" not in each.failure and "connection" not in each.failure:
+            raise Wrong(f"{GONE}: {each}")
+    want_once("replies", found)
+
+
+def want_said(agent, found):
+    """In a pipe each measurement has a line of JSON, and nothing has a control character."""
+    output = agent.output.read_text(encoding="utf-8")
+    want_plain("its output", output, "\n")
+    want_plain("its errors", agent.errors(), "\n")
+    lines = {(line["service"], line["metric"], line["ordinal"], line["taken"],
+              line.get("failure", "")) for line in agent.lines()}
+    known = {(each.service, each.metric, each.ordinal, each.taken, each.failure) for each in found}
+    if not lines <= known or len(known) > len(lines) + len(ROWS):
+        raise Wrong(f"its lines have {[*lines - known][:3]} beside the measurements")
+
+
+def run_on_terminal(desk, *words, seconds=60):
+    """The status of an agent on a terminal, and what it shows."""
+    shown, terminal = os.openpty()
+    tty.setraw(terminal)
+    with process([desk.world.program, *agent_words(desk, options=words)], cwd=desk.folder,
+                 stdin=subprocess.DEVNULL, stdout=terminal, stderr=terminal,
+                 env=environment()) as agent:
+        os.close(terminal)
+        found, until = b"", time.monotonic() + seconds
+        while select.select([shown], [], [], max(0, until - time.monotonic()))[0]:
+            try:
+                found += os.read(shown, 65536)
+            except OSError:
+                break
+        os.close(shown)
+        return agent.wait(10), found.decode()
+
+
+def want_shown(desk, names):
+    """On a terminal, once: a plain line for each measurement, without a control character."""
+    status, shown = run_on_terminal(desk, "--once")
+    expect("--once on a terminal", status, 0)
+    want_plain("the terminal", shown, "\r\n")
+    lines = shown.replace("\r", "").splitlines()
+    for name in names:
+        if not any(line.startswith(f"{name} m ") for line in lines):
+            raise Wrong(f"{name} has no line on the terminal")
+    if "w-whole m 0.25 Failed" not in lines:
+        raise Wrong(f"the line of w-whole: {[line for line in lines if line[:7] == 'w-whole']}")
+    if any(line.startswith("{") for line in lines):
+        raise Wrong("JSON on a terminal")
