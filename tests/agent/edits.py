@@ -38,7 +38,7 @@ def try_edited(world):
     """A template is edited within an attempt. With more places: its run is reported by the label
     that it has, and by the new query. A metric that is removed waits, which is said once, and is
     measured again as it is back."""
-    with provider(lambda asked, _: reply("0.2500009" if asked.target == "/new" else "0.25")) \
+    with provider(lambda asked, _: reply("0.2500019" if asked.target == "/new" else "0.25")) \
             as server:
         web = measured_beside("web", "of")
         with desk_for(world, "edited", template_of(server.port), web) as desk, \
@@ -49,7 +49,7 @@ def try_edited(world):
             wait_more(desk, "p.e6", 3)
             expect("by the label of the run", {each.metric for each in measured(desk)},
                    {"p.e6", "q.e6"})
-            expect("the last one", measured(desk)[-1].result, "250000")
+            expect("the last one", measured(desk)[-1].result, "250001")
             put(desk, listed(template_of(server.port, names=("p",)), web))
             agent.wait_said("q.e6")
             before = count_of(desk, "q.e6")

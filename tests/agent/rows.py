@@ -252,7 +252,7 @@ ANSWERS = [
     prometheus("list-for-one", vector("0.25"), says="list", condition=ONE),
     prometheus("a-string", said("string", [1, "0.25"]), says="string"),
     prometheus("matrix", said("matrix", [{"metric": {}, "values": [[1, "0.25"]]}]), says="matrix"),
-    prometheus("no-series", vector(), says="empty"),
+    prometheus("no-series", vector(), says="no value|empty|series"),
     prometheus("no-series-counted", vector(), "[0]",
                condition="len(result) == 0 || result[0] < 0.5"),
     prometheus("series-counted", vector("0.25", "0.5"), "[2;250000]",
