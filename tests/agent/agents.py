@@ -3,10 +3,11 @@ share."""
 import collections
 import concurrent.futures
 import contextlib
-import csv
+import functools
 import http.client
 import json
 import shutil
+import sqlite3
 import subprocess
 import threading
 import time
@@ -114,18 +115,36 @@ def history(desk, name="web"):
 
 
 def measured(desk, *names):
-    """The measurements that stand in the desk's tables, by an export of a copy, in their order."""
+    """The measurements of services, or of web, that stand in the desk's tables, in their order."""
+    names = names or ("web",)
+    found = rows_of(desk, "SELECT service, run, metric, ordinal, taken, outcome FROM measurement"
+                    " ORDER BY place")
+    metrics = functools.cache(lambda name, run: [
+        each["name"] for each in ask(desk, f"/services/{name}/runs/{run}")["metrics"]])
+    return [Measured(name, run, metrics(name, run)[metric], ordinal, taken, *outcome_of(outcome))
+            for name, run, metric, ordinal, taken, outcome in found if name in names]
+
+
+def outcome_of(text):
+    """The result and the failure of a measurement, of which one is empty."""
+    return ("", text[1:]) if text.startswith("!") else (text, "")
+
+
+def rows_of(desk, statement):
+    """Rows of the desk's tables, out of a copy of its file and its log."""
     copy = desk.folder / f"copy-{threading.get_ident()}.db"
     for ending in ("", "-wal"):
         shutil.copy(desk.folder / f"desk.db{ending}", f"{copy}{ending}")
-    words = ["export", "--db", str(copy), "--caller", "all", *(names or ("web",))]
-    found = desk.world.run(words, desk.folder)
-    expect(f"export: {found.errors}", found.status, 0)
+    with contextlib.closing(sqlite3.connect(copy)) as opened:
+        found = opened.execute(statement).fetchall()
     for file in desk.folder.glob(f"{copy.name}*"):
         file.unlink()
-    return [Measured(row["service"], int(row["run"]), row["metric"], int(row["ordinal"]),
-                     int(row["taken"]), row["result"], row["failure"])
-            for row in csv.DictReader(found.output.splitlines(keepends=True))]
+    return found
+
+
+def services_measured(desk):
+    """How many services have a measurement."""
+    return rows_of(desk, "SELECT count(DISTINCT service) FROM measurement")[0][0]
 
 
 def count_measured(desk, name="web", run=1):

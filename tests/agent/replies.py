@@ -7,12 +7,12 @@ import tty
 
 from agents import (
     agent_of, agent_words, desk_for, measured, measured_beside, metric, of_web, provider, reply,
-    template, want_once, want_reported)
-from rows import ROWS, is_as_wanted, provider_of
+    services_measured, template, want_once)
+from rows import ANSWERS, FRAMES, STATUSES, VALUES, is_as_wanted, provider_of
 from world import MARKS, Wrong, environment, expect, free_port, process, wait_until
 
 GOOD = ("good-1", "good-2", "good-3")
-# The rows of providers that no server answers.
+# A service whose provider is gone.
 GONE = "gone"
 # How late a measurement of a second's interval may come, in seconds.
 PATIENCE = 3
@@ -22,19 +22,21 @@ def name_of(row):
     return f"{row.kind[0]}-{row.name.replace('.', '-')}"
 
 
-def answering_rows(asked, client):
-    """What the server of all rows does."""
-    key = asked.target.rsplit("=", 1)[-1].rsplit("/", 1)[-1]
-    if key in GOOD:
-        return reply("0.25")
-    row = next(row for row in ROWS if row.name == key)
-    return row.answer if isinstance(row.answer, bytes) else row.answer(client)
+def answering_rows(rows):
+    """What the server of these rows does."""
+    known = {row.name: row.answer for row in rows}
+    known.update(dict.fromkeys(GOOD, reply("0.25")))
+
+    def answer(asked, client):
+        found = known[asked.target.rsplit("=", 1)[-1].rsplit("/", 1)[-1]]
+        return found if isinstance(found, bytes) else found(client)
+    return answer
 
 
-def manifests_of(port):
+def manifests_of(rows, port):
     """A service for each row, and good ones beside them."""
     made = []
-    for row in ROWS:
+    for row in rows:
         name = name_of(row)
         made += [template(name, metric("m", provider_of(row, port), interval="2s",
                                        successCondition=row.condition)),
@@ -46,15 +48,15 @@ def manifests_of(port):
     return made
 
 
-def want_row(row, found):
-    """Something came of a row, and each time what has to come of it."""
-    if not found:
-        raise Wrong(f"{row.name}: nothing was measured")
-    for each in found:
-        if not is_as_wanted(row, each):
-            raise Wrong(f"{row.name}: {each} in place of {row.value!r} or {row.says!r}")
+def faults_of(row, found):
+    """Where what came of a row is not what has to come of it; each failure has a plain text."""
+    for each in found or ():
         if each.failure:
             want_text(row.name, each.failure)
+        if not is_as_wanted(row, each):
+            yield f"{row.name}: {each} in place of {row.value!r} or {row.says!r}"
+    if not found:
+        yield f"{row.name}: nothing was measured"
 
 
 def want_text(row, failure):
@@ -78,30 +80,40 @@ def want_in_time(name, found, until):
             raise Wrong(f"{name}: {other - one} seconds behind the measurement at {one}")
 
 
-def try_replies(world):
+def want_rows(world, name, rows):
     """Each reply of a provider becomes the measurement that it says, or a failure that says what
     came. The agent goes on, others are measured in time, and no output has a control character."""
-    with provider(answering_rows) as server:
-        with desk_for(world, "replies", *manifests_of(server.port)) as desk:
-            names = [*map(name_of, ROWS), *GOOD, GONE]
-            with agent_of(desk) as agent:
-                time.sleep(30 if world.is_whole else 8)
-                wait_until("each row was measured", lambda: len(
-                    {each.service for each in measured(desk, *names)}) == len(names), 20)
-                until = time.time()
-            found = measured(desk, *names)
-            want_each(found, until)
-            want_said(agent, found)
-            want_shown(desk, names)
-        return f"{len(ROWS)} kinds of reply, {len(found)} measurements"
+    with provider(answering_rows(rows)) as server, \
+            desk_for(world, name, *manifests_of(rows, server.port)) as desk:
+        names = [*map(name_of, rows), *GOOD, GONE]
+        with agent_of(desk) as agent:
+            time.sleep(30 if world.is_whole else 8)
+            wait_until("each row was measured", lambda: services_measured(desk) == len(names), 20)
+            until = time.time()
+        found = measured(desk, *names)
+        want_each(rows, found, until)
+        want_said(agent, found, len(names))
+        want_shown(desk, names)
+    return f"{len(rows)} kinds of reply, {len(found)} measurements"
 
 
-def want_each(found, until):
+def try_replies(world):
+    """Replies that are framed well or not, cut, slow, endless, or of another status or protocol."""
+    return want_rows(world, "replies", [*FRAMES, *STATUSES])
+
+
+def try_bodies(world):
+    """Bodies of `web` and of Prometheus: numbers, lists, texts, faults, and what is no JSON."""
+    return want_rows(world, "bodies", [*VALUES, *ANSWERS])
+
+
+def want_each(rows, found, until):
     by_service = {}
     for each in found:
         by_service.setdefault(each.service, []).append(each)
-    for row in ROWS:
-        want_row(row, by_service.get(name_of(row), []))
+    wrong = [fault for row in rows for fault in faults_of(row, by_service.get(name_of(row)))]
+    if wrong:
+        raise Wrong("\n".join(wrong))
     for name in GOOD:
         expect(name, {each.result for each in by_service[name]}, {"250000"})
         want_in_time(name, by_service[name], until)
@@ -112,7 +124,7 @@ def want_each(found, until):
     want_once("replies", found)
 
 
-def want_said(agent, found):
+def want_said(agent, found, most):
     """In a pipe each measurement has a line of JSON, and nothing has a control character."""
     output = agent.output.read_text(encoding="utf-8")
     want_plain("its output", output, "\n")
@@ -120,7 +132,7 @@ def want_said(agent, found):
     lines = {(line["service"], line["metric"], line["ordinal"], line["taken"],
               line.get("failure", "")) for line in agent.lines()}
     known = {(each.service, each.metric, each.ordinal, each.taken, each.failure) for each in found}
-    if not lines <= known or len(known) > len(lines) + len(ROWS):
+    if not lines <= known or len(known) > len(lines) + most:
         raise Wrong(f"its lines have {[*lines - known][:3]} beside the measurements")
 
 
@@ -144,6 +156,7 @@ def run_on_terminal(desk, *words, seconds=60):
 
 def want_shown(desk, names):
     """On a terminal, once: a plain line for each measurement, without a control character."""
+    time.sleep(2.2)
     status, shown = run_on_terminal(desk, "--once")
     expect("--once on a terminal", status, 0)
     want_plain("the terminal", shown, "\r\n")
@@ -151,7 +164,7 @@ def want_shown(desk, names):
     for name in names:
         if not any(line.startswith(f"{name} m ") for line in lines):
             raise Wrong(f"{name} has no line on the terminal")
-    if "w-whole m 0.25 Failed" not in lines:
-        raise Wrong(f"the line of w-whole: {[line for line in lines if line[:7] == 'w-whole']}")
+    if "good-1 m 0.25 Successful" not in lines:
+        raise Wrong(f"the line of good-1: {[line for line in lines if line[:6] == 'good-1']}")
     if any(line.startswith("{") for line in lines):
         raise Wrong("JSON on a terminal")

@@ -60,6 +60,7 @@ def endless(begin, piece):
         client.sendall(begin)
         while True:
             client.sendall(piece)
+            time.sleep(.001)
     return answer
 
 
@@ -146,7 +147,7 @@ FRAMES = [
     web("endless-words", endless(HEAD + b"Transfer-Encoding: chunked\r\n\r\n4;", b"e" * 1000),
         says=f"{LONG}|{NO_HTTP}"),
     web("endless-zeros", endless(HEAD + b"Transfer-Encoding: chunked\r\n\r\n", b"0" * 1000),
-        says=f"{LONG}|{NO_HTTP}"),
+        says=f"{LONG}|{NO_HTTP}|{FEW}"),
     web("fields-64", fields(63), "250000"),
     web("fields-65", fields(64), says=LONG),
     web("trailers-16", chunked(GOOD, behind=b"0\r\n" + b"A: b\r\n" * 16 + b"\r\n"), "250000"),
@@ -188,7 +189,7 @@ VALUES = [
     raw("too-small", "1e-400", "1"),
     raw("too-great", "1e400", GREATEST),
     raw("too-great-below-0", "-1e400", "-" + GREATEST),
-    raw("no-float", "1e999999999999999999999", GREATEST),
+    raw("no-float", "1e999999999999999999999", GREATEST, says="number"),
     raw("400-digits", "1" * 400, GREATEST),
     raw("400-places", "0." + "0" * 400 + "1", "1"),
     raw("400-places-of-0.25", "0.25" + "0" * 400, "250000"),
@@ -282,8 +283,6 @@ ANSWERS = [
                '{"value":[1,"9"]}],"result":[{"value":[1,"0.25"]}]},"status":"success"}', "250000"),
     prometheus("null-of-prometheus", "null", says=ANY),
 ]
-
-ROWS = [*FRAMES, *STATUSES, *VALUES, *ANSWERS]
 
 
 def provider_of(row, port):

@@ -119,7 +119,7 @@ def try_lines(world):
 def want_json(desk):
     ended = run_agent(desk, options=ONCE)
     lines = sorted(ended.output.splitlines())
-    forms = [r'{"failure":"[^"]*u001b[^"]*","metric":"none\.e6","ordinal":1,"phase":"Error",'
+    forms = [r'{"failure":"(?:[^"\\]|\\.)*u001b(?:[^"\\]|\\.)*","metric":"none\.e6","ordinal":1,"phase":"Error",'
              r'"run":1,"service":"web","taken":\d+}',
              r'{"metric":"one\.e6","ordinal":1,"phase":"Successful","result":250000,"run":1,'
              r'"service":"web","taken":\d+}',
@@ -133,10 +133,10 @@ def want_json(desk):
 def want_plain_lines(desk, port):
     for options, forms in (
             (("--dry-run",), [rf"web none asks 127\.0\.0\.1:{port}: GET /none",
-                              r"web none failure: .*u001b.*:",
-                              rf"web one asks 127\.0\.0\.1:{port}: GET /one", r"web one 0\.25",
-                              rf"web two asks 127\.0\.0\.1:{port}: GET /two",
-                              r"web two \[0\.25,2\]"]),
+                              r"web none failure: .*u001b.*:", r"web one 0\.25",
+                              rf"web one asks 127\.0\.0\.1:{port}: GET /one",
+                              r"web two \[0\.25,2\]",
+                              rf"web two asks 127\.0\.0\.1:{port}: GET /two"]),
             (ONCE, [r"web none failure: .*u001b.*: Error", r"web one 0\.25 Successful",
                     r"web two \[0\.25,2\] Failed"])):
         status, shown = run_on_terminal(desk, *options)

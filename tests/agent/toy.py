@@ -41,10 +41,9 @@ def toy(**shares):
 
 
 class Prometheus:
-    """A Prometheus on a free port, with a folder of its own."""
+    """A Prometheus on a free port, in a folder of its own."""
 
     def __init__(self, folder, port):
-        folder.mkdir()
         self.folder, self.port, self.process = folder, free_port(), None
         (folder / "prometheus.yml").write_text(CONFIG.format(port=port), encoding="utf-8")
         self.start()
