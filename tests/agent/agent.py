@@ -31,7 +31,7 @@ def parts_of(*modules):
 
 
 # The long ones first.
-PARTS = parts_of(crowd, real, silence, replies, edits, lines, web, edges, streams)
+PARTS = parts_of(silence, real, crowd, replies, edits, lines, web, edges, streams)
 
 
 def try_part(name, world):

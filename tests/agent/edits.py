@@ -6,7 +6,7 @@ import socket
 import time
 
 from agents import (
-    agent_of, beside, desk_for, listed, measured, measured_beside, metric, of_web, provider,
+    agent_of, begin, beside, desk_for, listed, measured, measured_beside, metric, of_web, provider,
     release, reply, run_agent, template, wait_measured, want_once)
 from world import Wrong, expect, wait_until
 
@@ -112,14 +112,14 @@ def try_new_file(world):
         for name in ("one", "two"):
             release(desk, listed(
                 template(name, metric("p", of_web(server.port), successCondition=SIX)),
-                measured_beside(name, name)), file=f"{name}.json")
+                measured_beside(name, name)), file=f"{name}.json", is_begun=name == "one")
         os.rename(desk.folder / "one.json", folder / "one.json")
         (folder / "notes.txt").write_text("{", encoding="utf-8")
         (folder / ".hidden").write_text("{", encoding="utf-8")
         with agent_of(desk, "manifests") as agent:
             wait_measured(desk, 2, "one")
-            expect("not yet", measured(desk, "two"), [])
             os.rename(desk.folder / "two.json", folder / "two.json")
+            begin(desk, "two")
             wait_measured(desk, 2, "two", seconds=8)
             expect("its errors", agent.errors(), "")
 

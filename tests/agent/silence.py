@@ -4,8 +4,8 @@ import signal
 import time
 
 from agents import (
-    agent_of, analysis, desk_for, history, measured, measured_beside, metric, of_web, provider,
-    reply, rollout, status, template, wait_measured, wait_status, want_once)
+    agent_of, analysis, begin, desk_for, history, measured, measured_beside, metric, of_web,
+    provider, reply, rollout, run_agent, status, template, wait_measured, wait_status, want_once)
 from rows import silent
 from world import Wrong, expect, wait_until
 
@@ -47,60 +47,74 @@ def try_silent_provider(world):
     return "5 failures, then an abort"
 
 
-def promoted_by_silence(world, name, provider_of, options=()):
-    """What becomes of a release that nobody measures while its pause ends: its status, what the
-    agent said, and how often it was aborted."""
-    made = [template("quiet", metric("m", provider_of, interval=f"{10 if options else 1}s",
-                                     successCondition="result < 1")), timed("web", "quiet", 9)]
-    with desk_for(world, name, *made) as desk, agent_of(desk, options=options) as agent:
-        wait_until("it has ended", lambda: status(desk) in ("Healthy", "Degraded"), 40)
-        time.sleep(2.5)
-        return status(desk), agent.errors(), desk.count("abort").get("web", 0), agent.lines()
+def unmeasured(seconds):
+    """A release that time promotes after so many seconds, and a metric that no agent measures."""
+    return [template("quiet", metric("m", NOBODY, successCondition="result < 1")),
+            timed("web", "quiet", seconds)]
 
 
 def try_nobody_measures(world):
     """A metric whose provider no agent asks, and that no other program measures: standard error
-    says that its measurement is late, and time promotes the release. With --abort-late it is
-    aborted, once."""
-    found, said, _, _ = promoted_by_silence(world, "nobody", NOBODY)
-    expect("without --abort-late", found, "Healthy")
-    late = [line for line in said.splitlines() if LATE in line]
-    if len(late) != 1 or "web" not in late[0] or " m" not in late[0]:
-        raise Wrong(f"what is late: {said!r}")
-    found, _, aborts, lines = promoted_by_silence(world, "nobody-aborts", NOBODY,
-                                                  ("--abort-late", "3"))
-    expect("with --abort-late", (found, aborts), ("Degraded", 1))
-    expect("what it shows", [line for line in lines if "abort" in line],
-           [{"abort": "web", "code": "ok", "status": "Degraded"}])
+    says that its measurement is late, once, and time promotes the release."""
+    with desk_for(world, "nobody", *unmeasured(9)) as desk, agent_of(desk) as agent:
+        wait_status(desk, "Healthy", seconds=30)
+        expect("nothing was measured", measured(desk), [])
+        late = [line for line in agent.errors().splitlines() if LATE in line]
+        if len(late) != 1 or not late[0].startswith("canary: web run 1 m"):
+            raise Wrong(f"what is late: {agent.errors()!r}")
 
 
-def try_nobody_answers(world):
-    """A provider that never answers, and an interval that is longer than the pause: time promotes
-    the release on no measurement. With --abort-late it is aborted, once."""
-    with provider(never) as server:
-        quiet = of_web(server.port)
-        found, _, aborts, _ = promoted_by_silence(world, "no-answer-aborts", quiet,
-                                                  ("--abort-late", "3"))
-        expect("with --abort-late", (found, aborts), ("Degraded", 1))
-        found, _, _, _ = promoted_by_silence(world, "no-answer", quiet, ("--abort-late", "3600"))
-        expect("with a time that does not come", found, "Healthy")
+def try_abort_late(world):
+    """With --abort-late the same release is aborted before its pause ends, once, and shown; another
+    attempt is aborted as well."""
+    with desk_for(world, "abort-late", *unmeasured(110)) as desk, \
+            agent_of(desk, options=("--abort-late", "3")) as agent:
+        wait_status(desk, "Degraded", seconds=85)
+        time.sleep(3)
+        expect("aborted once", desk.count("abort"), {"web": 1})
+        expect("what it shows", [line for line in agent.lines() if "abort" in line],
+               [{"abort": "web", "code": "ok", "status": "Degraded"}])
+        if world.is_whole:
+            begin(desk, "web", version="v3")
+            wait_status(desk, "Degraded", seconds=85)
+            expect("aborted again", desk.count("abort"), {"web": 2})
+        return "aborted, as nobody measures"
+
+
+def try_abort_late_once(world):
+    """--once with --abort-late, as cron may call it: what nobody measures is aborted if it is late
+    by more, and not before; what can be measured is measured, however late it is."""
+    with provider(lambda *_: reply("0.25")) as server:
+        made = [*unmeasured(60),
+                template("good", metric("m", of_web(server.port), successCondition="result < 1")),
+                timed("good", "good", 60)]
+        with desk_for(world, "abort-late-once", *made) as desk:
+            ended = run_agent(desk, options=("--once", "--abort-late", "3600"))
+            expect(f"not late so far: {ended}", status(desk), "Paused")
+            time.sleep(4.5)
+            ended = run_agent(desk, options=("--once", "--abort-late", "3"))
+            expect(f"late: {ended}", (status(desk), status(desk, "good")), ("Degraded", "Paused"))
+            expect("what was measured", [each.service for each in measured(desk, "web", "good")],
+                   ["good", "good"])
+            expect("once", desk.count("abort"), {"web": 1})
 
 
 def try_no_file(world):
-    """A run's metric that no file has: standard error says so once, and that it is late; with
-    --abort-late the release is aborted."""
+    """A run's metric that no file has: standard error says so once, and the others are measured;
+    with --abort-late the release is aborted."""
     with provider(lambda *_: reply("0.25")) as server:
         of = metric("m", of_web(server.port), successCondition="result < 1")
         made = [template("of", of, {**of, "name": "gone"}), measured_beside("web", "of")]
         with desk_for(world, "no-file", *made) as desk:
             desk.write("less.json", {"kind": "List", "items": [template("of", of), made[1]]})
             with agent_of(desk, "less.json") as agent:
-                agent.wait_said(LATE)
+                agent.wait_said("no file has")
                 wait_measured_of(desk, "m.e6", 4)
                 expect("said of it", agent.errors().count("no file has"), 1)
                 expect("it is there still", status(desk), "Paused")
-            with agent_of(desk, "less.json", options=("--abort-late", "2")):
-                wait_status(desk, "Degraded", seconds=20)
+            time.sleep(2)
+            run_agent(desk, "less.json", options=("--once", "--abort-late", "2"))
+            expect("as it is late", status(desk), "Degraded")
             expect("it was not measured", {each.metric for each in measured(desk)}, {"m.e6"})
 
 

@@ -119,7 +119,8 @@ def try_lines(world):
 def want_json(desk):
     ended = run_agent(desk, options=ONCE)
     lines = sorted(ended.output.splitlines())
-    forms = [r'{"failure":"(?:[^"\\]|\\.)*u001b(?:[^"\\]|\\.)*","metric":"none\.e6","ordinal":1,"phase":"Error",'
+    forms = [r'{"failure":"(?:[^"\\]|\\.)*u001b(?:[^"\\]|\\.)*","metric":"none\.e6",'
+             r'"ordinal":1,"phase":"Error",'
              r'"run":1,"service":"web","taken":\d+}',
              r'{"metric":"one\.e6","ordinal":1,"phase":"Successful","result":250000,"run":1,'
              r'"service":"web","taken":\d+}',
