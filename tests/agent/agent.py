@@ -1,7 +1,8 @@
 """Tries `canary agent`: agent.py --program FILE --folder FOLDER [--seed N] [--all] [PART..]. The
 comment at the top of tests/agent/run says what is tried, and each part what it shows."""
 import argparse
-import concurrent.futures
+import multiprocessing
+import multiprocessing.connection
 import os
 import signal
 import sys
@@ -21,7 +22,7 @@ from world import World, running
 
 PROMETHEUS_PARTS = ("try_releases", "try_kills")
 # How many parts run beside one another: they wait more than they compute.
-BESIDE = 10
+BESIDE = 12
 
 
 def parts_of(*modules):
@@ -30,33 +31,50 @@ def parts_of(*modules):
             if name.startswith("try_") and part.__module__ == module.__name__}
 
 
+# A part has all that was read so far.
+CONTEXT = multiprocessing.get_context("fork")
+# The parts that run, by their names.
+parts = {}
 # The long ones first.
 PARTS = parts_of(silence, real, crowd, replies, edits, lines, web, edges, streams)
 
 
 def try_part(name, world):
+    """Tries a part in this process, and ends it."""
+    parts.clear()
     begun = time.monotonic()
-    told = PARTS[name](world)
+    try:
+        told = PARTS[name](world)
+    except Exception:  # pylint: disable=broad-except
+        print(f"agent: {name} FAILED\n{traceback.format_exc()}", file=sys.stderr, flush=True)
+        os._exit(1)
     seconds = time.monotonic() - begun
     print(f"agent: {name}: {told or 'passed'} ({seconds:.1f} s)", file=sys.stderr, flush=True)
+    os._exit(0)
 
 
-def try_all(world, names, beside):
-    """Tries parts, so many at a time, and has those that failed."""
-    failed = []
-    with concurrent.futures.ThreadPoolExecutor(beside) as pool:
-        tried = {name: pool.submit(try_part, name, world) for name in names}
-        for name, part in tried.items():
-            try:
-                part.result()
-            except Exception:  # pylint: disable=broad-except
-                failed.append(name)
-                print(f"agent: {name} FAILED\n{traceback.format_exc()}", file=sys.stderr,
-                      flush=True)
+def try_all(world, names, most):
+    """Tries parts, each in a process of its own, so many at a time, and has those that failed."""
+    waiting, failed = [*names], []
+    while waiting or parts:
+        while waiting and len(parts) < most:
+            name = waiting.pop(0)
+            parts[name] = CONTEXT.Process(target=try_part, args=(name, world))
+            parts[name].start()
+        multiprocessing.connection.wait([part.sentinel for part in parts.values()])
+        for name, part in [*parts.items()]:
+            if part.exitcode is not None:
+                del parts[name]
+                failed += [] if part.exitcode == 0 else [name]
     return failed
 
 
 def end_all(*_):
+    """Ends what runs: of the first process the parts, and of a part what it started."""
+    for process in [*parts.values()]:
+        process.terminate()
+    for process in [*parts.values()]:
+        process.join()
     for process in [*running]:
         process.kill()
     os._exit(143)
@@ -85,6 +103,13 @@ def main():
         signal.signal(number, end_all)
     print(f"agent: --seed {words.seed}", file=sys.stderr)
     failed = try_all(world, names, BESIDE)
+    if failed:
+        # A machine that is busy may be too slow for many parts at a time. So what failed is tried
+        # once more, alone, in a folder of its own.
+        again = os.path.join(words.folder, "again")
+        os.mkdir(again)
+        world = World(world.program, again, words.all, words.seed)
+        failed = try_all(world, failed, 1)
     if failed:
         sys.exit(f"agent: --seed {words.seed} repeats it: {' '.join(failed)}")
     print(f"agent: {len(names)} parts passed", file=sys.stderr)

@@ -14,10 +14,19 @@ import time
 
 from journal_rule import journal_of
 from world import (
-    Caller, Wrong, answering, end, environment, expect, rollout, running, wait_until)
+    Caller, Wrong, answering, end, environment, expect, rollout, running)
 
 # A measurement in the desk's table: what was reported is a result or a failure.
 Measured = collections.namedtuple("Measured", "service run metric ordinal taken result failure")
+
+
+def wait_until(row, is_so, seconds=60):
+    """Waits until this is so, which may take some time to look at."""
+    until = time.monotonic() + seconds
+    while not is_so():
+        if time.monotonic() > until:
+            raise Wrong(f"{row}: it did not come in {seconds} seconds")
+        time.sleep(.1)
 
 
 # ---- manifests

@@ -9,10 +9,10 @@ import time
 from agents import (
     Agent, agent_of, beside, count_measured, desk_for, journals_of, listed, measured,
     measured_beside, metric, of_web, provider, reply, run_agent, template, wait_measured,
-    want_once, want_reported)
+    wait_until, want_once, want_reported)
 from world import (
     AHEAD, BROKEN, DONE, IN_USE, LOCAL, NO_FILE, OTHER_CALLER, PENDING, REFUSED, WORDS, Wrong,
-    answering, expect, free_port, wait_until)
+    answering, expect, free_port)
 from world import ask as ask_bytes
 
 ONCE = ("--once",)

@@ -6,9 +6,9 @@ import socket
 import time
 
 from agents import (
-    agent_of, begin, beside, desk_for, listed, measured, measured_beside, metric, of_web, provider,
-    release, reply, run_agent, template, wait_measured, want_once)
-from world import Wrong, expect, wait_until
+    agent_of, begin, beside, desk_for, listed, measured, measured_beside, metric, of_web,
+    provider, release, reply, run_agent, template, wait_measured, wait_until, want_once)
+from world import Wrong, expect
 
 SIX, SEVEN = "result < 0.5", "result < 0.500001"
 

@@ -6,10 +6,10 @@ import time
 
 from agents import (
     Agent, agent_of, desk_for, measured, measured_beside, metric, of_web, provider, reply,
-    template, want_once)
+    template, wait_until, want_once)
 from replies import want_plain
 from rows import ESCAPES, GREATEST, LESS, NAN
-from world import Wrong, expect, wait_until
+from world import Wrong, expect
 
 # Of a kind that no agent asks.
 OTHER = {"datadog": {"query": "avg:errors"}}

@@ -7,15 +7,15 @@ import tty
 
 from agents import (
     agent_of, agent_words, desk_for, measured, measured_beside, metric, of_web, provider, reply,
-    services_measured, template, want_once)
+    services_measured, template, wait_until, want_once)
 from rows import ANSWERS, FRAMES, STATUSES, VALUES, is_as_wanted, provider_of
-from world import MARKS, Wrong, environment, expect, free_port, process, wait_until
+from world import MARKS, Wrong, environment, expect, free_port, process
 
 GOOD = ("good-1", "good-2", "good-3")
 # A service whose provider is gone.
 GONE = "gone"
-# How late a measurement of a second's interval may come, in seconds.
-PATIENCE = 3
+# The most seconds between two measurements of an interval of 2.
+PATIENCE = 4
 
 
 def name_of(row):
@@ -38,12 +38,12 @@ def manifests_of(rows, port):
     made = []
     for row in rows:
         name = name_of(row)
-        made += [template(name, metric("m", provider_of(row, port), interval="2s",
+        made += [template(name, metric("m", provider_of(row, port), interval="3s",
                                        successCondition=row.condition)),
                  measured_beside(name, name)]
     for name in (*GOOD, GONE):
         made += [template(name, metric("m", of_web(free_port() if name == GONE else port, name),
-                                       successCondition="result < 0.5")),
+                                       interval="2s", successCondition="result < 0.5")),
                  measured_beside(name, name)]
     return made
 
@@ -73,7 +73,7 @@ def want_plain(row, text, but=()):
 
 
 def want_in_time(name, found, until):
-    """The measurements of a good service went on all the time, one a second."""
+    """The measurements of a good service went on all the time."""
     moments = [each.taken for each in found]
     for one, other in zip(moments, [*moments[1:], int(until)]):
         if other - one > PATIENCE:
@@ -87,7 +87,7 @@ def want_rows(world, name, rows):
             desk_for(world, name, *manifests_of(rows, server.port)) as desk:
         names = [*map(name_of, rows), *GOOD, GONE]
         with agent_of(desk) as agent:
-            time.sleep(30 if world.is_whole else 8)
+            time.sleep(30 if world.is_whole else 10)
             wait_until("each row was measured", lambda: services_measured(desk) == len(names), 20)
             until = time.time()
         found = measured(desk, *names)
@@ -156,7 +156,7 @@ def run_on_terminal(desk, *words, seconds=60):
 
 def want_shown(desk, names):
     """On a terminal, once: a plain line for each measurement, without a control character."""
-    time.sleep(2.2)
+    time.sleep(3.2)
     status, shown = run_on_terminal(desk, "--once")
     expect("--once on a terminal", status, 0)
     want_plain("the terminal", shown, "\r\n")

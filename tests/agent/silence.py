@@ -5,9 +5,10 @@ import time
 
 from agents import (
     agent_of, analysis, begin, desk_for, history, measured, measured_beside, metric, of_web,
-    provider, reply, rollout, run_agent, status, template, wait_measured, wait_status, want_once)
+    provider, reply, rollout, run_agent, status, template, wait_measured, wait_status,
+    wait_until, want_once)
 from rows import silent
-from world import Wrong, expect, wait_until
+from world import Wrong, expect
 
 # Of a kind that no agent asks; another program is to measure it, and does not.
 NOBODY = {"datadog": {"query": "avg:errors"}}

@@ -7,11 +7,12 @@ import subprocess
 import time
 
 from agents import (
-    agent_of, agent_words, begin, beside, desk_for, journals_of, listed, measured, measured_beside,
-    metric, of_web, provider, reply, run_agent, template, want_once, want_reported)
+    agent_of, agent_words, begin, beside, desk_for, journals_of, listed, measured,
+    measured_beside, metric, of_web, provider, reply, run_agent, template, wait_until,
+    want_once, want_reported)
 from edges import ONCE, services
 from replies import run_on_terminal
-from world import DONE, LOCAL, Ended, Wrong, environment, expect, process, wait_until
+from world import DONE, LOCAL, Ended, Wrong, environment, expect, process
 
 SUBSETS = [closed for count in range(4) for closed in itertools.combinations(range(3), count)]
 

@@ -6,8 +6,8 @@ import time
 import urllib.parse
 import urllib.request
 
-from agents import provider, reply
-from world import Wrong, end, free_port, running, wait_until
+from agents import provider, reply, wait_until
+from world import Wrong, end, free_port, running
 
 # How many requests each version has in a second.
 REQUESTS = 200

@@ -152,7 +152,7 @@ def try_refused_providers(world):
     with provider(lambda *_: reply("0.25")) as server:
         metrics = [metric(name, of, successCondition="result < 1") for name, of in refused.items()]
         metrics.append(metric("good", of_web(server.port), successCondition="result < 1"))
-        with desk_for(world, "refused", template("of", *metrics),
+        with desk_for(world, "refused-providers", template("of", *metrics),
                       measured_beside("web", "of")) as desk:
             ended = run_agent(desk, options=("--once",))
             expect("its status", ended.status, 1)
