@@ -1,21 +1,27 @@
 """Journals and folders that cannot be used, two agents over one folder, SIGTERM, --once, --dry-run
 and --health: parts of agent.py."""
+import contextlib
+import http.client
 import json
 import os
+import shutil
 import signal
 import stat
+import subprocess
 import time
 
 from agents import (
-    Agent, agent_of, beside, count_measured, desk_for, journals_of, listed, measured,
+    Agent, agent_of, agent_words, beside, count_measured, desk_for, journals_of, listed, measured,
     measured_beside, metric, of_web, provider, reply, run_agent, template, wait_measured,
     wait_until, want_once, want_reported)
+from journal_rule import journal_of, line_of
 from world import (
-    AHEAD, BROKEN, DONE, IN_USE, LOCAL, NO_FILE, OTHER_CALLER, PENDING, REFUSED, WORDS, Wrong,
-    answering, expect, free_port)
+    AHEAD, BROKEN, DONE, IN_USE, LOCAL, NO_FILE, NO_JOURNAL_FILE, OTHER_CALLER, PENDING,
+    REFUSED, WORDS, Ended, Wrong, answering, environment, expect, free_port)
 from world import ask as ask_bytes
 
 ONCE = ("--once",)
+NOBODY = 65534
 
 
 def services(port, *names):
@@ -364,3 +370,92 @@ def try_moved_desk(world, server):
             time.sleep(3)
             expect("said once", agent.errors().count("ahead"), 1)
             expect("nothing is measured", count_measured(desk), {"m.e6": 0})
+
+
+def open_up(path):
+    """Lets others reach what is in a folder."""
+    for folder in (path, *path.parents):
+        if not folder.stat().st_mode & 0o001:
+            folder.chmod(0o711)
+
+
+def run_as_nobody(desk, *files, **more):
+    """Runs an agent as a user who may not write here; as it is, if this is no superuser."""
+    program = desk.folder / "canary"
+    if not program.exists():
+        shutil.copy(desk.world.program, program)
+        program.chmod(0o755)
+    user = {"user": NOBODY, "group": NOBODY} if os.getuid() == 0 else {}
+    ended = subprocess.run([str(program), *agent_words(desk, *files, **more)], timeout=20,
+                           cwd=desk.folder, env=environment(), stdin=subprocess.DEVNULL,
+                           capture_output=True, text=True, check=False, **user)
+    return Ended(ended.returncode, ended.stdout, ended.stderr)
+
+
+@measuring
+def try_shut(world, server):
+    """Folders and journals that may not be written, and manifests that may not be read, by a user
+    of no rights: a status and a sentence, and nothing is reported."""
+    with desk_for(world, "shut", *services(server.port, "web")) as desk:
+        open_up(desk.folder)
+        desk.folder.chmod(0o555)
+        want_ended("a folder cannot be made", run_as_nobody(desk, options=ONCE), LOCAL, "folder")
+        desk.folder.chmod(0o755)
+        (desk.folder / "journals").mkdir(mode=0o555)
+        want_ended("no journal can be made", run_as_nobody(desk, options=ONCE), LOCAL,
+                   f"web: {NO_JOURNAL_FILE}")
+        (desk.folder / "journals").chmod(0o777)
+        (desk.folder / "manifests.json").chmod(0)
+        want_ended("no manifest can be read", run_as_nobody(desk, options=ONCE), WORDS,
+                   "manifests.json")
+        (desk.folder / "manifests.json").chmod(0o644)
+        expect("nothing was reported", measured(desk), [])
+        expect("all is open", run_as_nobody(desk, options=ONCE).status, DONE)
+        (desk.folder / "journals" / "agent-web").chmod(0o444)
+        time.sleep(1.1)
+        if os.getuid() == 0:
+            os.chown(desk.folder / "journals" / "agent-web", 0, 0)
+        before = (desk.folder / "journals" / "agent-web").read_bytes()
+        want_ended("a journal may not be written", run_as_nobody(desk, options=ONCE), LOCAL,
+                   f"web: {NO_JOURNAL_FILE}")
+        expect("the journal", (desk.folder / "journals" / "agent-web").read_bytes(), before)
+        expect("once", len(measured(desk)), 1)
+
+
+TICK = '{"tick":{"service":"web"}}'
+
+
+def written_journal(desk, count, caller="agent-web"):
+    """The text of a journal of so many ticks, which the desk has settled: docs/CLIENT.md, "The
+    journal's file"."""
+    lines = [{"begun": {"caller": caller, "settled": 0}}]
+    with contextlib.closing(http.client.HTTPConnection("127.0.0.1", desk.port)) as connection:
+        for number in range(1, count + 1):
+            connection.request("PUT", f"/callers/{caller}/requests/{number}", TICK)
+            answer = connection.getresponse()
+            lines.append({"asked": {"body": TICK, "intent": TICK, "key": None, "number": number}})
+            lines.append({"settled": {"body": answer.read().decode(), "late": False,
+                                      "number": number, "status": answer.status}})
+    return "".join(f"+{line_of(line)}\n" for line in lines) + "-"
+
+
+@measuring
+def try_long_journal(world, server):
+    """A journal of 2,000 commands that are settled gets .old behind its name, in the place of an
+    earlier one, and a new one begins behind them; one of 1,998 goes on."""
+    for count in (1_998, 2_000):
+        with desk_for(world, f"long-journal-{count}", *services(server.port, "web")) as desk:
+            folder = desk.folder / "journals"
+            folder.mkdir()
+            text = written_journal(desk, count)
+            (folder / "agent-web").write_text(text, encoding="utf-8")
+            (folder / "agent-web.old").write_text("an earlier one", encoding="utf-8")
+            ended = run_agent(desk, options=ONCE)
+            expect(f"{count}: {ended.errors}", ended.status, DONE)
+            journal = journal_of((folder / "agent-web").read_bytes())
+            is_new = count == 2_000
+            expect(f"{count}: the journal", (journal.before, len(journal.kept), journal.pending),
+                   (count, 1, None) if is_new else (0, count + 1, None))
+            expect(f"{count}: the old one", (folder / "agent-web.old").read_text(encoding="utf-8"),
+                   text if is_new else "an earlier one")
+            expect(f"{count}: measured", len(measured(desk)), 1)

@@ -5,8 +5,7 @@ import time
 
 from agents import (
     Agent, agent_of, desk_for, history, journals_of, listed, measured, metric, of_prometheus,
-    release, reported, rollout, run_agent, status, template, wait_status, wait_until, want_once,
-    want_reported)
+    release, reported, rollout, run_agent, template, wait_status, want_once, want_reported)
 from toy import QUERY, prometheus, toy
 from world import Wrong, expect
 
