@@ -48,6 +48,29 @@ def try_silent_provider(world):
     return "5 failures, then an abort"
 
 
+def try_slow_metric(world):
+    """A metric whose provider takes four seconds for each answer delays no other one of its run,
+    and its answers count."""
+    def answer(asked, _):
+        time.sleep(4 if asked.target == "/slow" else 0)
+        return reply("0.25")
+
+    with provider(answer) as server:
+        of = template("of", *(metric(name, of_web(server.port, name), interval=interval,
+                                     successCondition="result < 1")
+                              for name, interval in (("quick", "1s"), ("slow", "6s"))))
+        with desk_for(world, "slow-metric", of, measured_beside("web", "of")) as desk, \
+                agent_of(desk):
+            wait_measured(desk, 2, seconds=25)
+            found = measured(desk)
+            expect("results", {each.result for each in found}, {"250000"})
+            moments = [each.taken for each in found if each.metric == "quick.e6"]
+            gaps = [two - one for one, two in zip(moments, moments[1:])]
+            if len(gaps) < 5 or max(gaps) > 3:
+                raise Wrong(f"the quick one was measured at {moments}")
+            want_once("slow metric", found)
+
+
 def unmeasured(seconds):
     """A release that time promotes after so many seconds, and a metric that no agent measures."""
     return [template("quiet", metric("m", NOBODY, successCondition="result < 1")),
