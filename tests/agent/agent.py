@@ -20,7 +20,8 @@ import streams
 import web
 from world import World, running
 
-PROMETHEUS_PARTS = ("try_releases", "try_kills")
+# The parts that are left out without these tools.
+PARTS_WITH = {"prometheus": ("try_releases", "try_kills"), "strace": ("try_health_race",)}
 # How many parts run beside one another: they wait more than they compute.
 BESIDE = 12
 
@@ -44,13 +45,14 @@ def try_part(name, world):
     parts.clear()
     begun = time.monotonic()
     try:
-        told = PARTS[name](world)
+        told, status = PARTS[name](world) or "passed", 0
     except Exception:  # pylint: disable=broad-except
-        print(f"agent: {name} FAILED\n{traceback.format_exc()}", file=sys.stderr, flush=True)
-        os._exit(1)
+        told, status = f"FAILED\n{traceback.format_exc()}", 1
+    for process in [*running]:
+        process.kill()
     seconds = time.monotonic() - begun
-    print(f"agent: {name}: {told or 'passed'} ({seconds:.1f} s)", file=sys.stderr, flush=True)
-    os._exit(0)
+    print(f"agent: {name}: {told} ({seconds:.1f} s)", file=sys.stderr, flush=True)
+    os._exit(status)
 
 
 def try_all(world, names, most):
@@ -96,8 +98,8 @@ def given():
 def main():
     words = given()
     world = World(os.path.realpath(words.program), words.folder, words.all, words.seed)
-    left_out = () if "prometheus" not in os.environ.get("CHECK_WITHOUT", "").split() \
-        else PROMETHEUS_PARTS
+    left_out = [name for tool in os.environ.get("CHECK_WITHOUT", "").split()
+                for name in PARTS_WITH.get(tool, ())]
     names = [name for name in PARTS if name in (words.parts or PARTS) and name not in left_out]
     for number in (signal.SIGTERM, signal.SIGINT, signal.SIGHUP):
         signal.signal(number, end_all)

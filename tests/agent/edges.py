@@ -17,7 +17,8 @@ from agents import (
 from journal_rule import journal_of, line_of
 from world import (
     AHEAD, BROKEN, DONE, IN_USE, LOCAL, NO_FILE, NO_JOURNAL_FILE, OTHER_CALLER, PENDING,
-    REFUSED, WORDS, Ended, Wrong, answering, environment, expect, free_port)
+    REFUSED, WORDS, Ended, Wrong, answering, environment, expect, free_port,
+    process)
 from world import ask as ask_bytes
 
 ONCE = ("--once",)
@@ -256,6 +257,43 @@ def want_health(world, port, row):
         if row == "link":
             expect("what a link leads to", (target.read_text(encoding="utf-8"),
                                             int(target.stat().st_mtime)), ("as it is", 1))
+
+
+@measuring
+def try_health_race(world, server):
+    """A FIFO takes the name of --health between two calls of the agent, of which the second is
+    slowed down by strace: the agent waits for nobody, and goes on."""
+    with desk_for(world, "health-race", *services(server.port, "web")) as desk:
+        path = desk.folder / "health"
+        path.touch()
+        with agent_of(desk, options=("--health", str(path))) as agent, \
+                slowed(agent, path, desk.folder / "calls"):
+            # it goes on before strace leaves it, which would interrupt a call that waits
+            for _ in range(3):
+                os.mkfifo(desk.folder / "fifo")
+                os.rename(desk.folder / "fifo", path)
+                time.sleep(2.5)
+                desk.write("regular", "")
+                os.rename(desk.folder / "regular", path)
+                time.sleep(1.2)
+            before = count_measured(desk)["m.e6"]
+            wait_measured(desk, before + 2, seconds=15)
+        if "openat" not in (desk.folder / "calls").read_text(encoding="utf-8"):
+            raise Wrong("the file was not opened")
+
+
+@contextlib.contextmanager
+def slowed(agent, path, log):
+    """Each call by which the agent opens a file takes two seconds more."""
+    words = ["strace", "-f", "-o", str(log), "-p", str(agent.process.pid), "-P", str(path), "-e",
+             "trace=openat", "-e", "inject=openat:delay_enter=2000000"]
+    with process(words, stdin=subprocess.DEVNULL, stdout=subprocess.DEVNULL,
+                 stderr=subprocess.PIPE) as tracer:
+        if b"attached" not in (told := tracer.stderr.readline()):
+            raise Wrong(f"strace: {told!r}")
+        yield
+        tracer.terminate()
+        tracer.wait()
 
 
 def want_touched(path, row):

@@ -8,6 +8,7 @@ import time
 from agents import (
     agent_of, begin, beside, desk_for, listed, measured, measured_beside, metric, of_web,
     provider, release, reply, run_agent, template, wait_measured, wait_until, want_once)
+from replies import want_plain
 from world import Wrong, expect
 
 SIX, SEVEN = "result < 0.5", "result < 0.500001"
@@ -141,11 +142,12 @@ def want_strange(world, port, row):
         (folder / "a.json").symlink_to(desk.folder / "manifests.json")
         with agent_of(desk, "manifests") as agent:
             wait_more(desk, "p.e6", 1)
-            plant(folder / "b.yaml", row)
+            plant(folder / "b\x1b[31m.yaml", row)
             wait_more(desk, "p.e6", 3)
             before = len(agent.errors())
             wait_more(desk, "p.e6", 2)
             expect(f"{row}: said again", agent.errors()[before:], "")
+            want_plain(row, agent.errors(), "\n")
         ended = run_agent(desk, "manifests", options=("--once",), timeout=20)
         if ended.status not in (0, 2, 5) or (ended.status and not ended.errors):
             raise Wrong(f"{row} from the beginning: {ended}")
