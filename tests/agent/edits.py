@@ -63,6 +63,27 @@ def try_edited(world):
             want_once("edited", measured(desk))
 
 
+def try_asked_before(world):
+    """A file changes while a provider is asked by the one before: its answer is read as it was
+    asked for."""
+    def answer(asked, _):
+        time.sleep(1)
+        return reply('{"a": 0.25}' if asked.target == "/a" else '{"b": 0.5}')
+
+    with provider(answer) as server:
+        def manifests_of(name):
+            of = of_web(server.port, name, jsonPath=f"{{$.{name}}}")
+            return [template("of", metric("p", of, interval="3s", successCondition=SIX)),
+                    measured_beside("web", "of")]
+
+        with desk_for(world, "asked-before", *manifests_of("a")) as desk, agent_of(desk):
+            for name in "babababab":
+                time.sleep(1.1)
+                put(desk, listed(*manifests_of(name)))
+            wait_more(desk, "p.e6", 1)
+            expect("results", {each.result for each in measured(desk)}, {"250000", "500000"})
+
+
 def try_invalid(world):
     """A file becomes no JSON, something that is not translated, empty, gone or a folder: the last
     good one stays, and standard error names the file, once for each change."""

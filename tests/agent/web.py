@@ -138,6 +138,24 @@ def want_query(server, query):
             raise Wrong(f"{each.target}: a field twice: {each.fields}")
 
 
+def try_versions(world):
+    """Arguments that Argo fills with the hash of a version's pods have the versions that the desk
+    knows: the latest and the stable one."""
+    with provider(lambda *_: reply("0.25")) as server:
+        of = template("of", metric("m", of_web(server.port, "{{args.new}}/{{args.old}}"),
+                                   successCondition="result < 1"))
+        of["spec"]["args"] = [{"name": "new"}, {"name": "old"}]
+        web = measured_beside("web", "of")
+        web["spec"]["strategy"]["canary"]["analysis"]["args"] = [
+            {"name": name, "valueFrom": {"podTemplateHashValue": value}}
+            for name, value in (("new", "Latest"), ("old", "Stable"))]
+        with desk_for(world, "versions", of, web, version="v2-7d9f") as desk:
+            ended = run_agent(desk, options=("--once",))
+            expect(f"its end: {ended.errors}", ended.status, 0)
+            expect("what is asked", server.targets(), ["/v2-7d9f/v1"])
+            expect("what is measured", [each.result for each in measured(desk)], ["250000"])
+
+
 def try_refused_providers(world):
     """What no agent asks is said by name as the files are read, with the service and the metric;
     the others are measured."""
