@@ -18,10 +18,12 @@ import replies
 import silence
 import streams
 import web
-from world import World, running
+from world import World, Wrong, running
 
 # The parts that are left out without these tools.
 PARTS_WITH = {"prometheus": ("try_releases", "try_kills"), "strace": ("try_health_race",)}
+# The most seconds of a part, and five times as many with --all.
+LONGEST = 180
 # How many parts run beside one another: they wait more than they compute.
 BESIDE = 12
 
@@ -40,14 +42,23 @@ parts = {}
 PARTS = parts_of(silence, real, crowd, replies, edits, lines, web, edges, streams)
 
 
+def give_up(*_):
+    """Ends a part that takes too long; again, if what it waits for goes on waiting."""
+    signal.alarm(20)
+    raise Wrong("the part took too long")
+
+
 def try_part(name, world):
     """Tries a part in this process, and ends it."""
     parts.clear()
+    signal.signal(signal.SIGALRM, give_up)
+    signal.alarm(LONGEST * (5 if world.is_whole else 1))
     begun = time.monotonic()
     try:
         told, status = PARTS[name](world) or "passed", 0
     except Exception:  # pylint: disable=broad-except
         told, status = f"FAILED\n{traceback.format_exc()}", 1
+    signal.alarm(0)
     for process in [*running]:
         process.kill()
     seconds = time.monotonic() - begun
