@@ -3,10 +3,7 @@
 
 # The tools without which nothing here runs, and those that `./check --without` may name.
 required=(rt bash python3 awk)
-optional=(cc strace sqlite3 curl pyyaml)
-optional+=(haproxy)
-optional+=(nginx)
-optional+=(openssl)
+optional=(cc strace sqlite3 curl pyyaml haproxy nginx openssl prometheus)
 # Where Debian has haproxy and nginx: only root's PATH has it.
 PATH=$PATH:/usr/sbin
 
@@ -31,6 +28,7 @@ sys.exit(sys.version_info < (3, 10) or sqlite3.sqlite_version_info < (3, 37))' ;
         pyyaml) python3 -c 'import yaml' ;;
         haproxy) haproxy -c -f <(haproxy_of_scripts) ;;
         nginx) nginx -V 2>&1 | grep -e --with-http_ssl_module ;;
+        prometheus) prometheus --version ;;
         *) command -v "$1" ;;
     esac > /dev/null 2>&1 < /dev/null
 }
@@ -47,6 +45,7 @@ described() {
         pyyaml) echo "PyYAML, the module yaml of python3" ;;
         haproxy) echo "haproxy 2.5 or later, built with OpenSSL" ;;
         nginx) echo "nginx with its module http_ssl" ;;
+        prometheus) echo "prometheus 2" ;;
         *) echo "$1" ;;
     esac
 }
@@ -82,6 +81,7 @@ left_out_without() {
             "and tunnels by it (tests/proxies/run)" ;;
         nginx) echo "nginx: what follows a release by nginx, and roles by it (tests/proxies/run)" ;;
         openssl) echo "openssl: roles by a proxy (tests/proxies/run)" ;;
+        prometheus) echo "prometheus: releases that a real Prometheus measures (tests/agent/run)" ;;
     esac
 }
 

@@ -1,0 +1,62 @@
+"""Many services that one agent measures on one core: a part of agent.py."""
+import collections
+import os
+import time
+
+from agents import (
+    agent_of, ask, begin, desk_for, listed, measured, measured_beside, metric, of_web, provider,
+    release, reply, template, want_once)
+from world import Wrong, expect
+
+SERVICES = 200
+INTERVAL = 10
+# How late a measurement may be, in seconds.
+MOST_LATE = 2
+
+
+def lateness(desk, names, found):
+    """By how many seconds each measurement was taken behind the moment at which it was due: the
+    first one as its run began, the others an interval behind the one before."""
+    late, last = [], {}
+    for each in found:
+        due = last[each.service] + INTERVAL if each.service in last \
+            else ask(desk, f"/services/{each.service}/runs/1")["started"]
+        last[each.service] = each.taken
+        late.append(each.taken - due)
+    expect("services that were measured", sorted(last), sorted(names))
+    return late
+
+
+def seconds_of(agent):
+    """The processor's time that an agent has taken, in seconds."""
+    with open(f"/proc/{agent.process.pid}/stat", encoding="utf-8") as file:
+        fields = file.read().rsplit(")", 1)[1].split()
+    return (int(fields[11]) + int(fields[12])) / os.sysconf("SC_CLK_TCK")
+
+
+def try_crowd(world):
+    """200 services, each with an interval of 10 seconds, by one agent on one core: each is measured
+    each time, two seconds late at most."""
+    names = [f"s-{at}" for at in range(SERVICES)]
+    with provider(lambda asked, client: reply("0.5")) as server, \
+            desk_for(world, "crowd") as desk:
+        of = template("load", metric("load", of_web(server.port, "load"), interval=f"{INTERVAL}s",
+                                     successCondition="result < 0.75"))
+        manifests = [of, *(measured_beside(name, "load") for name in names)]
+        release(desk, listed(*manifests), is_begun=False)
+        with agent_of(desk) as agent:
+            os.sched_setaffinity(agent.process.pid, {min(os.sched_getaffinity(0))})
+            time.sleep(1)
+            begin(desk, *names)
+            time.sleep(62 if world.is_whole else 22)
+            took = seconds_of(agent)
+        found = measured(desk, *names)
+        late = lateness(desk, names, found)
+        want_once("crowd", found)
+        count = collections.Counter(each.service for each in found)
+        if max(late) > MOST_LATE:
+            raise Wrong(f"late by {sorted(late)[-5:]} seconds")
+        wanted = 6 if world.is_whole else 2
+        if min(count.values()) < wanted:
+            raise Wrong(f"only {min(count.values())} measurements of a service")
+    return f"{len(found)} measurements, late by {max(late)} s at most, {took:.1f} s of a processor"

@@ -1,0 +1,221 @@
+"""Files of manifests that change while they are measured: parts of agent.py."""
+import json
+import os
+import random
+import socket
+import time
+
+from agents import (
+    agent_of, begin, beside, desk_for, listed, measured, measured_beside, metric, of_web,
+    provider, release, reply, run_agent, template, wait_measured, wait_until, want_once)
+from replies import want_plain
+from world import Wrong, expect
+
+SIX, SEVEN = "result < 0.5", "result < 0.500001"
+
+
+def template_of(port, condition=SIX, path="old", names=("p", "q")):
+    return template("of", *(metric(name, of_web(port, path), successCondition=condition)
+                            for name in names))
+
+
+def count_of(desk, label):
+    return len([each for each in measured(desk) if each.metric == label])
+
+
+def wait_more(desk, label, more=2, seconds=12):
+    """Waits until a metric has some measurements more."""
+    count = count_of(desk, label)
+    wait_until(f"{label} is measured", lambda: count_of(desk, label) >= count + more, seconds)
+
+
+def put(desk, value, name="manifests.json"):
+    """Puts a file in the place of another, whole."""
+    desk.write("new", value)
+    os.replace(desk.folder / "new", desk.folder / name)
+
+
+def try_edited(world):
+    """A template is edited within an attempt. With more places: its run is reported by the label
+    that it has, and by the new query. A metric that is removed waits, which is said once, and is
+    measured again as it is back."""
+    with provider(lambda asked, _: reply("0.2500019" if asked.target == "/new" else "0.25")) \
+            as server:
+        web = measured_beside("web", "of")
+        with desk_for(world, "edited", template_of(server.port), web) as desk, \
+                agent_of(desk) as agent:
+            wait_more(desk, "p.e6")
+            put(desk, listed(template_of(server.port, SEVEN, "new"), web))
+            wait_until("the new query", lambda: "/new" in server.targets(), 5)
+            wait_more(desk, "p.e6", 3)
+            expect("by the label of the run", {each.metric for each in measured(desk)},
+                   {"p.e6", "q.e6"})
+            expect("the last one", measured(desk)[-1].result, "250001")
+            put(desk, listed(template_of(server.port, names=("p",)), web))
+            agent.wait_said("q.e6")
+            before = count_of(desk, "q.e6")
+            wait_more(desk, "p.e6", 3)
+            if count_of(desk, "q.e6") > before + 1:
+                raise Wrong("a metric was measured that is in no file")
+            expect("said once", agent.errors().count("no file has this metric"), 1)
+            put(desk, listed(template_of(server.port), web))
+            wait_more(desk, "q.e6", 3)
+            want_once("edited", measured(desk))
+
+
+def try_asked_before(world):
+    """A file changes while a provider is asked by the one before: its answer is read as it was
+    asked for."""
+    def answer(asked, _):
+        time.sleep(1)
+        return reply('{"a": 0.25}' if asked.target == "/a" else '{"b": 0.5}')
+
+    with provider(answer) as server:
+        def manifests_of(name):
+            of = of_web(server.port, name, jsonPath=f"{{$.{name}}}")
+            return [template("of", metric("p", of, interval="3s", successCondition=SIX)),
+                    measured_beside("web", "of")]
+
+        with desk_for(world, "asked-before", *manifests_of("a")) as desk, agent_of(desk):
+            for name in "babababab":
+                time.sleep(1.1)
+                put(desk, listed(*manifests_of(name)))
+            wait_more(desk, "p.e6", 1)
+            expect("results", {each.result for each in measured(desk)}, {"250000", "500000"})
+
+
+def try_invalid(world):
+    """A file becomes no JSON, something that is not translated, empty, gone or a folder: the last
+    good one stays, and standard error names the file, once for each change."""
+    bad = {"no JSON": '{"kind": ', "arithmetic": None, "empty": "", "no manifest": "[1]"}
+    with provider(lambda *_: reply("0.25")) as server:
+        web = measured_beside("web", "of")
+        good = listed(template_of(server.port), web)
+        bad["arithmetic"] = listed(template_of(server.port, "result * 2 < 1"), web)
+        with desk_for(world, "invalid", template_of(server.port), web) as desk, \
+                agent_of(desk) as agent:
+            wait_more(desk, "p.e6")
+            for row, value in bad.items():
+                count = agent.errors().count("manifests.json")
+                put(desk, value)
+                wait_more(desk, "p.e6", 3)
+                said = agent.errors().count("manifests.json") - count
+                if said > 2 or (said < 1 and row in ("no JSON", "arithmetic")):
+                    raise Wrong(f"{row}: said {said} times: {agent.errors()!r}")
+                put(desk, good)
+                wait_more(desk, "p.e6", 1)
+            want_gone(desk, agent, good)
+            want_once("invalid", measured(desk))
+
+
+def want_gone(desk, agent, good):
+    """The file is removed, and a folder comes in its place."""
+    for row in ("gone", "folder"):
+        before = agent.errors().count("manifests.json")
+        (desk.folder / "manifests.json").unlink()
+        if row == "folder":
+            (desk.folder / "manifests.json").mkdir()
+        wait_more(desk, "p.e6", 4)
+        said = agent.errors().count("manifests.json") - before
+        if row == "gone" and said != 1:
+            raise Wrong(f"{row}: said {said} times: {agent.errors()!r}")
+        if row == "folder":
+            (desk.folder / "manifests.json").rmdir()
+        put(desk, good)
+        wait_more(desk, "p.e6", 2)
+
+
+def try_new_file(world):
+    """A folder of manifests gets a new file: its service is measured from then on. Names that are
+    no manifest's are not read."""
+    with provider(lambda *_: reply("0.25")) as server, desk_for(world, "new-file") as desk:
+        folder = desk.folder / "manifests"
+        folder.mkdir()
+        for name in ("one", "two"):
+            release(desk, listed(
+                template(name, metric("p", of_web(server.port), successCondition=SIX)),
+                measured_beside(name, name)), file=f"{name}.json", is_begun=name == "one")
+        os.rename(desk.folder / "one.json", folder / "one.json")
+        (folder / "notes.txt").write_text("{", encoding="utf-8")
+        (folder / ".hidden").write_text("{", encoding="utf-8")
+        with agent_of(desk, "manifests") as agent:
+            wait_measured(desk, 2, "one")
+            os.rename(desk.folder / "two.json", folder / "two.json")
+            begin(desk, "two")
+            wait_measured(desk, 2, "two", seconds=8)
+            expect("its errors", agent.errors(), "")
+
+
+def try_strange_files(world):
+    """Links, a FIFO that nobody writes to, a socket, a link to nowhere, and a file that may not be
+    read, in a folder of manifests: the call ends with a sentence or goes on, and never hangs. Once
+    the agent runs, what was measured goes on."""
+    with provider(lambda *_: reply("0.25")) as server:
+        beside(lambda row: want_strange(world, server.port, row),
+               ("fifo", "socket", "nowhere", "folder", "shut", "loop"))
+
+
+def want_strange(world, port, row):
+    made = [template_of(port, names=("p",)), measured_beside("web", "of")]
+    with desk_for(world, f"strange-{row}", *made) as desk:
+        folder = desk.folder / "manifests"
+        folder.mkdir()
+        (folder / "a.json").symlink_to(desk.folder / "manifests.json")
+        with agent_of(desk, "manifests") as agent:
+            wait_more(desk, "p.e6", 1)
+            plant(folder / "b\x1b[31m.yaml", row)
+            wait_more(desk, "p.e6", 3)
+            before = len(agent.errors())
+            wait_more(desk, "p.e6", 2)
+            expect(f"{row}: said again", agent.errors()[before:], "")
+            want_plain(row, agent.errors(), "\n")
+        ended = run_agent(desk, "manifests", options=("--once",), timeout=20)
+        if ended.status not in (0, 2, 5) or (ended.status and not ended.errors):
+            raise Wrong(f"{row} from the beginning: {ended}")
+
+
+def plant(path, row):
+    """Something that is no file of manifests, under such a name."""
+    if row == "fifo":
+        os.mkfifo(path)
+    elif row == "socket":
+        with socket.socket(socket.AF_UNIX) as made:
+            made.bind(str(path))
+    elif row == "folder":
+        path.mkdir()
+    elif row == "shut":
+        path.write_text("{}", encoding="utf-8")
+        path.chmod(0)
+    else:
+        path.symlink_to("none" if row == "nowhere" else path)
+
+
+def try_replaced(world):
+    """A file is written in place, in pieces, and replaced, while it is read again and again: the
+    agent goes on, and in the end it has the last one."""
+    rng = random.Random(world.share)
+    with provider(lambda *_: reply("0.25")) as server:
+        web = measured_beside("web", "of")
+        with desk_for(world, "replaced", template_of(server.port, names=("p",)), web) as desk, \
+                agent_of(desk) as agent:
+            wait_more(desk, "p.e6", 1)
+            good = json.dumps(listed(template_of(server.port, names=("p",)), web))
+            until = time.monotonic() + (60 if world.is_whole else 5)
+            while time.monotonic() < until:
+                write_in_pieces(rng, desk.folder / "manifests.json", good)
+                put(desk, good)
+            put(desk, listed(template_of(server.port, path="last", names=("p",)), web))
+            wait_until("the last file", lambda: "/last" in server.targets()
+                       or agent.must_run(), 5)
+            wait_more(desk, "p.e6", 2)
+            want_once("replaced", measured(desk))
+
+
+def write_in_pieces(rng, path, text):
+    """Writes a file in its place, and stops for a moment within."""
+    at = rng.randrange(len(text))
+    with open(path, "w", encoding="utf-8", buffering=1) as file:
+        for piece in (text[:at], text[at:]):
+            file.write(piece)
+            file.flush()
+            time.sleep(rng.uniform(0, .4))

@@ -1,0 +1,172 @@
+"""Values of another program, by standard input and a FIFO: parts of agent.py."""
+import contextlib
+import os
+import subprocess
+import time
+
+from agents import (
+    Agent, agent_of, desk_for, measured, measured_beside, metric, of_web, provider, reply,
+    template, wait_until, want_once)
+from replies import want_plain
+from rows import ESCAPES, GREATEST, LESS, NAN
+from world import Wrong, expect
+
+# Of a kind that no agent asks.
+OTHER = {"datadog": {"query": "avg:errors"}}
+# What lines say, and what is reported: of `result`, of a place, of places, and of all there is.
+SAID = [
+    ("one", "result < 1", "0.25", "250000"),
+    ("digits", "result < 1", "0.12345600000000000000001", "123456"),
+    ("great", "result < 1", "1e400", GREATEST),
+    ("first", "result[0] < 1", "[0.25,0.5]", "250000"),
+    ("both", "result[0] < 1 && result[1] < 1", "[0.25, -0.5]", "[250000;-500000]"),
+    ("none", "len(result) == 0 || result[0] < 1", "[]", "[0]"),
+    ("nan", "isNaN(result) || result < 1", "NaN", NAN),
+    ("inf", "isInf(result) || result < 1", "-Inf", LESS),
+    ("nil", "default(result, 0) < 1", "null", "-9223372036854775806"),
+]
+# Lines that are none, and lines of what is not here.
+HOSTILE = [
+    b"", b" ", b"one", b"one m", b"one m ", b"one m x", b"one m 0.5.5", b"one m [1", b"one m 1]",
+    b"one m [1,,2]", b"one m [[1]]", b"one m 1 2", b"one m \xff\xfe", b"\xff m 1", b"one m \x00",
+    b"other m 1", b"one other 1", b"one m.e9 1", b"ONE m 1", b"one m true", b'one m "1"',
+    b"asked m 7", b"one m 0x10", b"one m 1_0", ESCAPES.encode(),
+    b"one m " + ESCAPES.encode().replace(b"\n", b""), b"x" * 5000, b"one m " + b"9" * 5000,
+]
+
+
+def manifests_of(rows, port):
+    """A service for each row, which another program measures, and one whose provider is asked."""
+    made = []
+    for name, condition, *_ in rows:
+        made += [template(name, metric("m", OTHER, successCondition=condition, interval="2s")),
+                 measured_beside(name, name)]
+    return [*made, template("asked", metric("m", of_web(port), successCondition="result < 1")),
+            measured_beside("asked", "asked")]
+
+
+def reported_of(desk, name):
+    return [each.result for each in measured(desk, name) if each.result]
+
+
+def memory_of(agent):
+    """The most memory that a process took, in kilobytes."""
+    with open(f"/proc/{agent.process.pid}/status", encoding="utf-8") as file:
+        return int(next(line for line in file if line.startswith("VmHWM:")).split()[1])
+
+
+@contextlib.contextmanager
+def reading(world, name, rows, source):
+    """A desk, an agent that reads lines from there, and what writes a line."""
+    with provider(lambda *_: reply("0.25")) as server, \
+            desk_for(world, name, *manifests_of(rows, server.port)) as desk:
+        if source == "-":
+            options, stdin = ("--values", "-"), subprocess.PIPE
+        else:
+            os.mkfifo(desk.folder / "values")
+            options, stdin = ("--values", str(desk.folder / "values")), subprocess.DEVNULL
+        with agent_of(desk, options=options, stdin=stdin) as agent:
+            def write(line):
+                if source == "-":
+                    agent.process.stdin.write(line)
+                    agent.process.stdin.flush()
+                    return
+                with open(desk.folder / "values", "wb", buffering=0) as fifo:
+                    fifo.write(line)
+            yield desk, agent, write
+
+
+def want_values(world, name, source):
+    """Each kind of value is reported; the lines come when a measurement waits for them."""
+    with reading(world, name, SAID, source) as (desk, agent, write):
+        for _ in range(3):
+            for row in SAID:
+                write(f"{row[0]} m {row[2]}\n".encode())
+            time.sleep(.8)
+        for row, _, text, wanted in SAID:
+            wait_until(f"{row} is reported", lambda row=row: reported_of(desk, row)
+                       or agent.must_run(), 8)
+            expect(f"{name}: {row} {text}", set(reported_of(desk, row)), {wanted})
+        found = measured(desk, *(row[0] for row in SAID), "asked")
+        want_once(name, found)
+        if any("no value" not in each.failure for each in found if each.failure):
+            raise Wrong(f"{name}: failures: {[each for each in found if each.failure]}")
+        if len([each for each in found if each.service == "asked"]) < 2:
+            raise Wrong("the one that is asked was not measured meanwhile")
+
+
+def try_values(world):
+    """Values of another program by standard input and by a FIFO, whose writers come and go."""
+    want_values(world, "values-input", "-")
+    want_values(world, "values-fifo", "fifo")
+    return f"{len(SAID)} values by each"
+
+
+def try_no_values(world):
+    """Without a line a measurement is a failure in time. A later line takes the place of an earlier
+    one, and each is reported once. The input's end is said once."""
+    with reading(world, "no-values", SAID[:1], "-") as (desk, agent, write):
+        wait_until("a failure", lambda: any(each.failure for each in measured(desk, "one")), 10)
+        write(b"one m 0.1\none m 0.2\none m 0.3\n")
+        wait_until("a result", lambda: reported_of(desk, "one"), 10)
+        time.sleep(5)
+        expect("the last of three lines, once", reported_of(desk, "one"), ["300000"])
+        agent.process.stdin.close()
+        agent.wait_said("ended")
+        time.sleep(2)
+        expect("said once", agent.errors().count("ended"), 1)
+        before = len(measured(desk, "asked"))
+        wait_until("others go on", lambda: len(measured(desk, "asked")) > before, 5)
+
+
+def try_hostile_lines(world):
+    """Lines that are none, of services and metrics that are not here, and without an end: each is
+    said in plain text or ignored, the good ones among them count, others are measured in time, and
+    no memory is taken for them."""
+    with reading(world, "hostile-lines", SAID[:1], "-") as (desk, agent, write):
+        for line in HOSTILE:
+            write(line + b"\n")
+        begun = memory_of(agent)
+        for _ in range(1200 if world.is_whole else 120):
+            write(b"z" * 500_000)
+        write(b"\n")
+        want_no_more(agent, begun)
+        wait_until("a good line", lambda: write(b"one m 0.25\n") or time.sleep(.3)
+                   or reported_of(desk, "one"), 15)
+        for _ in range(300):
+            write(b"".join(line + b"\n" for line in HOSTILE[:20]))
+        write(b"one m 0.5\r\n")
+        wait_until("behind many", lambda: write(b"one m.e6 0.5\n") or time.sleep(.3)
+                   or "500000" in reported_of(desk, "one"), 15)
+        expect("nothing else is reported", set(reported_of(desk, "one")), {"250000", "500000"})
+        found = measured(desk, "asked")
+        expect("what is asked", {each.result for each in found}, {"250000"})
+        moments = [each.taken for each in found]
+        if max(two - one for one, two in zip(moments, moments[1:])) > 3:
+            raise Wrong(f"the other service was measured at {moments}")
+        want_plain("its errors", agent.errors(), "\n")
+        want_plain("its output", agent.output.read_text(encoding="utf-8"), "\n")
+        if max(map(len, agent.errors().splitlines())) > 2000:
+            raise Wrong("a line of its errors is longer than 2000")
+
+
+def want_no_more(agent, begun):
+    """60 MB in one line took less than 20 MB of memory."""
+    grown = memory_of(agent) - begun
+    if grown > 20_000:
+        raise Wrong(f"a line without an end took {grown} kB")
+
+
+def try_no_reader(world):
+    """Values of a file that is not there, a folder, a FIFO that nobody writes to: the first two end
+    it with status 5, and by the third the others are measured."""
+    with provider(lambda *_: reply("0.25")) as server, \
+            desk_for(world, "no-reader", *manifests_of(SAID[:1], server.port)) as desk:
+        (desk.folder / "folder").mkdir()
+        os.mkfifo(desk.folder / "quiet")
+        for name in ("none", "folder"):
+            agent = Agent(desk, options=("--values", str(desk.folder / name)), name=name)
+            expect(name, agent.process.wait(10), 5)
+            agent.kill()
+        with agent_of(desk, options=("--values", str(desk.folder / "quiet"))):
+            wait_until("others", lambda: len(measured(desk, "asked")) > 2, 10)

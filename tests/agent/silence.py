@@ -1,0 +1,206 @@
+"""Providers that are silent, agents that were stopped, and desks that were away: parts of
+agent.py."""
+import signal
+import time
+
+from agents import (
+    agent_of, analysis, begin, desk_for, history, measured, measured_beside, metric, of_web,
+    provider, reply, rollout, run_agent, status, template, wait_measured, wait_status,
+    wait_until, want_once)
+from rows import silent
+from world import Wrong, expect
+
+# Of a kind that no agent asks; another program is to measure it, and does not.
+NOBODY = {"datadog": {"query": "avg:errors"}}
+LATE = "late by"
+
+
+def timed(name, of, seconds):
+    """A release that time alone promotes, beside its analysis."""
+    return rollout(name, {"setWeight": 20}, {"pause": {"duration": f"{seconds}s"}},
+                   {"setWeight": 60}, {"pause": {"duration": "1s"}}, analysis=analysis(of))
+
+
+def never(asked, client):
+    """A provider that takes each message, and answers none."""
+    return silent()(client)
+
+
+def try_silent_provider(world):
+    """A provider that never answers gives failures in time, and the fifth in a row ends the
+    release, as in Argo; another service is measured meanwhile."""
+    with provider(never) as server, provider(lambda *_: reply("0.25")) as other:
+        made = [template("quiet", metric("m", of_web(server.port), successCondition="result < 1",
+                                         consecutiveErrorLimit=4)),
+                template("good", metric("m", of_web(other.port), successCondition="result < 1")),
+                timed("web", "quiet", 60), measured_beside("other", "good")]
+        with desk_for(world, "silent-provider", *made) as desk, agent_of(desk):
+            wait_status(desk, "Degraded", seconds=30)
+            found = measured(desk)
+            expect("failures", [bool(each.failure) for each in found], [True] * 5)
+            if not all("timeout" in each.failure for each in found):
+                raise Wrong(f"the failures: {found}")
+            expect("how it ended", history(desk)[-1], "abort run 1")
+            moments = [each.taken for each in measured(desk, "other")]
+            gaps = [two - one for one, two in zip(moments, moments[1:])]
+            if len(gaps) < 5 or max(gaps) > 3:
+                raise Wrong(f"the other service was measured at {moments}")
+    return "5 failures, then an abort"
+
+
+def try_slow_metric(world):
+    """A metric whose provider takes four seconds for each answer delays no other one of its run,
+    and its answers count."""
+    def answer(asked, _):
+        time.sleep(4 if asked.target == "/slow" else 0)
+        return reply("0.25")
+
+    with provider(answer) as server:
+        of = template("of", *(metric(name, of_web(server.port, name), interval=interval,
+                                     successCondition="result < 1")
+                              for name, interval in (("quick", "1s"), ("slow", "6s"))))
+        with desk_for(world, "slow-metric", of, measured_beside("web", "of")) as desk, \
+                agent_of(desk):
+            wait_measured(desk, 2, seconds=25)
+            found = measured(desk)
+            expect("results", {each.result for each in found}, {"250000"})
+            moments = [each.taken for each in found if each.metric == "quick.e6"]
+            gaps = [two - one for one, two in zip(moments, moments[1:])]
+            if len(gaps) < 5 or max(gaps) > 3:
+                raise Wrong(f"the quick one was measured at {moments}")
+            want_once("slow metric", found)
+
+
+def unmeasured(seconds):
+    """A release that time promotes after so many seconds, and a metric that no agent measures."""
+    return [template("quiet", metric("m", NOBODY, successCondition="result < 1")),
+            timed("web", "quiet", seconds)]
+
+
+def try_nobody_measures(world):
+    """A metric whose provider no agent asks, and that no other program measures: standard error
+    says that its measurement is late, once, and time promotes the release."""
+    with desk_for(world, "nobody", *unmeasured(9)) as desk, agent_of(desk) as agent:
+        wait_status(desk, "Healthy", seconds=30)
+        expect("nothing was measured", measured(desk), [])
+        late = [line for line in agent.errors().splitlines() if LATE in line]
+        if len(late) != 1 or not late[0].startswith("canary: web run 1 m"):
+            raise Wrong(f"what is late: {agent.errors()!r}")
+
+
+def try_abort_late(world):
+    """With --abort-late the same release is aborted before its pause ends, once, and shown; another
+    attempt is aborted as well."""
+    with desk_for(world, "abort-late", *unmeasured(110)) as desk, \
+            agent_of(desk, options=("--abort-late", "3")) as agent:
+        wait_status(desk, "Degraded", seconds=85)
+        time.sleep(3)
+        expect("aborted once", desk.count("abort"), {"web": 1})
+        expect("what it shows", [line for line in agent.lines() if "abort" in line],
+               [{"abort": "web", "code": "ok", "status": "Degraded"}])
+        if world.is_whole:
+            begin(desk, "web", version="v3")
+            wait_status(desk, "Degraded", seconds=85)
+            expect("aborted again", desk.count("abort"), {"web": 2})
+        return "aborted, as nobody measures"
+
+
+def try_abort_late_once(world):
+    """--once with --abort-late, as cron may call it: what nobody measures is aborted if it is late
+    by more, and not before; what can be measured is measured, however late it is."""
+    with provider(lambda *_: reply("0.25")) as server:
+        made = [*unmeasured(60),
+                template("good", metric("m", of_web(server.port), successCondition="result < 1")),
+                timed("good", "good", 60)]
+        with desk_for(world, "abort-late-once", *made) as desk:
+            ended = run_agent(desk, options=("--once", "--abort-late", "3600"))
+            expect(f"not late so far: {ended}", status(desk), "Paused")
+            time.sleep(4.5)
+            ended = run_agent(desk, options=("--once", "--abort-late", "3"))
+            expect(f"late: {ended}", (status(desk), status(desk, "good")), ("Degraded", "Paused"))
+            expect("what was measured", [each.service for each in measured(desk, "web", "good")],
+                   ["good", "good"])
+            expect("once", desk.count("abort"), {"web": 1})
+
+
+def try_no_file(world):
+    """A run's metric that no file has: standard error says so once, and the others are measured;
+    with --abort-late the release is aborted."""
+    with provider(lambda *_: reply("0.25")) as server:
+        of = metric("m", of_web(server.port), successCondition="result < 1")
+        made = [template("of", of, {**of, "name": "gone"}), measured_beside("web", "of")]
+        with desk_for(world, "no-file", *made) as desk:
+            desk.write("less.json", {"kind": "List", "items": [template("of", of), made[1]]})
+            with agent_of(desk, "less.json") as agent:
+                agent.wait_said("no file has")
+                wait_measured_of(desk, "m.e6", 4)
+                expect("said of it", agent.errors().count("no file has"), 1)
+                expect("it is there still", status(desk), "Paused")
+            time.sleep(2)
+            run_agent(desk, "less.json", options=("--once", "--abort-late", "2"))
+            expect("as it is late", status(desk), "Degraded")
+            expect("it was not measured", {each.metric for each in measured(desk)}, {"m.e6"})
+
+
+def wait_measured_of(desk, label, count):
+    wait_until(f"{label} has {count} measurements",
+               lambda: len([each for each in measured(desk) if each.metric == label]) >= count)
+
+
+def try_stopped_agent(world):
+    """An agent that was stopped for long, or gone: as it goes on, what can be measured at once is
+    measured, and not aborted, also with --abort-late. A bad version is aborted by its
+    measurements then."""
+    values = {"/good": "0.25", "/bad": "0.5"}
+    with provider(lambda asked, _: reply(values[asked.target])) as server:
+        made = [entry for name in ("good", "bad") for entry in (
+            template(name, metric("m", of_web(server.port, name), successCondition="result < 1",
+                                  failureLimit=2)),
+            rollout(name, {"setWeight": 20}, {"pause": {"duration": "26s"}},
+                    analysis=analysis(name)))]
+        with desk_for(world, "stopped", *made) as desk:
+            options = ("--abort-late", "3")
+            with agent_of(desk, options=options) as agent:
+                for name in values:
+                    wait_measured(desk, 1, name[1:])
+                agent.signal(signal.SIGSTOP)
+                time.sleep(6)
+                agent.signal(signal.SIGCONT)
+                want_going_on(desk, "stopped")
+            time.sleep(6)
+            with agent_of(desk, options=options, name="next"):
+                want_going_on(desk, "gone")
+                values["/bad"] = "7"
+                wait_status(desk, "Degraded", "bad", 15)
+                wait_status(desk, "Healthy", "good", 30)
+                expect("why", history(desk, "bad")[-1], "abort run 1")
+            expect("no abort by a command", desk.count("abort"), {})
+
+
+def want_going_on(desk, row):
+    """Each service is measured anew, and in its release still."""
+    before = {name: len(measured(desk, name)) for name in ("good", "bad")}
+    for name, count in before.items():
+        wait_measured(desk, count + 1, name, seconds=8)
+        expect(f"{row}: {name}", status(desk, name), "Paused")
+        want_once(row, measured(desk, name))
+
+
+def try_desk_away(world):
+    """A desk that was away for long: as it comes back, what can be measured at once is measured,
+    and no release is aborted."""
+    with provider(lambda *_: reply("0.25")) as server:
+        made = [template("of", metric("m", of_web(server.port), successCondition="result < 1")),
+                measured_beside("web", "of")]
+        with desk_for(world, "desk-away", *made) as desk, \
+                agent_of(desk, options=("--abort-late", "3")) as agent:
+            wait_measured(desk, 2)
+            desk.kill()
+            time.sleep(7)
+            desk.start()
+            before = len(measured(desk))
+            wait_measured(desk, before + 3, seconds=25)
+            expect("it goes on", (status(desk), desk.count("abort")), ("Paused", {}))
+            said = [line for line in agent.errors().splitlines() if "no desk" in line]
+            expect("said once", len(said), 1)
+            want_once("desk away", measured(desk))
