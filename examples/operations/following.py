@@ -1,4 +1,4 @@
-"""What follow-haproxy and follow-nginx share: how a service stands, by `canary watch`."""
+"""What follow-haproxy, follow-nginx and notify share: how a service stands, by `canary watch`."""
 import json
 import os
 import re
@@ -11,21 +11,28 @@ WATCH = ["setpriv", "--pdeathsig", "TERM", "canary", "watch", "--forever", "--js
 VERSION = re.compile("[A-Za-z0-9._-]{1,63}")
 
 
+def stand_of(line):
+    """How a service stands, with versions and a weight that are such. ValueError, KeyError or
+    TypeError if it is no line of `canary watch`."""
+    stand = json.loads(line)
+    if not (VERSION.fullmatch(stand["stable"]) and VERSION.fullmatch(stand["version"])):
+        raise ValueError("no version")
+    return {**stand, "weight": range(101).index(stand["weight"])}
+
+
 def shares_of(line):
     """The stable version, and the share of each in percent; all of it is the stable one's if the
-    release is aborted. ValueError, KeyError or TypeError if it is no line of `canary watch`."""
-    stand = json.loads(line)
+    release is aborted."""
+    stand = stand_of(line)
     stable, version = stand["stable"], stand["version"]
-    if not (VERSION.fullmatch(stable) and VERSION.fullmatch(version)):
-        raise ValueError("no version")
-    weight = 0 if stand["status"] == "Degraded" else range(101).index(stand["weight"])
+    weight = 0 if stand["status"] == "Degraded" else stand["weight"]
     return stable, {version: weight, stable: 100 if version == stable else 100 - weight}
 
 
-def follow(service, act):
-    """Calls `act` with the stable version and the shares, each second from the first line on, and
-    says what it answers, if it answers something else than before. While no desk answers, they are
-    the last ones. What a desk says is text from outside: only versions and weights pass."""
+def follow(service, act, read=shares_of):
+    """Calls `act` with what `read` makes of the last line, each second from the first line on, and
+    says what it answers, if it answers something else than before. While no desk answers, that is
+    the last one. What a desk says is text from outside: only versions and weights pass."""
     watch = subprocess.Popen([*WATCH, service], stdin=subprocess.DEVNULL, stdout=subprocess.PIPE)
     os.set_blocking(watch.stdout.fileno(), False)
     stand, said, rest = None, None, b""
@@ -33,7 +40,7 @@ def follow(service, act):
         *lines, rest = (rest + (piece or b"")).split(b"\n")
         for line in lines:
             try:
-                stand = shares_of(line)
+                stand = read(line)
             except (ValueError, KeyError, TypeError, RecursionError):
                 print(f"no line of canary watch: {line[:200]!r}", file=sys.stderr, flush=True)
         try:

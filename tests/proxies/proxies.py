@@ -12,6 +12,7 @@ sys.path.append(str(pathlib.Path(__file__).resolve().parents[1] / "client"))
 
 import desks  # pylint: disable=wrong-import-position
 import followers  # pylint: disable=wrong-import-position
+import notices  # pylint: disable=wrong-import-position
 import roles  # pylint: disable=wrong-import-position
 from world import World, running  # pylint: disable=wrong-import-position
 
@@ -25,11 +26,15 @@ NEEDS = {
     "try_roles_haproxy": {"haproxy", "openssl", "curl"},
     "try_roles_nginx": {"nginx", "haproxy", "openssl", "curl"},
     "try_loop": {"haproxy", "prometheus"},
+    "try_notify": set(),
+    "try_notify_away": set(),
+    "try_notify_flood": set(),
+    "try_notify_words": set(),
 }
 # Those that take too long for the gate.
 LONG = {"try_loop"}
-PARTS = {name: getattr(module, name) for module in (desks, followers, roles) for name in NEEDS
-         if hasattr(module, name)}
+PARTS = {name: getattr(module, name) for module in (desks, followers, notices, roles)
+         for name in NEEDS if hasattr(module, name)}
 
 
 def chosen(wanted, is_whole):
