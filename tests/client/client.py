@@ -9,6 +9,7 @@ import traceback
 
 import argo
 import closed
+import copies
 import journals
 import kills
 import limits
@@ -37,8 +38,8 @@ def parts_of(*modules):
 
 
 # The long ones first.
-PARTS = parts_of(storms, kills, journals, replies, wishes, closed, reports, sends, queries, silence,
-                 strangers, limits, words, minutes, argo)
+PARTS = parts_of(storms, kills, journals, copies, replies, wishes, closed, reports, sends, queries,
+                 silence, strangers, limits, words, minutes, argo)
 
 
 def fail(why):

@@ -250,6 +250,13 @@ def try_notify_words(world):
         expect("it goes on", started.poll(), None)
         expect("each is said", said().count("no line of canary watch: "), 2 * len(HOSTILE))
         expect("in plain text", [mark for mark in said() if mark < " " and mark != "\n"], [])
+    # FILE has what was posted last: after a restart it is not posted again
+    folder = world.place("notify-again")
+    (folder / "last").write_text("web v2 at 35%", encoding="ascii")
+    spoken = said_after(folder, [stand(), stand(weight=40)])
+    with webhook() as hook, notifying(folder, spoken, hook.port):
+        want_texts("not again", hook, "web v2 at 40%")
+        expect("the last", (folder / "last").read_text(encoding="ascii"), "web v2 at 40%")
     folder = world.place("notify-ends")
     spoken = speaking(folder, "exit 5")
     with webhook() as hook, notifying(folder, spoken, hook.port) as (started, said):

@@ -1,0 +1,209 @@
+"""A desk that goes on from an older copy of its file, as after a restore or on a stand-by, and one
+that begins anew with a new file: what each kind of caller gets. Parts of client.py."""
+import json
+import shutil
+import time
+
+from reports import add_measured, metric
+from sends import HEADER, ROW_AHEAD, line, want_sent
+from world import (
+    AHEAD, CONTRADICTION, DONE, ENDED, PENDING, PENDING_SAID, PROMOTED, REFUSED, REUSED, STARTED,
+    Caller, add, answering, ask, expect, put, shown, two_pauses, want, want_delivered,
+)
+
+SERVICES = ("web", "shop", "mail", "pay", "blog", "news")
+NO_SERVICE = '{"code":"unknown-service"}\n'
+AGENT_AHEAD = f"canary: measured: {AHEAD}\n"
+TEMPLATE = {"kind": "AnalysisTemplate", "metadata": {"name": "t"}, "spec": {"metrics": [
+    {"name": "m", "interval": "1s", "failureLimit": 500, "successCondition": "result >= 1",
+     "provider": {"plugin": {}}}]}}
+
+
+def copied(desk):
+    """A copy of the desk's file, made as it runs."""
+    expect("backup", desk.world.run(["backup", "--db", "desk.db", "old.db"], desk.folder).status, 0)
+
+
+def restore(desk):
+    desk.kill()
+    for end in ("", "-wal"):
+        shutil.move(desk.folder / f"old.db{end}", desk.folder / f"desk.db{end}")
+    desk.start()
+
+
+def begin_anew(desk):
+    """The desk goes on with a new file, and the old one is kept."""
+    desk.kill()
+    for end in ("", "-wal"):
+        shutil.move(desk.folder / f"desk.db{end}", desk.folder / f"kept.db{end}")
+    desk.start()
+
+
+def by(caller):
+    return {"caller": caller, "journal": f"{caller}.journal"}
+
+
+def loses(desk):
+    """A server that has the desk settle each message, and answers none."""
+    def answer(client):
+        ask(desk.port, client.recv(65536))
+    return answering(answer)
+
+
+def try_copy_lacks(world):
+    """What each caller with a journal gets of a desk that lacks what it settled after the copy."""
+    with world.desk("copy-lacks") as desk:
+        add(desk, *SERVICES)
+        for caller in ("same", "more", "away", "unheard", "other", "twin"):
+            want(f"{caller}: before", desk.do("tick", "web", **by(caller)), DONE, shown(STARTED))
+        copied(desk)
+        key = ("--once", "deploy-7")
+        for caller, service in (("more", "web"), ("other", "blog"), ("twin", "news")):
+            want(f"{caller}: after the copy", desk.do("promote", service, options=key, **by(caller)),
+                 DONE, shown(PROMOTED, service))
+        with loses(desk) as port:
+            found = desk.do("promote", "mail", port=port, tries=1, **by("unheard"))
+        want("unheard: the reply is lost", found, PENDING, said=PENDING_SAID)
+        expect("unheard: settled", desk.count("promote").get("mail"), 1)
+        desk.kill()
+        want("away: no desk", desk.do("promote", "shop", tries=1, **by("away")), PENDING,
+             said=PENDING_SAID)
+        restore(desk)
+        expect("the copy lacks them", desk.count("promote"), {})
+        want("a query shows the copy", desk.ask("get", "web"), DONE, get_shown(desk, "web"))
+        want("same: it goes on", desk.do("promote", "pay", **by("same")), DONE,
+             shown(PROMOTED, "pay"))
+        want("away: it acts once", desk.do("promote", "shop", **by("away")), DONE,
+             shown(PROMOTED, "shop"))
+        want("unheard: it acts once", desk.do("promote", "mail", **by("unheard")), DONE,
+             shown(PROMOTED, "mail"))
+        want_more(desk, key)
+        want_used(desk, key)
+        expect("promotions", desk.count("promote"),
+               {"web": 1, "shop": 1, "mail": 1, "pay": 1})
+
+
+def get_shown(desk, service):
+    """The query's reply: the service is where it was as the copy was made."""
+    shown_now = desk.ask("get", service).output
+    found = json.loads(shown_now)
+    expect(f"get {service}", (found["status"], found["weight"]), ("Paused", 20))
+    return shown_now
+
+
+def want_more(desk, key):
+    """A journal that has more than the desk: nothing acts, until the journal is moved away."""
+    want("more: ahead", desk.do("abort", "web", **by("more")), CONTRADICTION, said=AHEAD)
+    want("more: what the journal has as done", desk.do("promote", "web", options=key, **by("more")),
+         DONE, shown(PROMOTED))
+    expect("more: it is not done here", desk.count("promote").get("web"), None)
+    (desk.folder / "more.journal").rename(desk.folder / "more.journal.old")
+    want("more: anew", desk.do("promote", "web", options=key, **by("more")), DONE, shown(PROMOTED))
+    want_delivered("more", desk, **by("more"))
+
+
+def want_used(desk, key):
+    """Somebody used up numbers after the restore: more than the journal has, and just as many."""
+    for number in (2, 3):
+        expect("other: its numbers",
+               put(desk.port, "other", number, '{"tick":{"service":"blog"}}')[0], 200)
+    want("other: reused", desk.do("promote", "blog", **by("other")), CONTRADICTION, said=REUSED)
+    # the numbers agree again: the client cannot see that its promotion is not there
+    expect("twin: its number", put(desk.port, "twin", 2, '{"tick":{"service":"news"}}')[0], 200)
+    want("twin: it goes on", desk.do("tick", "news", **by("twin")), DONE, shown(STARTED, "news"))
+    want("twin: what the journal has as done", desk.do("promote", "news", options=key, **by("twin")),
+         DONE, shown(PROMOTED, "news"))
+
+
+def rows(first, last, taken):
+    return "".join(f"csv,{at},measured,1,m,{at},{taken},{90 + at % 10},\n"
+                   for at in range(first, last + 1))
+
+
+def try_copy_lacks_rows(world):
+    """A measurement file that is sent as a whole brings back what the copy lacks; a file that begins
+    after that is ahead."""
+    with world.desk("copy-lacks-rows") as desk:
+        add_measured(desk, metric("m", "0s"), name="measured")
+        taken = int(time.time())
+        lines = [line(at).replace('"web"', '"measured"') for at in range(1, 6)]
+        desk.write("rows.csv", HEADER + rows(1, 3, taken))
+        want_sent("before", desk.ask("send", "rows.csv"), DONE, "".join(lines[:3]), (3, 0, 0))
+        copied(desk)
+        desk.write("rows.csv", HEADER + rows(1, 5, taken))
+        want_sent("after the copy", desk.ask("send", "rows.csv"), DONE, "".join(lines), (5, 0, 0))
+        restore(desk)
+        desk.write("later.csv", HEADER + rows(6, 6, taken))
+        want("a file of later rows", desk.ask("send", "later.csv"), CONTRADICTION,
+             '1 409 {"code":"ahead","expected":4}\n', ROW_AHEAD)
+        want_sent("the whole file", desk.ask("send", "rows.csv"), DONE, "".join(lines), (5, 0, 0))
+        expect("measurements", desk.rows("SELECT ordinal FROM measurement ORDER BY ordinal"),
+               [(at,) for at in range(1, 6)])
+
+
+def agent(desk):
+    """An agent that looks once; its status, how many it reported, and what it says of its journal."""
+    found = desk.world.run(["agent", "--once", "--desk", f"127.0.0.1:{desk.port}", "--journals",
+                            "journals", "--values", "values", "t.json", "r.json"], desk.folder)
+    said = "".join(each + "\n" for each in found.errors.splitlines() if " is late by " not in each)
+    return found.status, found.output.count('"phase":"Successful"'), said
+
+
+def add_for_agent(desk):
+    """A service that the agent measures by values from a file."""
+    desk.write("t.json", TEMPLATE)
+    manifest = two_pauses("measured")
+    manifest["spec"]["strategy"]["canary"]["analysis"] = {"templates": [{"templateName": "t"}]}
+    desk.write("r.json", manifest)
+    desk.write("values", "measured m 5\n")
+    for words in (("template", "t.json", "r.json"), ("service", "t.json", "r.json", "v1")):
+        expect(words, desk.do(*words, options=("--argo",)).status, DONE)
+    expect("start", desk.do("start", "measured", "v2").status, DONE)
+
+
+def try_copy_lacks_reports(world):
+    """An agent whose journal has more than the desk reports nothing, and says so, until the journals
+    are moved away; then it measures on, from what the copy has."""
+    with world.desk("copy-lacks-reports") as desk:
+        add_for_agent(desk)
+        expect("before", agent(desk), (DONE, 1, ""))
+        copied(desk)
+        time.sleep(1.1)
+        expect("after the copy", agent(desk), (DONE, 1, ""))
+        restore(desk)
+        for _ in range(2):
+            expect("ahead", agent(desk), (CONTRADICTION, 0, AGENT_AHEAD))
+        (desk.folder / "journals").rename(desk.folder / "journals.old")
+        expect("anew", agent(desk), (DONE, 1, ""))
+        expect("measurements", desk.rows("SELECT run, ordinal FROM measurement ORDER BY place"),
+               [(1, 1), (1, 2)])
+
+
+def try_new_file(world):
+    """A desk that begins anew with a new file: what callers get, and what each has to do."""
+    with world.desk("new-file") as desk:
+        add_for_agent(desk)
+        expect("an agent: before", agent(desk), (DONE, 1, ""))
+        setup = Caller(desk, "setup")
+        desk.write("web.json", two_pauses())
+        setup.send({"service": {"version": "v1", "manifest": two_pauses()}})
+        setup.send({"start": {"service": "web", "version": "v2"}})
+        want("before", desk.do("promote-full", "web", **by("team")), DONE, shown(ENDED))
+        begin_anew(desk)
+        want("a query", desk.ask("get", "web"), REFUSED, NO_SERVICE)
+        want("a journal", desk.do("start", "web", "v3", **by("team")), CONTRADICTION, said=AHEAD)
+        expect("an agent", agent(desk), (REFUSED, 0, "canary: measured: there is no such service\n"))
+        for name in ("team.journal", "ops.journal"):
+            (desk.folder / name).rename(desk.folder / f"{name}.old")
+        want("no service", desk.do("start", "web", "v3", **by("team")), REFUSED, NO_SERVICE)
+        want("the service, as it is now", desk.do("service", "web.json", "v2", **by("team")), DONE,
+             shown(("Healthy", 4, 100)))
+        want("a start", desk.do("start", "web", "v3", **by("team")), DONE, shown(STARTED))
+        want_delivered("team", desk, **by("team"))
+        add_for_agent(desk)
+        expect("an agent: its service is there again", agent(desk), (CONTRADICTION, 0, AGENT_AHEAD))
+        (desk.folder / "journals").rename(desk.folder / "journals.old")
+        expect("an agent: anew", agent(desk), (DONE, 1, ""))
+        found = world.run(["history", "--db", "kept.db", "web"], desk.folder)
+        expect("the old file has the past", (found.status, found.output.splitlines()[-1][-7:]),
+               (0, "done v2"))
