@@ -5,7 +5,7 @@ import shutil
 import time
 
 from reports import add_measured, metric
-from sends import HEADER, ROW_AHEAD, line, want_sent
+from sends import HEADER, ROWS_REFUSED, ROW_AHEAD, line, want_sent
 from world import (
     AHEAD, CONTRADICTION, DONE, ENDED, PENDING, PENDING_SAID, PROMOTED, REFUSED, REUSED, STARTED,
     Caller, add, answering, ask, expect, put, shown, two_pauses, want, want_delivered,
@@ -31,12 +31,11 @@ def restore(desk):
     desk.start()
 
 
-def begin_anew(desk):
-    """The desk goes on with a new file, and the old one is kept."""
+def put_away(desk, name):
+    """Ends the desk, and gives its file and its log another name."""
     desk.kill()
     for end in ("", "-wal"):
-        shutil.move(desk.folder / f"desk.db{end}", desk.folder / f"kept.db{end}")
-    desk.start()
+        shutil.move(desk.folder / f"desk.db{end}", desk.folder / f"{name}{end}")
 
 
 def by(caller):
@@ -70,7 +69,7 @@ def try_copy_lacks(world):
              said=PENDING_SAID)
         restore(desk)
         expect("the copy lacks them", desk.count("promote"), {})
-        want("a query shows the copy", desk.ask("get", "web"), DONE, get_shown(desk, "web"))
+        want_older(desk)
         want("same: it goes on", desk.do("promote", "pay", **by("same")), DONE,
              shown(PROMOTED, "pay"))
         want("away: it acts once", desk.do("promote", "shop", **by("away")), DONE,
@@ -83,12 +82,12 @@ def try_copy_lacks(world):
                {"web": 1, "shop": 1, "mail": 1, "pay": 1})
 
 
-def get_shown(desk, service):
-    """The query's reply: the service is where it was as the copy was made."""
-    shown_now = desk.ask("get", service).output
-    found = json.loads(shown_now)
-    expect(f"get {service}", (found["status"], found["weight"]), ("Paused", 20))
-    return shown_now
+def want_older(desk):
+    """What is shown, also to a follower, is where the service was as the copy was made."""
+    for words in (("get", "web"), ("watch", "--json", "--until", "Paused", "web")):
+        found = desk.ask(*words)
+        stand = json.loads(found.output)
+        expect(words, (found.status, stand["status"], stand["weight"]), (DONE, "Paused", 20))
 
 
 def want_more(desk, key):
@@ -179,6 +178,28 @@ def try_copy_lacks_reports(world):
                [(1, 1), (1, 2)])
 
 
+def try_moved(world):
+    """A desk that goes on elsewhere, from its file and its log themselves: nobody notices."""
+    with world.desk("moved") as desk, world.desk("moved-to") as other:
+        add_for_agent(desk)
+        expect("an agent: before", agent(desk), (DONE, 1, ""))
+        with loses(desk) as port:
+            found = desk.do("promote", "measured", port=port, tries=1)
+        want("the reply is lost", found, PENDING, said=PENDING_SAID)
+        put_away(desk, "moved.db")
+        other.kill()
+        for end in ("", "-wal"):
+            shutil.copy(desk.folder / f"moved.db{end}", other.folder / f"desk.db{end}")
+        other.start()
+        found = desk.do("promote", "measured", port=other.port)
+        want("it finds out", found, DONE, shown(PROMOTED, "measured"))
+        expect("it acted once", other.count("promote"), {"measured": 1})
+        desk.port = other.port
+        time.sleep(1.1)
+        expect("an agent: there", agent(desk), (DONE, 1, ""))
+        want("the next one", desk.do("promote", "measured"), DONE, shown(ENDED, "measured"))
+
+
 def try_new_file(world):
     """A desk that begins anew with a new file: what callers get, and what each has to do."""
     with world.desk("new-file") as desk:
@@ -189,12 +210,19 @@ def try_new_file(world):
         setup.send({"service": {"version": "v1", "manifest": two_pauses()}})
         setup.send({"start": {"service": "web", "version": "v2"}})
         want("before", desk.do("promote-full", "web", **by("team")), DONE, shown(ENDED))
-        begin_anew(desk)
+        put_away(desk, "kept.db")
+        desk.start()
         want("a query", desk.ask("get", "web"), REFUSED, NO_SERVICE)
+        found = desk.ask("watch", "--forever", "--json", "--timeout", "3", "web")
+        want("a follower", found, PENDING, "", found.errors.splitlines()[-1][len("canary: "):])
+        expect("a follower: why", "canary: there is no such service" in found.errors, True)
         want("a journal", desk.do("start", "web", "v3", **by("team")), CONTRADICTION, said=AHEAD)
         expect("an agent", agent(desk), (REFUSED, 0, "canary: measured: there is no such service\n"))
         for name in ("team.journal", "ops.journal"):
             (desk.folder / name).rename(desk.folder / f"{name}.old")
+        desk.write("rows.csv", HEADER + rows(1, 1, 1))
+        want_sent("rows of a run that is not there", desk.ask("send", "rows.csv"), ROWS_REFUSED,
+                  '1 422 {"code":"unknown-service"}\n', (0, 0, 1))
         want("no service", desk.do("start", "web", "v3", **by("team")), REFUSED, NO_SERVICE)
         want("the service, as it is now", desk.do("service", "web.json", "v2", **by("team")), DONE,
              shown(("Healthy", 4, 100)))
