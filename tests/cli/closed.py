@@ -238,7 +238,9 @@ def try_no_root(program, folder):
     os.mkdir(place)
     client = ["do", "--as", "ops", "--journal", "ops.journal", "--tries", "1", "tick", "web"]
     told = b"canary: a standard stream is closed, and the root folder cannot be opened in its place"
+    agent = ["agent", "--once", "--journals", "journals", "web.yaml"]
     rows = ((client, 5, told + b"\n"), (["get", "--tries", "1", "web"], 5, told + b"\n"),
+            (agent, 5, told + b"\n"),
             (["history", "--db", "desk.db", "web"], 1, b"canary: file\n"),
             ([*STILL_AT_B, "--db", "desk.db"], 1, b"canary: file\n"),
             (["page", "--db", "desk.db", "desk.html"], 1, b"canary: file\n"))

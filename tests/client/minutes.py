@@ -15,12 +15,13 @@ FAILED = ('{"code":"ok","phases":["Failed"],"run":1,"service":"web","status":"De
 ADDED, STARTED = shows("web", "Healthy", 2, 100), shows("web", "Paused", 1, 20)
 ATTEMPT = ["background run 1", "step 0 setWeight 20", "step 1 pause"]
 FIRST = ["created v1", "start v2", *ATTEMPT, "run 1 Failed", "abort run 1"]
-SECOND = ["retry v2", *(line.replace("run 1", "run 2") for line in ATTEMPT)]
+SECOND = ["retry v2", *(line.replace("run 1", "run 2") for line in [*ATTEMPT, *FIRST[-2:]])]
 # What the translation of Argo's first example says.
 TRANSLATED = ["template success-rate", "  success-rate.e6f", "    success: result >= 950000",
               "service web", "measure success-rate.e6f of web by prometheus"]
-# Waits for the line of a desk that was begun in the line before.
+# Waits for the line of a desk that was begun in the line before, and for a server on this port.
 WAIT = "until grep -q listening told; do sleep 0.02; done; echo listening"
+WAIT_FOR_PORT = "until (: < /dev/tcp/127.0.0.1/{}) 2> refused; do sleep 0.02; done"
 
 
 def code_of(document, heading):
@@ -32,12 +33,15 @@ def code_of(document, heading):
     return [line[4:] for line in found[2].split("\n") if line.startswith("    ")]
 
 
-def script_of(lines, port):
-    """The lines as a script: a desk listens on that port, and is waited for."""
+def script_of(lines, port, provider):
+    """The lines as a script: a desk and a provider listen on these ports, and are waited for."""
     script = []
     for line in lines:
         line = line.replace("127.0.0.1:8080", f"127.0.0.1:{port}")
-        if line.endswith(" &"):
+        line = line.replace("127.0.0.1:9090", f"127.0.0.1:{provider}")
+        if line.startswith("examples/argo/prometheus "):
+            script += [line, WAIT_FOR_PORT.format(provider)]
+        elif line.endswith(" &"):
             script += ["rm -f told", line[:-1] + "> told &", WAIT]
         elif line.startswith("kill "):
             script += [line, "wait $! 2> wait || true"]
@@ -48,11 +52,11 @@ def script_of(lines, port):
 
 def run_session(world, name, document, heading):
     """What the lines of a document print in a new folder, and what they say."""
-    place, port = world.place(name), free_port()
+    place, port, provider = world.place(name), free_port(), free_port()
     (place / "canary-unproved").symlink_to(world.program)
     (place / "examples").symlink_to(ROOT / "examples")
     session = subprocess.Popen(
-        ["bash", "-c", script_of(code_of(document, heading), port)], cwd=place,
+        ["bash", "-c", script_of(code_of(document, heading), port, provider)], cwd=place,
         env=environment(CANARY_DESK=f"127.0.0.1:{port}"), stdin=subprocess.DEVNULL,
         stdout=subprocess.PIPE, stderr=subprocess.PIPE, start_new_session=True)
     session.is_of_group = True
@@ -73,14 +77,29 @@ def history_in(line):
     return [each.split(" ", 1)[1] for each in json.loads(line)["lines"]]
 
 
+def reported_in(line):
+    """What the agent says that it reported, without the moment."""
+    shown = json.loads(line)
+    del shown["taken"]
+    return shown
+
+
+def measured(run):
+    """The line of the agent for the first measurement of a run, without the moment."""
+    return {"metric": "success-rate.e6f", "ordinal": 1, "phase": "Failed", "result": 940000,
+            "run": run, "service": "web"}
+
+
 def try_five_minutes(world):
     """README.md's session by the client."""
     place, lines, errors = run_session(world, "minutes", "README.md", "Five minutes")
-    expect("README.md, up to the kill", lines[:11],
+    expect("README.md, up to the agent", lines[:10],
            ["listening", *TRANSLATED, '{"code":"ok","revision":1,"template":"success-rate"}', ADDED,
-            STARTED, "1 success-rate.e6f 1", FAILED])
+            STARTED, "1 success-rate.e6f 1"])
+    expect("README.md: the agent", reported_in(lines[10]), measured(1))
     expect("README.md: the history", history_in(lines[11]), FIRST)
-    expect("README.md, behind the kill", lines[12:15], ["listening", STARTED, FAILED])
+    expect("README.md, behind the kill", lines[12:14], ["listening", STARTED])
+    expect("README.md: the agent again", reported_in(lines[14]), measured(2))
     expect("README.md: the history", history_in(lines[15]), FIRST + SECOND)
     end = len(FIRST + SECOND)
     expect("README.md: the last lines", [line.split(" ", 1)[1] for line in lines[-end:]],

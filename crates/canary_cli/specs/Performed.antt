@@ -140,6 +140,15 @@ IsRun r new_r w new_w (Check file request strict) done =
 IsRun r new_r w new_w (Argo files out json) done = IsNoClient done
 IsRun r new_r w new_w (Ask asked) done = IsAsked r new_r asked
 
+-- it shows what is in the file of a desk's records, or makes that one of this version
+abbrev pub IsOfRecords : Program → Type 0
+IsOfRecords (History db service) = Unit {0}
+IsOfRecords (Export db caller service) = Unit {0}
+IsOfRecords (Status db watch json) = Unit {0}
+IsOfRecords (Page db out watch) = Unit {0}
+IsOfRecords (Migrate db dry_run) = Unit {0}
+IsOfRecords _ = ⊥
+
 -- the program was run so, and ended with this exit status
 abbrev pub IsRunTo : Known → Known → Known → Known → Program → ℕ → Type 0
 IsRunTo r new_r w new_w program status =

@@ -7,7 +7,8 @@ ghost use Rattle.canary_words.specs.CommandLine.{faults_of, program_of};
 ghost use Rattle.canary_cli.specs.Performed.{outcome_of, status_of};
 ghost use Rattle.canary_cli.specs.Performed.{IsPiped, IsPipedTo, IsRun, IsRunTo, IsTold};
 ghost use Rattle.canary_cli.specs.Performed.{IsTurnedAway, IsGivenUp, unopened_status};
-ghost use Rattle.canary_cli.specs.Performed.{MayTell, AsksForOneThatTells, IsAsked, limits_of};
+ghost use Rattle.canary_cli.specs.Performed.{MayTell, AsksForOneThatTells, IsAsked, IsOfRecords};
+ghost use Rattle.canary_cli.specs.Performed.{limits_of};
 
 use crate::argo::argo;
 use crate::check::check;
@@ -260,9 +261,23 @@ fn run<R: Read, W: Write, F: Write>(
             argo(rt, &files, &out, json, input, output, errors)
         }
         Program::Backup { db, copy } => done(backup(rt, db.as_str(), copy.as_str())),
-        Program::Migrate { db, dry_run } => {
-            done(migrate(rt, db.as_str(), dry_run, output, errors, shows))
-        }
+        Program::Ask(asked) => run_client(rt, asked, input, output, errors, terminals.output),
+        program => run_on_records(rt, &program, output, errors, terminals),
+    }
+}
+
+// Shows what is in the file of a desk's records, or makes it one of this version.
+fn run_on_records<W: Write, F: Write>(
+    rt: &HostRuntime,
+    program: &Program,
+    output: &mut W,
+    errors: &mut F,
+    terminals: Terminals,
+) -> Result<Outcome, Fault>
+    requires { IsOfRecords program.now }
+{
+    let shows = terminals.errors;
+    match program {
         Program::History { db, service } => {
             let (db, service) = (db.as_str(), service.as_str());
             done(history(rt, db, service, output, errors, shows))
@@ -276,13 +291,16 @@ fn run<R: Read, W: Write, F: Write>(
             done(export(rt, db, caller, service, output, errors, shows))
         }
         Program::Status { db, watch, json } => {
-            let drawing = drawing(watch, json, terminals);
+            let drawing = drawing(*watch, *json, terminals);
             done(status(rt, db.as_str(), drawing, output, errors, shows))
         }
         Program::Page { db, out, watch } => {
-            done(page(rt, db.as_str(), out.as_str(), watch, output, errors, shows))
+            done(page(rt, db.as_str(), out.as_str(), *watch, output, errors, shows))
         }
-        Program::Ask(asked) => run_client(rt, asked, input, output, errors, terminals.output),
+        Program::Migrate { db, dry_run } => {
+            done(migrate(rt, db.as_str(), *dry_run, output, errors, shows))
+        }
+        _ => unreachable!(),
     }
 }
 

@@ -3,7 +3,7 @@
 // ---- options that several commands have
 
 pub(crate) const DESK_OPTION_HELP: &str = concat!(
-    "Where the desk listens: an address, or a name that is looked up once, as the call begins; ",
+    "Where the desk listens; a name is looked up once, as the call begins; ",
     "CANARY_DESK counts in its place [default: 127.0.0.1:8080]"
 );
 
@@ -231,7 +231,8 @@ pub(crate) const VALUES_HELP: &str =
     "A file or FIFO with lines SERVICE METRIC VALUE of another program; - is standard input";
 
 pub(crate) const ABORT_LATE_HELP: &str = concat!(
-    "Abort a service if a measurement is late by more than so many seconds, 1 to 31536000 ",
+    "Abort a service if nobody takes a measurement that is late by more than so many seconds, ",
+    "1 to 31536000 ",
     "[default: never]"
 );
 
@@ -260,11 +261,12 @@ pub(crate) const AGENT_HELP: &str = concat!(
     "With --values, another program gives what agent does not ask a provider for. METRIC is the\n",
     "metric's name in the manifest, and VALUE is a number, NaN, +Inf, -Inf, null, or a list of\n",
     "these: [0.1,0.2].\n\n",
-    "With --abort-late, the time in which no agent ran counts, too.\n\n",
+    "With --abort-late, agent aborts a service once it has seen for a minute that nobody takes a\n",
+    "measurement that is so late. After a pause it first measures what is due.\n\n",
     "Exit status; without --once and --dry-run agent ends only by 2 and 5, or by a signal:\n",
     "  0  agent looked at each service, and reported what was due\n",
     "  1  the desk does not have a service, or agent does not measure what is due\n",
-    "  2  an invalid command line, or a manifest that argo does not translate\n",
+    "  2  an invalid command line, a manifest that argo does not translate, or no Rollout\n",
     "  3  pending: no desk answers, or a report has no answer; the next call goes on\n",
     "  4  contradiction: the desk and a journal contradict each other. A person has to look\n",
     "  5  a journal, the file of --values, memory or the output failed here\n\n",
