@@ -78,7 +78,8 @@ impl Attended {
         self.served.name
     }
 
-    /// What is measured of it by files that were read anew. What is being taken goes on as it began.
+    /// What is measured of it by files that were read anew. What is being taken goes on as it
+    /// began.
     pub(crate) fn serve(&mut self, served: Served) {
         self.served = served;
     }
@@ -253,9 +254,9 @@ impl Attended {
         None
     }
 
-    // Whether a measurement is not waited for any longer, if it is too late. What can be measured is
-    // measured first, so the agent has to have had the time for that, with the desk there. If each
-    // service is looked at once, one is given up if nothing measures it.
+    // Whether a measurement that is too late is given up. What can be measured is measured first:
+    // so the agent has to have had the time for that, with the desk there. If each service is
+    // looked at once, a measurement is given up that nothing measures.
     fn is_given_up(&self, manner: &Manner<'_>, due: &Due, now: u64) -> bool {
         if self.aborted == Some(due.run) || self.takings.has(due.run, &due.metric) {
             return false;

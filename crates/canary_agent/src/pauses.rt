@@ -32,8 +32,8 @@ pub(crate) fn pause_after(stop: Stop, pause: u64) -> u64 {
     pause.saturating_mul(2).max(IDLE).min(LONGEST_PAUSE)
 }
 
-/// When a service is looked at again of which a report was settled: at once, or after a second if the
-/// desk refused it.
+/// When a service is looked at again of which a report was settled: at once, or after a second if
+/// the desk refused it.
 pub(crate) fn look_after(is_refused: bool, now: u64) -> u64 {
     if is_refused {
         now.saturating_add(IDLE)

@@ -3,7 +3,8 @@ ghost use Rattle.std.specs.Prelude.{◌≡◌, ◌<◌, ◌≤◌, length, IfOk,
 ghost use Rattle.canary_plan.specs.declared.command.Command.TheVariants.{Abort};
 ghost use Rattle.canary_sending.specs.Keeping.{IsKept};
 ghost use Rattle.canary_sending.specs.Networks.{GoesOn};
-ghost use Rattle.canary_agent.specs.Reports.{wish_of, IsOutcomeFor, IsEntryOf, IsWithEntry, AreEntriesOf};
+ghost use Rattle.canary_agent.specs.Reports.{wish_of, IsOutcomeFor, IsEntryOf};
+ghost use Rattle.canary_agent.specs.Reports.{IsWithEntry, AreEntriesOf};
 ghost use Rattle.canary_agent.specs.Reports.{IsReportOf, IsCommandSettled, IsSentFor};
 ghost use Rattle.canary_agent.specs.Reports.{IsReported, IsSentForReport};
 

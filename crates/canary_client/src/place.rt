@@ -8,7 +8,7 @@ use canary_base::lists::Text;
 use canary_base::names::Name;
 use canary_words::words::AskedDesk;
 use std::env::{self, VarError};
-use std::io::ErrorKind;
+use std::io::{self, ErrorKind};
 use std::net::{SocketAddr, ToSocketAddrs};
 
 // The desk's address, if neither the words nor the environment give one.
@@ -67,10 +67,27 @@ fn looked_up(rt: &HostRuntime, text: &str) -> Result<SocketAddr, Stop> {
     if !may_name(text) {
         return Err(Stop::Address);
     }
-    match text.to_socket_addrs(rt) {
-        Ok(addresses) => preferred(addresses),
+    match address_in(rt, text) {
+        Ok(address) => Ok(address),
         Err(fault) if fault.kind() == ErrorKind::InvalidInput => Err(Stop::Address),
         Err(_) => Err(Stop::DeskName),
+    }
+}
+
+// Of the addresses of a text HOST:PORT the first of IPv4, else the first.
+fn address_in(rt: &HostRuntime, text: &str) -> io::Result<SocketAddr> {
+    let mut found = None;
+    for address in text.to_socket_addrs(rt)? {
+        if address.is_ipv4() {
+            return Ok(address);
+        }
+        if found.is_none() {
+            found = Some(address);
+        }
+    }
+    match found {
+        Some(address) => Ok(address),
+        None => Err(ErrorKind::NotFound.into()),
     }
 }
 
@@ -85,20 +102,6 @@ fn may_name(text: &str) -> bool {
 
 fn is_host_byte(byte: &u8) -> bool {
     byte.is_ascii_alphanumeric() || b"-._:[]%".contains(byte)
-}
-
-// Of a host's addresses the first of IPv4, else the first.
-fn preferred<I: Iterator<Item = SocketAddr>>(addresses: I) -> Result<SocketAddr, Stop> {
-    let mut found = Err(Stop::DeskName);
-    for address in addresses {
-        if address.is_ipv4() {
-            return Ok(address);
-        }
-        if found.is_err() {
-            found = Ok(address);
-        }
-    }
-    found
 }
 
 /// The place of a call that waits: the most seconds are those of the whole call, and each exchange
