@@ -3,7 +3,6 @@ answers 500, closes or leads elsewhere: parts of proxies.py."""
 import contextlib
 import http.server
 import json
-import os
 import threading
 import time
 
@@ -81,10 +80,10 @@ def webhook(*words, **options):
         made.close()
 
 
-def notifying(folder, around, port):
+def notifying(folder, around, port, file="last"):
     """The script, with a webhook at a port of this machine."""
     around = {**around, "CANARY_WEBHOOK": f"http://127.0.0.1:{port}{PATH}", "no_proxy": "*"}
-    return follower(folder, around, "notify", "web", folder / "last")
+    return follower(folder, around, "notify", "web", folder / file)
 
 
 def want_texts(row, hook, *wanted):
@@ -265,7 +264,6 @@ def try_notify_words(world):
     # where FILE cannot be written nothing is posted, for each restart would post it again
     folder = world.place("notify-no-file")
     spoken = said_after(folder, [stand()])
-    os.mkdir(folder / "last")
-    with webhook() as hook, notifying(folder, spoken, hook.port) as (started, said):
+    with webhook() as hook, notifying(folder, spoken, hook.port, "none/last") as (started, said):
         expect("no file: it ends", started.wait(LONGEST), 1)
         expect("no file: nothing is posted", (hook.come, "secret" in said()), ([], False))
