@@ -58,8 +58,8 @@ def try_copy_lacks(world):
         copied(desk)
         key = ("--once", "deploy-7")
         for caller, service in (("more", "web"), ("other", "blog"), ("twin", "news")):
-            want(f"{caller}: after the copy", desk.do("promote", service, options=key, **by(caller)),
-                 DONE, shown(PROMOTED, service))
+            found = desk.do("promote", service, options=key, **by(caller))
+            want(f"{caller}: after the copy", found, DONE, shown(PROMOTED, service))
         with loses(desk) as port:
             found = desk.do("promote", "mail", port=port, tries=1, **by("unheard"))
         want("unheard: the reply is lost", found, PENDING, said=PENDING_SAID)
@@ -110,8 +110,8 @@ def want_used(desk, key):
     # the numbers agree again: the client cannot see that its promotion is not there
     expect("twin: its number", put(desk.port, "twin", 2, '{"tick":{"service":"news"}}')[0], 200)
     want("twin: it goes on", desk.do("tick", "news", **by("twin")), DONE, shown(STARTED, "news"))
-    want("twin: what the journal has as done", desk.do("promote", "news", options=key, **by("twin")),
-         DONE, shown(PROMOTED, "news"))
+    found = desk.do("promote", "news", options=key, **by("twin"))
+    want("twin: what the journal has as done", found, DONE, shown(PROMOTED, "news"))
 
 
 def rows(first, last, taken):
@@ -120,7 +120,7 @@ def rows(first, last, taken):
 
 
 def try_copy_lacks_rows(world):
-    """A measurement file that is sent as a whole brings back what the copy lacks; a file that begins
+    """A measurement file that is sent as a whole brings back what the copy lacks; one that begins
     after that is ahead."""
     with world.desk("copy-lacks-rows") as desk:
         add_measured(desk, metric("m", "0s"), name="measured")
@@ -141,7 +141,7 @@ def try_copy_lacks_rows(world):
 
 
 def agent(desk):
-    """An agent that looks once; its status, how many it reported, and what it says of its journal."""
+    """An agent that looks once: its status, how many it reported, and what it says."""
     found = desk.world.run(["agent", "--once", "--desk", f"127.0.0.1:{desk.port}", "--journals",
                             "journals", "--values", "values", "t.json", "r.json"], desk.folder)
     said = "".join(each + "\n" for each in found.errors.splitlines() if " is late by " not in each)
@@ -161,8 +161,8 @@ def add_for_agent(desk):
 
 
 def try_copy_lacks_reports(world):
-    """An agent whose journal has more than the desk reports nothing, and says so, until the journals
-    are moved away; then it measures on, from what the copy has."""
+    """An agent whose journal has more than the desk reports nothing, and says so, until the
+    journals are moved away; then it measures on, from what the copy has."""
     with world.desk("copy-lacks-reports") as desk:
         add_for_agent(desk)
         expect("before", agent(desk), (DONE, 1, ""))
@@ -205,33 +205,24 @@ def try_new_file(world):
     with world.desk("new-file") as desk:
         add_for_agent(desk)
         expect("an agent: before", agent(desk), (DONE, 1, ""))
-        setup = Caller(desk, "setup")
+        setup, team = Caller(desk, "setup"), by("team")
         desk.write("web.json", two_pauses())
         setup.send({"service": {"version": "v1", "manifest": two_pauses()}})
         setup.send({"start": {"service": "web", "version": "v2"}})
-        key = ("--once", "deploy-7")
-        want("before", desk.do("promote-full", "web", options=key, **by("team")), DONE, shown(ENDED))
+        key = {"options": ("--once", "deploy-7"), **team}
+        want("before", desk.do("promote-full", "web", **key), DONE, shown(ENDED))
         put_away(desk, "kept.db")
         desk.start()
-        want("a query", desk.ask("get", "web"), REFUSED, NO_SERVICE)
-        want("what is due", desk.ask("due", "web"), REFUSED, said="there is no such service")
-        found = desk.ask("watch", "--forever", "--json", "--timeout", "3", "web")
-        want("a follower", found, PENDING, "", found.errors.splitlines()[-1][len("canary: "):])
-        expect("a follower: why", "canary: there is no such service" in found.errors, True)
-        want("a journal", desk.do("start", "web", "v3", **by("team")), CONTRADICTION, said=AHEAD)
-        want("a key of a journal", desk.do("promote-full", "web", options=key, **by("team")), DONE,
-             shown(ENDED))
-        expect("an agent", agent(desk), (REFUSED, 0, "canary: measured: there is no such service\n"))
+        want_nothing_there(desk)
+        want("a journal", desk.do("start", "web", "v3", **team), CONTRADICTION, said=AHEAD)
+        want("its key", desk.do("promote-full", "web", **key), DONE, shown(ENDED))
         for name in ("team.journal", "ops.journal"):
             (desk.folder / name).rename(desk.folder / f"{name}.old")
-        desk.write("rows.csv", HEADER + rows(1, 1, 1))
-        want_sent("rows of a run that is not there", desk.ask("send", "rows.csv"), ROWS_REFUSED,
-                  '1 422 {"code":"unknown-service"}\n', (0, 0, 1))
-        want("no service", desk.do("start", "web", "v3", **by("team")), REFUSED, NO_SERVICE)
-        want("the service, as it is now", desk.do("service", "web.json", "v2", **by("team")), DONE,
+        want("no service", desk.do("start", "web", "v3", **team), REFUSED, NO_SERVICE)
+        want("the service, as it is now", desk.do("service", "web.json", "v2", **team), DONE,
              shown(("Healthy", 4, 100)))
-        want("a start", desk.do("start", "web", "v3", **by("team")), DONE, shown(STARTED))
-        want_delivered("team", desk, **by("team"))
+        want("a start", desk.do("start", "web", "v3", **team), DONE, shown(STARTED))
+        want_delivered("team", desk, **team)
         add_for_agent(desk)
         expect("an agent: its service is there again", agent(desk), (CONTRADICTION, 0, AGENT_AHEAD))
         (desk.folder / "journals").rename(desk.folder / "journals.old")
@@ -239,3 +230,16 @@ def try_new_file(world):
         found = world.run(["history", "--db", "kept.db", "web"], desk.folder)
         expect("the old file has the past", (found.status, found.output.splitlines()[-1][-7:]),
                (0, "done v2"))
+
+
+def want_nothing_there(desk):
+    """What those get that need no journal, and an agent, of a desk without their service."""
+    want("a query", desk.ask("get", "web"), REFUSED, NO_SERVICE)
+    want("what is due", desk.ask("due", "web"), REFUSED, said="there is no such service")
+    found = desk.ask("watch", "--forever", "--json", "--timeout", "3", "web")
+    expect("a follower", (found.status, found.output), (PENDING, ""))
+    expect("a follower: why", "canary: there is no such service" in found.errors, True)
+    expect("an agent", agent(desk), (REFUSED, 0, "canary: measured: there is no such service\n"))
+    desk.write("rows.csv", HEADER + rows(1, 1, 1))
+    want_sent("rows of a run that is not there", desk.ask("send", "rows.csv"), ROWS_REFUSED,
+              '1 422 {"code":"unknown-service"}\n', (0, 0, 1))

@@ -14,6 +14,7 @@ from world import Caller, Wrong, expect, free_port, rollout, wait_until
 METRIC = {"name": "m", "successCondition": "result >= 95", "failureCondition": "result < 90",
           "failureLimit": 0, "inconclusiveLimit": 0}
 PATH = "/services/T0/B0/secret"
+LAST = "web v4000 at 0%: aborted by run 7"
 
 
 def stand(**members):
@@ -231,8 +232,7 @@ def try_notify_flood(world):
         expect("nothing is taken yet", (hook.taken, let_go.is_set()), ([], False))
         time.sleep(2)
         let_go.set()
-        wait_until("the last one", lambda: hook.texts()[-1:] == ["web v4000 at 0%: aborted by run 7"],
-                   LONGEST)
+        wait_until("the last one", lambda: hook.texts()[-1:] == [LAST], LONGEST)
         texts = hook.texts()
         expect("each once, and in order", texts[-100:-1],
                [f"web v{at} at {at % 101}%" for at in range(3901, 4000)])
