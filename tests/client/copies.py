@@ -140,24 +140,24 @@ def try_copy_lacks_rows(world):
                [(at,) for at in range(1, 6)])
 
 
-def agent(desk):
+def agent(desk, *files):
     """An agent that looks once: its status, how many it reported, and what it says."""
     found = desk.world.run(["agent", "--once", "--desk", f"127.0.0.1:{desk.port}", "--journals",
-                            "journals", "--values", "values", "t.json", "r.json"], desk.folder)
+                            "journals", "--values", "values", "t.json", "r.json", *files],
+                           desk.folder)
     said = "".join(each + "\n" for each in found.errors.splitlines() if " is late by " not in each)
     return found.status, found.output.count('"phase":"Successful"'), said
 
 
-def add_for_agent(desk):
+def add_for_agent(desk, name="measured", file="r.json"):
     """A service that the agent measures by values from a file."""
-    desk.write("t.json", TEMPLATE)
-    manifest = two_pauses("measured")
+    manifest = two_pauses(name)
     manifest["spec"]["strategy"]["canary"]["analysis"] = {"templates": [{"templateName": "t"}]}
-    desk.write("r.json", manifest)
-    desk.write("values", "measured m 5\n")
-    for words in (("template", "t.json", "r.json"), ("service", "t.json", "r.json", "v1")):
+    for written, value in (("t.json", TEMPLATE), (file, manifest), ("values", "measured m 5\n")):
+        desk.write(written, value)
+    for words in (("template", "t.json", file), ("service", "t.json", file, "v1")):
         expect(words, desk.do(*words, options=("--argo",)).status, DONE)
-    expect("start", desk.do("start", "measured", "v2").status, DONE)
+    expect("start", desk.do("start", name, "v2").status, DONE)
 
 
 def try_copy_lacks_reports(world):
@@ -172,10 +172,14 @@ def try_copy_lacks_reports(world):
         restore(desk)
         for _ in range(2):
             expect("ahead", agent(desk), (CONTRADICTION, 0, AGENT_AHEAD))
+        add_for_agent(desk, "calm", "calm.json")
+        desk.write("values", "calm m 5\n")
+        expect("another service", agent(desk, "calm.json"), (CONTRADICTION, 1, AGENT_AHEAD))
         (desk.folder / "journals").rename(desk.folder / "journals.old")
+        desk.write("values", "measured m 5\n")
         expect("anew", agent(desk), (DONE, 1, ""))
-        expect("measurements", desk.rows("SELECT run, ordinal FROM measurement ORDER BY place"),
-               [(1, 1), (1, 2)])
+        found = desk.rows("SELECT service, ordinal FROM measurement ORDER BY place")
+        expect("measurements", found, [("measured", 1), ("calm", 1), ("measured", 2)])
 
 
 def try_moved(world):
