@@ -34,8 +34,8 @@ def want_text(trial, file, status, text, notes):
 
 
 def try_examples(trial):
-    """What comes of each file."""
-    files = sorted(os.listdir(trial.examples))
+    """What comes of each manifest."""
+    files = sorted(name for name in os.listdir(trial.examples) if name.endswith(".yaml"))
     expect("the files of the table", files, sorted([*TAKEN, *REFUSED]))
     faults = Faults()
     for file, made in TAKEN.items():

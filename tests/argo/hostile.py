@@ -62,7 +62,7 @@ def want_answered(trial, row, text):
 def try_changed(trial):
     """Examples that are changed at random."""
     rng, faults, statuses = random.Random(f"{trial.seed} changed"), Faults(), []
-    names = sorted(os.listdir(trial.examples))
+    names = sorted(name for name in os.listdir(trial.examples) if name.endswith(".yaml"))
     texts = [read(os.path.join(trial.examples, name)) for name in names]
     for _ in range(CHANGED):
         text = changed(rng, rng.choice(texts))

@@ -110,6 +110,8 @@ def table(root):
     """Prints what the last run took."""
     rtlib = kit.load_rtlib()
     rows = collections.defaultdict(dict)
+    if not os.path.exists(f"{root}/{FILE}"):
+        return "tests/proofs/prove: there is no run of ./check or of this script here"
     with open(f"{root}/{FILE}", encoding="utf-8") as file:
         for crate, kind, *times in (line.split() for line in file):
             rows[crate][kind] = Seen(crate, kind, *map(int, times))
