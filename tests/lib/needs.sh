@@ -81,7 +81,8 @@ left_out_without() {
             "and tunnels by it (tests/proxies/run)" ;;
         nginx) echo "nginx: what follows a release by nginx, and roles by it (tests/proxies/run)" ;;
         openssl) echo "openssl: roles by a proxy (tests/proxies/run)" ;;
-        prometheus) echo "prometheus: releases that a real Prometheus measures (tests/agent/run)" ;;
+        prometheus) echo "prometheus: releases that a real Prometheus measures (tests/agent/run)," \
+            "and examples/loop (tests/proxies/run)" ;;
     esac
 }
 

@@ -31,19 +31,16 @@ NEEDS = {
     "try_notify_flood": set(),
     "try_notify_words": set(),
 }
-# Those that take too long for the gate.
-LONG = {"try_loop"}
 PARTS = {name: getattr(module, name) for module in (desks, followers, notices, roles)
          for name in NEEDS if hasattr(module, name)}
 
 
-def chosen(wanted, is_whole):
+def chosen(wanted):
     unknown = set(wanted) - set(PARTS)
     if unknown:
         sys.exit(f"proxies: unknown part: {' '.join(sorted(unknown))}")
     without = set(os.environ.get("CHECK_WITHOUT", "").split())
-    tried = wanted or [name for name in PARTS if is_whole or name not in LONG]
-    return [name for name in PARTS if name in tried and not NEEDS[name] & without]
+    return [name for name in wanted or PARTS if not NEEDS[name] & without]
 
 
 def try_part(name, world):
@@ -65,7 +62,7 @@ def end_all(*_):
 def main():
     program, folder, is_whole, *wanted = sys.argv[1:]
     world = World(os.path.realpath(program), folder, is_whole == "1", 0)
-    names, failed = chosen(wanted, world.is_whole), []
+    names, failed = chosen(wanted), []
     for number in (signal.SIGTERM, signal.SIGINT, signal.SIGHUP):
         signal.signal(number, end_all)
     with concurrent.futures.ThreadPoolExecutor(len(PARTS)) as pool:
