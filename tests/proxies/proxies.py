@@ -59,13 +59,10 @@ def end_all(*_):
     os._exit(143)
 
 
-def main():
-    program, folder, is_whole, *wanted = sys.argv[1:]
-    world = World(os.path.realpath(program), folder, is_whole == "1", 0)
-    names, failed = chosen(wanted), []
-    for number in (signal.SIGTERM, signal.SIGINT, signal.SIGHUP):
-        signal.signal(number, end_all)
-    with concurrent.futures.ThreadPoolExecutor(len(PARTS)) as pool:
+def try_all(names, world, beside):
+    """Tries parts, so many at a time, and has those that failed."""
+    failed = []
+    with concurrent.futures.ThreadPoolExecutor(beside) as pool:
         tried = {name: pool.submit(try_part, name, world) for name in names}
         for name, part in tried.items():
             try:
@@ -74,6 +71,22 @@ def main():
                 failed.append(name)
                 print(f"proxies: {name} FAILED\n{traceback.format_exc()}", file=sys.stderr,
                       flush=True)
+    return failed
+
+
+def main():
+    program, folder, is_whole, *wanted = sys.argv[1:]
+    folder = pathlib.Path(folder)
+    names = chosen(wanted)
+    for number in (signal.SIGTERM, signal.SIGINT, signal.SIGHUP):
+        signal.signal(number, end_all)
+    failed = names
+    # What failed is tried once more, alone: a part starts programs that it has just written, which
+    # fails ("text file busy") if another one starts a program in that moment.
+    for turn, beside in (("first", len(PARTS)), ("again", 1)):
+        (folder / turn).mkdir()
+        world = World(os.path.realpath(program), str(folder / turn), is_whole == "1", 0)
+        failed = try_all(failed, world, beside)
     if failed:
         sys.exit(f"proxies: {len(failed)} of {len(names)} parts failed: {' '.join(failed)}")
     print(f"proxies: {len(names)} parts passed", file=sys.stderr)
