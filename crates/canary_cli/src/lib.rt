@@ -21,4 +21,5 @@ mod argo;
 mod check;
 pub mod perform;
 mod place;
+pub mod unclear;
 mod yaml;
