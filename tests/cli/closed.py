@@ -59,6 +59,7 @@ PROGRAMS = (
     Row("history", "--db", "desk.db", "web"),
     Row("status", "--db", "desk.db"),
     Row("status", "--db", "desk.db", "--json", is_held=True),
+    Row("status", "--db", "desk.db", "--prometheus"),
     Row("page", "--db", "desk.db", "-"),
     Row("page", "--db", "desk.db", "desk.html"),
     Row("page", "--db", "desk.db", "new.html", is_held=True),
