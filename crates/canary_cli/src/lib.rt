@@ -18,6 +18,7 @@
 #![tactic(auto)]
 
 mod argo;
+mod asked;
 mod check;
 pub mod perform;
 mod place;

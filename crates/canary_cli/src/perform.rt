@@ -7,23 +7,19 @@ ghost use Rattle.canary_words.specs.CommandLine.{faults_of, program_of};
 ghost use Rattle.canary_cli.specs.Performed.{outcome_of, status_of};
 ghost use Rattle.canary_cli.specs.Performed.{IsPiped, IsPipedTo, IsRun, IsRunTo, IsTold};
 ghost use Rattle.canary_cli.specs.Performed.{IsTurnedAway, IsGivenUp, unopened_status};
-ghost use Rattle.canary_cli.specs.Performed.{MayTell, AsksForOneThatTells, IsAsked, IsOfRecords};
+ghost use Rattle.canary_cli.specs.Performed.{MayTell, AsksForOneThatTells, IsOfRecords};
 ghost use Rattle.canary_cli.specs.Performed.{limits_of, unclear_of, IsOwn};
 ghost use Rattle.canary_cli.specs.declared.unclear.Unclear.{Unclear as WhatIsUnclear};
+ghost use Rattle.canary_words.specs.declared.words.Program.{Program as AnyProgram};
 
 use crate::argo::argo;
+use crate::asked::run_client;
 use crate::check::check;
 use crate::place::Place;
 use crate::unclear::{Unclear, unclear_of};
-use canary_agent::agent::agent;
 use canary_base::lists::Text;
 use canary_base::moments::Moment;
-use canary_client::ask::ask;
-use canary_client::due::{Sought, due};
-use canary_client::get::get;
 use canary_client::outcome as client;
-use canary_client::send::send;
-use canary_client::watch::{Manner, watch};
 use canary_database::backup::{backup, backup_each};
 use canary_database::export::export;
 use canary_database::history::history;
@@ -41,7 +37,7 @@ use canary_overview::overview::Form;
 use canary_programs::fault::{Fault, done_of};
 use canary_programs::overview::Drawing;
 use canary_programs::show::show;
-use canary_words::words::{Asked, AskedLimits, Program, WordsFault, read_words};
+use canary_words::words::{AskedLimits, Program, WordsFault, read_words};
 use std::alloc::Global;
 use std::io::{self, ErrorKind, Read, Write};
 
@@ -114,7 +110,7 @@ pub fn perform<R: Read, W: Write, F: Write>(
         → program_of (map string_bytes words.now) ≡ Some (Program.Check file request strict)
         → result ≡ DONE
         → Appends (W.contents output.old) (W.contents output.new) (codes "ok\n") }
-    ensures unclear { (program : Program) (what : WhatIsUnclear)
+    ensures unclear { (program : AnyProgram) (what : WhatIsUnclear)
         → faults_of (map string_bytes words.now) ≡ []
         → program_of (map string_bytes words.now) ≡ Some program
         → unclear_of program ≡ Some what
@@ -365,67 +361,6 @@ fn run_on_records<W: Write, F: Write>(
             done(succeed(rt, db.as_str(), new.as_str(), output, errors, shows))
         }
         _ => unreachable!(),
-    }
-}
-
-// Asks a desk.
-fn run_client<R: Read, W: Write, F: Write>(
-    rt: &HostRuntime,
-    asked: Asked,
-    input: &mut R,
-    output: &mut W,
-    errors: &mut F,
-    is_terminal: bool,
-) -> Result<Outcome, Fault>
-    ensures { IsAsked (R.remaining input.old) (R.remaining input.new) asked }
-{
-    let outcome = client_outcome(rt, asked, input, output, errors, is_terminal);
-    Ok(Outcome::Asked(outcome))
-}
-
-// How a client of a desk ends.
-fn client_outcome<R: Read, W: Write, F: Write>(
-    rt: &HostRuntime,
-    asked: Asked,
-    input: &mut R,
-    output: &mut W,
-    errors: &mut F,
-    is_terminal: bool,
-) -> client::Outcome
-    ensures { IsAsked (R.remaining input.old) (R.remaining input.new) asked }
-{
-    match asked {
-        Asked::Do(call) => ask(rt, call, output, errors, is_terminal),
-        Asked::Get {
-            desk,
-            service,
-            part,
-        } => get(rt, &desk, &service, &part, output, errors, is_terminal),
-        Asked::Watch {
-            desk,
-            until,
-            json,
-            forever,
-            service,
-        } => {
-            let manner = Manner {
-                until,
-                is_json: json,
-                is_forever: forever,
-            };
-            watch(rt, &desk, &service, &manner, output, errors)
-        }
-        Asked::Send { desk, csv } => send(rt, &desk, &csv, input, output, errors),
-        Asked::Due {
-            desk,
-            wait,
-            late,
-            services,
-        } => {
-            let sought = Sought { waits: wait, late };
-            due(rt, &desk, &services, sought, output, errors, is_terminal)
-        }
-        Asked::Agent(call) => agent(rt, call, input, output, errors, is_terminal),
     }
 }
 
