@@ -291,8 +291,8 @@ fn run_own<R: Read, W: Write, F: Write>(
             connections,
             limits,
         } => {
-            let file = file_or_none(db, *cache);
-            done(serve(rt, listen, file, *connections, *limits, output, errors, shows))
+            let desk = (listen.as_str(), file_or_none(db, *cache));
+            done(serve(rt, desk, *connections, *limits, output, errors, shows))
         }
         Program::Import { db, cache, csv } => {
             let file = file_of(db, *cache);
@@ -303,9 +303,7 @@ fn run_own<R: Read, W: Write, F: Write>(
             request,
             strict,
         } => check(rt, file, request, *strict, output, errors),
-        Program::Argo { files, out, json } => {
-            argo(rt, files, out, *json, input, output, errors)
-        }
+        Program::Argo { files, out, json } => { argo(rt, files, out, *json, input, output, errors) }
         Program::Backup {
             db,
             copy,
@@ -489,16 +487,15 @@ fn limits_of(asked: AskedLimits) -> Limits
 // Serves clients on an address, over the desk in a file if there is one.
 fn serve<W: Write, F: Write>(
     rt: &HostRuntime,
-    listen: &Text,
-    file: Option<DeskFile<'_>>,
+    desk: (&str, Option<DeskFile<'_>>),
     connections: Option<u64>,
     limits: AskedLimits,
     output: &mut W,
     errors: &mut F,
     shows: bool,
 ) -> Result<(), Fault> {
+    let (listen, file) = desk;
     let limits = limits_of(limits);
-    let listen = listen.as_str();
     serve::serve(rt, listen, file, connections, limits, output, errors, shows)
 }
 
