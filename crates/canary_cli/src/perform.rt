@@ -253,9 +253,25 @@ fn run<R: Read, W: Write, F: Write>(
         × (input.new ≡ input.old) × (output.new ≡ output.old) }
     ensures quiet { (MayTell program → ⊥) → errors.new ≡ errors.old }
 {
-    if let Some(what) = unclear_of(&program) {
-        return Ok(Outcome::Unclear(what));
+    match unclear_of(&program) {
+        Some(what) => Ok(Outcome::Unclear(what)),
+        None => run_clear(rt, program, input, output, errors, terminals),
     }
+}
+
+// Runs a program whose words are clear.
+fn run_clear<R: Read, W: Write, F: Write>(
+    rt: &HostRuntime,
+    program: Program,
+    input: &mut R,
+    output: &mut W,
+    errors: &mut F,
+    terminals: Terminals,
+) -> Result<Outcome, Fault>
+    ensures ran { IsRun (R.remaining input.old) (R.remaining input.new)
+        (W.contents output.old) (W.contents output.new) program result }
+    ensures quiet { (MayTell program → ⊥) → errors.new ≡ errors.old }
+{
     match program {
         Program::Ask(asked) => run_client(rt, asked, input, output, errors, terminals.output),
         program => run_own(rt, &program, input, output, errors, terminals),
