@@ -71,7 +71,7 @@ impl Families {
             measurement_late: Family::new(
                 alloc,
                 "measurement_late_seconds",
-                "For how long the next measurement of a metric has been due; 0 if it is not yet due.",
+                "For how long a metric's next measurement has been due; 0 if it is not yet due.",
             ),
             late: Family::new(
                 alloc,
