@@ -8,7 +8,7 @@
 //! text of a desk gets out of its place.
 use canary_base::error::Memory;
 use canary_base::moments::Moment;
-use canary_base::names::Name;
+use canary_base::names::{Label, Name};
 use canary_decimal::shown::Shown;
 use canary_metric::metric::Metric;
 use canary_metric::tally::Tally;
@@ -84,20 +84,27 @@ impl Families {
     /// Adds the samples of a service that was passed to a moment, and of its open runs.
     pub(crate) fn add(&mut self, service: &Service) -> Result<(), Memory> {
         let labels = service_label(self.alloc, service.name())?;
-        self.add_words(labels.as_str(), service)?;
+        self.add_versions(labels.as_str(), service)?;
+        self.add_status(labels.as_str(), service.status())?;
         self.add_numbers(labels.as_str(), service)?;
         self.add_runs(labels.as_str(), service)
     }
 
-    fn add_words(&mut self, labels: &str, service: &Service) -> Result<(), Memory> {
-        let versions = with_versions(self.alloc, labels, service)?;
-        self.info.add(self.alloc, versions.as_str(), 1)?;
-        for status in STATUSES {
-            let labels = with_status(self.alloc, labels, status)?;
-            let is_so = service.status() == status;
-            self.status.add(self.alloc, labels.as_str(), u64::from(is_so))?;
+    fn add_versions(&mut self, labels: &str, service: &Service) -> Result<(), Memory> {
+        let labels = with_versions(self.alloc, labels, service)?;
+        self.info.add(self.alloc, labels.as_str(), 1)
+    }
+
+    fn add_status(&mut self, labels: &str, status: Status) -> Result<(), Memory> {
+        for other in STATUSES {
+            self.add_one_status(labels, other, other == status)?;
         }
         Ok(())
+    }
+
+    fn add_one_status(&mut self, labels: &str, of: Status, is_so: bool) -> Result<(), Memory> {
+        let labels = with_status(self.alloc, labels, of)?;
+        self.status.add(self.alloc, labels.as_str(), u64::from(is_so))
     }
 
     fn add_numbers(&mut self, labels: &str, service: &Service) -> Result<(), Memory> {
@@ -121,11 +128,21 @@ impl Families {
     fn add_run(&mut self, labels: &str, run: &OpenRun, now: Moment) -> Result<(), Memory> {
         for (metric, tally) in run.analysis.metrics().iter().zip(run.tallies.as_slice()) {
             if let Some(late) = late_of(run, metric, tally, now) {
-                let labels = with_metric(self.alloc, labels, run, metric)?;
-                self.measurement_late.add(self.alloc, labels.as_str(), late)?;
+                self.add_late(labels, run, metric.name(), late)?;
             }
         }
         Ok(())
+    }
+
+    fn add_late(
+        &mut self,
+        labels: &str,
+        run: &OpenRun,
+        metric: Label,
+        late: u64,
+    ) -> Result<(), Memory> {
+        let labels = with_metric(self.alloc, labels, run, metric)?;
+        self.measurement_late.add(self.alloc, labels.as_str(), late)
     }
 
     /// The text of all families.
@@ -169,18 +186,20 @@ impl Family {
 
     // Adds the sample with these labels.
     fn add(&mut self, alloc: Global, labels: &str, value: u64) -> Result<(), Memory> {
-        let line = format!(in alloc; "canary_{}{{{labels}}} {value}\n", self.name)?;
+        let name = self.name;
+        let line = format!(in alloc; "canary_{name}{{{labels}}} {value}\n")?;
         Ok(self.lines.push_str(line.as_str())?)
     }
 
     // Adds its comments, and its samples. One without samples has its comments alone.
     fn add_to(&self, alloc: Global, text: &mut String) -> Result<(), Memory> {
-        let (name, help) = (self.name, self.help);
-        let help = format!(in alloc; "# HELP canary_{name} {help}\n")?;
-        text.push_str(help.as_str())?;
-        let kind = format!(in alloc; "# TYPE canary_{name} gauge\n")?;
-        text.push_str(kind.as_str())?;
+        text.push_str(self.comments(alloc)?.as_str())?;
         Ok(text.push_str(self.lines.as_str())?)
+    }
+
+    fn comments(&self, alloc: Global) -> Result<String, Memory> {
+        let (name, help) = (self.name, self.help);
+        Ok(format!(in alloc; "# HELP canary_{name} {help}\n# TYPE canary_{name} gauge\n")?)
     }
 }
 
@@ -205,14 +224,11 @@ fn with_metric(
     alloc: Global,
     labels: &str,
     run: &OpenRun,
-    metric: &Metric,
+    metric: Label,
 ) -> Result<String, Memory> {
-    let name = metric.name();
-    let mut text = with_run(alloc, labels, run)?;
-    let shown = Shown::or_whole(name.as_str()).name;
-    let more = format!(in alloc; ",metric=\"{shown}\",label=\"{name}\"")?;
-    text.push_str(more.as_str())?;
-    Ok(text)
+    let labels = with_run(alloc, labels, run)?;
+    let shown = Shown::or_whole(metric.as_str()).name;
+    Ok(format!(in alloc; "{labels},metric=\"{shown}\",label=\"{metric}\"")?)
 }
 
 fn with_run(alloc: Global, labels: &str, run: &OpenRun) -> Result<String, Memory> {
