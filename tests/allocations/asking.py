@@ -66,6 +66,40 @@ def refuse_by_variables(trial, share):
         row, refuse_in(trial, row, lambda number: words, wanted, **given))
 
 
+# What a crash left behind the closed gate: a part of the next record.
+TORN = b'{"asked":{"bo'
+
+
+def refuse_each_of_call(trial, share, address):
+    """Each allocation of a call is refused that makes a journal, and of one that reads a journal
+    with a torn rest; each time the file is as it was before the first one."""
+    with open(trial.file, "rb") as file:
+        left = file.read() + TORN
+    for row, bytes_before, caller in (("client do, a torn journal", left, "ops"),
+                                      ("client do, a new journal", None, "new")):
+        words = ["do", "--desk", address, "--as", caller, "--journal", trial.file, "--once", row,
+                 "tick", "web"]
+
+        def put_back(number, words=words, bytes_before=bytes_before):
+            if bytes_before is None:
+                with contextlib.suppress(FileNotFoundError):
+                    os.remove(trial.file)
+            else:
+                with open(trial.file, "wb") as file:
+                    file.write(bytes_before)
+            return words
+
+        refuse_once = refuse_in(trial, row, lambda number, words=words: words, (0, PAUSED, b""))
+
+        def refuse(number, put_back=put_back, refuse_once=refuse_once):
+            put_back(number)
+            return refuse_once(number)
+
+        share.each_from(1).refuse_each(row, refuse)
+    with open(trial.file, "wb") as file:
+        file.write(left[:-len(TORN)])
+
+
 def ask_refused(trial, share):
     """Commands with keys of their own, and a query: each gets its reply, or says why not; and the
     same call gets it then."""
@@ -84,6 +118,7 @@ def ask_refused(trial, share):
         share.refuse_each("client do", refuse_in(
             trial, "client do",
             lambda number: call(trial, address, ["--once", str(number), "tick", "web"]), wanted))
+        refuse_each_of_call(trial, share, address)
         query = ["get", "--desk", address, "web", "history"]
         shown = trial.run(query)
         expect("client: a history", shown[0], 0)

@@ -118,7 +118,12 @@ class World:
 
     def run(self, words, folder, timeout=120, variables=None, stdin=subprocess.DEVNULL, **more):
         """Runs the client, and has what came of it."""
-        with process([self.program, *words], cwd=folder, stdin=stdin, stdout=subprocess.PIPE,
+        return self.run_words([self.program, *words], folder, timeout, variables, stdin, **more)
+
+    def run_words(self, words, folder, timeout=120, variables=None, stdin=subprocess.DEVNULL,
+                  **more):
+        """Runs a command, as another one that begins the client."""
+        with process(words, cwd=folder, stdin=stdin, stdout=subprocess.PIPE,
                      stderr=subprocess.PIPE, env=environment(**(variables or {})),
                      **more) as client:
             output, errors = client.communicate(timeout=timeout)

@@ -10,29 +10,19 @@
 #![tactic(auto)]
 
 #[cfg(test)]
+mod copies;
+#[cfg(test)]
 mod decimals;
 #[cfg(test)]
-mod growths;
-#[cfg(test)]
-mod growths_desk;
-#[cfg(test)]
-mod growths_journal;
-#[cfg(test)]
-mod growths_kept;
-#[cfg(test)]
 mod halves;
-#[cfg(test)]
-mod journals;
 #[cfg(test)]
 mod listen_wall_clock;
 #[cfg(test)]
 mod once;
 #[cfg(test)]
-mod records;
+mod rows;
 #[cfg(test)]
 mod sending;
-#[cfg(test)]
-mod settling;
 #[cfg(test)]
 mod wire_conversation;
 #[cfg(test)]
