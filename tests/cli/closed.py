@@ -66,6 +66,7 @@ PROGRAMS = (
     Row("backup", "--db", "desk.db", "copy.db", is_held=True),
     Row("migrate", "--db", "first.db"),
     Row("migrate", "--db", "first.db", "--dry-run"),
+    Row("succeed", "--db", "done.db", "new.db"),
 )
 
 
@@ -75,10 +76,13 @@ def make_places(program, folder):
     for name, content in FILES.items():
         with open(os.path.join(folder, name), "wb") as file:
             file.write(content)
-    words = [*STILL_AT_B, "--db", "desk.db"]
-    done = subprocess.run([program, *words], cwd=folder, input=b"".join(ASKED),
-                          capture_output=True, timeout=60)
-    expect("the desk", (done.returncode, done.stdout.count(b"HTTP/1.1 200 OK\r\n")), (0, 3))
+    # no release goes on in the second
+    for name, asked in (("desk.db", ASKED), ("done.db", ASKED[:2])):
+        words = [*STILL_AT_B, "--db", name]
+        done = subprocess.run([program, *words], cwd=folder, input=b"".join(asked),
+                              capture_output=True, timeout=60)
+        found = (done.returncode, done.stdout.count(b"HTTP/1.1 200 OK\r\n"))
+        expect(f"the desk {name}", found, (0, len(asked)))
     first = sqlite3.connect(os.path.join(folder, "first.db"))
     with open(FIRST_VERSION, encoding="utf-8") as story:
         first.executescript(story.read())

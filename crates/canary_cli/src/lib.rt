@@ -18,8 +18,8 @@
 #![tactic(auto)]
 
 mod argo;
-mod asked;
 mod check;
+mod given;
 pub mod perform;
 mod place;
 pub mod unclear;

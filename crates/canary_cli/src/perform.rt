@@ -7,19 +7,25 @@ ghost use Rattle.canary_words.specs.CommandLine.{faults_of, program_of};
 ghost use Rattle.canary_cli.specs.Performed.{outcome_of, status_of};
 ghost use Rattle.canary_cli.specs.Performed.{IsPiped, IsPipedTo, IsRun, IsRunTo, IsTold};
 ghost use Rattle.canary_cli.specs.Performed.{IsTurnedAway, IsGivenUp, unopened_status};
-ghost use Rattle.canary_cli.specs.Performed.{MayTell, AsksForOneThatTells, IsOfRecords};
+ghost use Rattle.canary_cli.specs.Performed.{MayTell, AsksForOneThatTells, IsAsked, IsOfRecords};
 ghost use Rattle.canary_cli.specs.Performed.{limits_of, unclear_of, IsOwn};
 ghost use Rattle.canary_cli.specs.declared.unclear.Unclear.{Unclear as WhatIsUnclear};
 ghost use Rattle.canary_words.specs.declared.words.Program.{Program as AnyProgram};
 
 use crate::argo::argo;
-use crate::asked::run_client;
 use crate::check::check;
+use crate::given::{drawing, file_of, file_or_none, text_of};
 use crate::place::Place;
 use crate::unclear::{Unclear, unclear_of};
+use canary_agent::agent::agent;
 use canary_base::lists::Text;
 use canary_base::moments::Moment;
+use canary_client::ask::ask;
+use canary_client::due::{Sought, due};
+use canary_client::get::get;
 use canary_client::outcome as client;
+use canary_client::send::send;
+use canary_client::watch::{Manner, watch};
 use canary_database::backup::{backup, backup_each};
 use canary_database::export::export;
 use canary_database::history::history;
@@ -33,11 +39,9 @@ use canary_database::{pipe, serve};
 use canary_listen::limits::Limits;
 use canary_once::clock::StepClock;
 use canary_once::memory::MemoryBook;
-use canary_overview::overview::Form;
 use canary_programs::fault::{Fault, done_of};
-use canary_programs::overview::Drawing;
 use canary_programs::show::show;
-use canary_words::words::{AskedLimits, Program, WordsFault, read_words};
+use canary_words::words::{Asked, AskedLimits, Program, WordsFault, read_words};
 use std::alloc::Global;
 use std::io::{self, ErrorKind, Read, Write};
 
@@ -249,9 +253,25 @@ fn run<R: Read, W: Write, F: Write>(
         × (input.new ≡ input.old) × (output.new ≡ output.old) }
     ensures quiet { (MayTell program → ⊥) → errors.new ≡ errors.old }
 {
-    if let Some(what) = unclear_of(&program) {
-        return Ok(Outcome::Unclear(what));
+    match unclear_of(&program) {
+        Some(what) => Ok(Outcome::Unclear(what)),
+        None => run_clear(rt, program, input, output, errors, terminals),
     }
+}
+
+// Runs a program whose words are clear.
+fn run_clear<R: Read, W: Write, F: Write>(
+    rt: &HostRuntime,
+    program: Program,
+    input: &mut R,
+    output: &mut W,
+    errors: &mut F,
+    terminals: Terminals,
+) -> Result<Outcome, Fault>
+    ensures ran { IsRun (R.remaining input.old) (R.remaining input.new)
+        (W.contents output.old) (W.contents output.new) program result }
+    ensures quiet { (MayTell program → ⊥) → errors.new ≡ errors.old }
+{
     match program {
         Program::Ask(asked) => run_client(rt, asked, input, output, errors, terminals.output),
         program => run_own(rt, &program, input, output, errors, terminals),
@@ -287,8 +307,8 @@ fn run_own<R: Read, W: Write, F: Write>(
             connections,
             limits,
         } => {
-            let file = file_or_none(db, *cache);
-            done(serve(rt, listen, file, *connections, *limits, output, errors, shows))
+            let desk = (listen.as_str(), file_or_none(db, *cache));
+            done(serve(rt, desk, *connections, *limits, output, errors, shows))
         }
         Program::Import { db, cache, csv } => {
             let file = file_of(db, *cache);
@@ -299,9 +319,7 @@ fn run_own<R: Read, W: Write, F: Write>(
             request,
             strict,
         } => check(rt, file, request, *strict, output, errors),
-        Program::Argo { files, out, json } => {
-            argo(rt, files, out, *json, input, output, errors)
-        }
+        Program::Argo { files, out, json } => { argo(rt, files, out, *json, input, output, errors) }
         Program::Backup {
             db,
             copy,
@@ -364,6 +382,67 @@ fn run_on_records<W: Write, F: Write>(
     }
 }
 
+// Asks a desk.
+fn run_client<R: Read, W: Write, F: Write>(
+    rt: &HostRuntime,
+    asked: Asked,
+    input: &mut R,
+    output: &mut W,
+    errors: &mut F,
+    is_terminal: bool,
+) -> Result<Outcome, Fault>
+    ensures { IsAsked (R.remaining input.old) (R.remaining input.new) asked }
+{
+    let outcome = client_outcome(rt, asked, input, output, errors, is_terminal);
+    Ok(Outcome::Asked(outcome))
+}
+
+// How a client of a desk ends.
+fn client_outcome<R: Read, W: Write, F: Write>(
+    rt: &HostRuntime,
+    asked: Asked,
+    input: &mut R,
+    output: &mut W,
+    errors: &mut F,
+    is_terminal: bool,
+) -> client::Outcome
+    ensures { IsAsked (R.remaining input.old) (R.remaining input.new) asked }
+{
+    match asked {
+        Asked::Do(call) => ask(rt, call, output, errors, is_terminal),
+        Asked::Get {
+            desk,
+            service,
+            part,
+        } => get(rt, &desk, &service, &part, output, errors, is_terminal),
+        Asked::Watch {
+            desk,
+            until,
+            json,
+            forever,
+            service,
+        } => {
+            let manner = Manner {
+                until,
+                is_json: json,
+                is_forever: forever,
+            };
+            watch(rt, &desk, &service, &manner, output, errors)
+        }
+        Asked::Send { desk, csv } => send(rt, &desk, &csv, input, output, errors),
+        Asked::Due {
+            desk,
+            wait,
+            late,
+            services,
+        } => {
+            let sought = Sought { waits: wait, late };
+            due(rt, &desk, &services, sought, output, errors, is_terminal)
+        }
+        Asked::Agent(call) => agent(rt, call, input, output, errors, is_terminal),
+    }
+}
+
 // Answers a stream, over the desk in a file if there is one.
 fn run_pipe<R: Read, W: Write, F: Write>(
     rt: &HostRuntime,
@@ -391,30 +470,6 @@ fn run_pipe<R: Read, W: Write, F: Write>(
     }
 }
 
-// How often a status is printed, in which form, and whether on a terminal.
-fn drawing(
-    every: Option<u64>,
-    is_json: bool,
-    is_prometheus: bool,
-    terminals: Terminals,
-) -> Drawing {
-    Drawing {
-        form: form_of(is_json, is_prometheus),
-        every,
-        is_terminal: terminals.output,
-    }
-}
-
-fn form_of(is_json: bool, is_prometheus: bool) -> Form {
-    if is_prometheus {
-        Form::Prometheus
-    } else if is_json {
-        Form::Json
-    } else {
-        Form::Tables
-    }
-}
-
 // A copy of the records, or one each time after so many seconds, of which so many are kept.
 fn copied(
     rt: &HostRuntime,
@@ -426,14 +481,6 @@ fn copied(
     match every {
         None => backup(rt, db, copy),
         Some(seconds) => backup_each(rt, db, copy, seconds, keep),
-    }
-}
-
-// A text that may be left out.
-fn text_of(text: &Option<Text>) -> Option<&str> {
-    match text {
-        Some(text) => Some(text.as_str()),
-        None => None,
     }
 }
 
@@ -453,35 +500,18 @@ fn limits_of(asked: AskedLimits) -> Limits
     }
 }
 
-// The file of a desk, and the room for what is kept of it in memory.
-fn file_of<'a>(db: &'a Text, cache: Option<u64>) -> DeskFile<'a> {
-    DeskFile {
-        name: db.as_str(),
-        cache,
-    }
-}
-
-// The same, if there is a file.
-fn file_or_none<'a>(db: &'a Option<Text>, cache: Option<u64>) -> Option<DeskFile<'a>> {
-    match db {
-        Some(db) => Some(file_of(db, cache)),
-        None => None,
-    }
-}
-
 // Serves clients on an address, over the desk in a file if there is one.
 fn serve<W: Write, F: Write>(
     rt: &HostRuntime,
-    listen: &Text,
-    file: Option<DeskFile<'_>>,
+    desk: (&str, Option<DeskFile<'_>>),
     connections: Option<u64>,
     limits: AskedLimits,
     output: &mut W,
     errors: &mut F,
     shows: bool,
 ) -> Result<(), Fault> {
+    let (listen, file) = desk;
     let limits = limits_of(limits);
-    let listen = listen.as_str();
     serve::serve(rt, listen, file, connections, limits, output, errors, shows)
 }
 

@@ -57,7 +57,9 @@ pub(crate) fn unclear_of(program: &Program) -> Option<Unclear>
             unclear_if(file.is_some() == request.is_some(), Unclear::Checked)
         }
         Program::Status {
-            json, prometheus, ..
+            json,
+            prometheus,
+            ..
         } => unclear_if(*json && *prometheus, Unclear::Form),
         Program::Backup { every, keep, .. } => {
             unclear_if(every.is_none() && keep.is_some(), Unclear::Kept)
