@@ -166,7 +166,11 @@ def worked():
 def look_at_worked(text):
     """The text of the desk `worked`, byte for byte."""
     with open(os.path.join(HERE, "textfile.prom"), "rb") as file:
-        expect("the text of the worked desk", text.split(b"\n"), file.read().split(b"\n"))
+        wanted = file.read().split(b"\n")
+    told = text.split(b"\n")
+    for number, (line, other) in enumerate(zip(told, wanted), 1):
+        expect(f"line {number} of the worked desk", line, other)
+    expect("lines of the worked desk", len(told), len(wanted))
 
 
 def promtool(words, **more):

@@ -104,7 +104,8 @@ impl Families {
 
     fn add_one_status(&mut self, labels: &str, of: Status, is_so: bool) -> Result<(), Memory> {
         let labels = with_status(self.alloc, labels, of)?;
-        self.status.add(self.alloc, labels.as_str(), u64::from(is_so))
+        self.status
+            .add(self.alloc, labels.as_str(), u64::from(is_so))
     }
 
     fn add_numbers(&mut self, labels: &str, service: &Service) -> Result<(), Memory> {
@@ -122,7 +123,8 @@ impl Families {
             self.add_run(labels, run, service.last())?;
         }
         self.open_runs.add(alloc, labels, runs.len() as u64)?;
-        self.late.add(alloc, labels, latest_of(runs, service.last()))
+        self.late
+            .add(alloc, labels, latest_of(runs, service.last()))
     }
 
     fn add_run(&mut self, labels: &str, run: &OpenRun, now: Moment) -> Result<(), Memory> {
