@@ -9,8 +9,8 @@ import re
 # The crates of tests, that of figures, and the program: no caller rests on them. Nor does any rest on
 # the laws over all senders, or on those over all books over tables.
 NO_LIBRARIES = {
-    "canary_bench", "canary_desk", "canary_senders", "canary_tables_laws", "canary_testing",
-    "canary_tests", "canary_yaml_reader",
+    "canary_bench", "canary_desk", "canary_senders", "canary_tables_laws", "canary_tests",
+    "canary_yaml_reader",
 }
 EXAMPLE = re.compile(r"^In use \((\w+), (\S+)\):\n\n((?:    .*\n)+)", re.MULTILINE)
 CODE = re.compile(r"^    ", re.MULTILINE)
