@@ -70,34 +70,35 @@ def refuse_by_variables(trial, share):
 TORN = b'{"asked":{"bo'
 
 
+def begin_with(file, left):
+    """The file has these bytes, or is not there."""
+    if left is None:
+        with contextlib.suppress(FileNotFoundError):
+            os.remove(file)
+        return
+    with open(file, "wb") as journal:
+        journal.write(left)
+
+
 def refuse_each_of_call(trial, share, address):
-    """Each allocation of a call is refused that makes a journal, and of one that reads a journal
-    with a torn rest; each time the file is as it was before the first one."""
+    """Each allocation of a call is refused that reads a journal with a torn rest, and of one that
+    begins a journal, by a caller of its own; the file is as before each time."""
     with open(trial.file, "rb") as file:
-        left = file.read() + TORN
-    for row, bytes_before, caller in (("client do, a torn journal", left, "ops"),
-                                      ("client do, a new journal", None, "new")):
-        words = ["do", "--desk", address, "--as", caller, "--journal", trial.file, "--once", row,
-                 "tick", "web"]
+        whole = file.read()
+    for row, left, caller in (("client do, a torn journal", whole + TORN, lambda number: "ops"),
+                              ("client do, a new journal", None, lambda number: f"n{number}")):
+        def words(number, row=row, caller=caller):
+            return ["do", "--desk", address, "--as", caller(number), "--journal", trial.file,
+                    "--once", row, "tick", "web"]
 
-        def put_back(number, words=words, bytes_before=bytes_before):
-            if bytes_before is None:
-                with contextlib.suppress(FileNotFoundError):
-                    os.remove(trial.file)
-            else:
-                with open(trial.file, "wb") as file:
-                    file.write(bytes_before)
-            return words
+        refuse_once = refuse_in(trial, row, words, (0, PAUSED, b""))
 
-        refuse_once = refuse_in(trial, row, lambda number, words=words: words, (0, PAUSED, b""))
-
-        def refuse(number, put_back=put_back, refuse_once=refuse_once):
-            put_back(number)
+        def refuse(number, left=left, refuse_once=refuse_once):
+            begin_with(trial.file, left)
             return refuse_once(number)
 
         share.each_from(1).refuse_each(row, refuse)
-    with open(trial.file, "wb") as file:
-        file.write(left[:-len(TORN)])
+    begin_with(trial.file, whole)
 
 
 def ask_refused(trial, share):

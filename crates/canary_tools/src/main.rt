@@ -1,7 +1,10 @@
-//! Prints figures of this machine. `canary_bench SUBJECT ROUNDS` measures one subject, so many
-//! times over: `condition`, `metric` or `machine`. `canary_bench register MOST STREAM`
-//! measures the book in memory, up to so many settled requests of a stream, and without a stream
-//! it prints the table's head. With no words it prints nothing.
+//! What tests and figures need of the libraries, in one program, since each program costs a minute
+//! of proofs before its first function. With no words it reads texts in YAML (yaml.rt).
+//!
+//! With words it prints figures of this machine. `canary_tools SUBJECT ROUNDS` measures one
+//! subject, so many times over: `condition`, `metric` or `machine`. `canary_tools register MOST
+//! STREAM` measures the book in memory, up to so many settled requests of a stream, and without a
+//! stream it prints the table's head.
 #![tactic(auto)]
 
 mod condition;
@@ -13,6 +16,7 @@ mod reads;
 mod register;
 mod streams;
 mod timing;
+mod yaml;
 
 use fault::Fault;
 use std::env;
@@ -23,7 +27,7 @@ fn main(rt: HostRuntime) -> ExitCode {
         Ok(()) => ExitCode::SUCCESS,
         Err(fault) => {
             let why = fault.text();
-            let _ = eprintln!(&rt; "canary_bench: {why}");
+            let _ = eprintln!(&rt; "canary_tools: {why}");
             ExitCode::FAILURE
         }
     }
@@ -48,6 +52,7 @@ fn number(word: &str) -> Result<u32, Fault> {
 
 fn measure(rt: &HostRuntime, words: &[String]) -> Result<(), Fault> {
     let Some(subject) = word(words, 1) else {
+        yaml::answer_all(rt)?;
         return Ok(());
     };
     let rounds = number(word(words, 2).unwrap_or(""))?;

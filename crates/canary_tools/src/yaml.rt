@@ -9,7 +9,6 @@
 //!   stands; a step is a key, or a place of a sequence
 //!
 //! What is not read is a line of `!` and why.
-#![tactic(auto)]
 
 use canary_yaml::fault::Fault;
 use canary_yaml::places::{Place, Step, place_of};
@@ -18,7 +17,8 @@ use serde_json::Value;
 use std::alloc::Global;
 use std::io::{self, BufRead, BufReader};
 
-fn main(rt: HostRuntime) -> io::Result<()> {
+/// Answers each line of standard input.
+pub fn answer_all(rt: &HostRuntime) -> io::Result<()> {
     for line in BufReader::new(rt.alloc(), rt.reader())?.lines(rt.alloc()) {
         let answer = answer_to(rt.alloc(), line?.as_str())?;
         println!(rt; "{answer}")?;

@@ -1,13 +1,12 @@
 //! The requests that fill a book, stream by stream.
 
-use crate::plans::{self, Size, USUAL};
+use crate::plans::{self, Size, command, name};
 use canary_base::moments::Moment;
 use canary_base::names::Name;
 use canary_base::numbers::Number;
 use canary_once::event::Request;
 use canary_plan::command::Command;
 use canary_release::reply::ReplyStatus;
-use canary_testing::asked::{command_on, name};
 use std::alloc::{AllocError, Global};
 
 /// Which requests are settled, one after another. But for `Reports`, each service has the usual
@@ -42,6 +41,9 @@ const BEFORE_REPORTS: u32 = 3;
 
 // Seconds from one request to the next: the interval of the metric.
 const STEP: u64 = 60;
+
+// The first moment, 2026-01-01T00:00:00Z.
+const BEGIN: u64 = 1_767_225_600;
 
 const ONE_ANALYSIS: Size = Size {
     steps: 1,
@@ -121,8 +123,8 @@ impl Stream {
 
     fn command(self, alloc: Global, place: u32) -> Option<Command> {
         let service = self.service(alloc, place)?;
-        let text = self.text(alloc, place).ok()?;
-        command_on(alloc, service, text.as_str())
+        let text = self.text(alloc, place, service.as_str()).ok()?;
+        command(alloc, text.as_str())
     }
 
     // The service of the request at that place.
@@ -136,12 +138,12 @@ impl Stream {
     }
 
     // What the request at that place asks of its service.
-    fn text(self, alloc: Global, place: u32) -> Result<String, AllocError> {
+    fn text(self, alloc: Global, place: u32, service: &str) -> Result<String, AllocError> {
         match self {
             Stream::One | Stream::Callers => in_turn(alloc, place),
-            Stream::Services => String::from_str(alloc, on_many(place)),
-            Stream::Names => String::from_str(alloc, USUAL),
-            Stream::Unknown => String::from_str(alloc, "promote"),
+            Stream::Services => on_many(alloc, place, service),
+            Stream::Names => plans::usual(alloc, service),
+            Stream::Unknown => plans::plain(alloc, "promote", service),
             Stream::Reports => reporting(alloc, place),
         }
     }
@@ -168,22 +170,22 @@ fn numbered(alloc: Global, word: &str, number: u32) -> Option<Name> {
 // with a number above the place.
 fn in_turn(alloc: Global, place: u32) -> Result<String, AllocError> {
     if place == 0 {
-        return String::from_str(alloc, USUAL);
+        return plans::usual(alloc, "web");
     }
     match place % 4 {
-        1 => numbered_text(alloc, "start v", place.saturating_add(1)),
-        2 => String::from_str(alloc, "tick"),
-        _ => String::from_str(alloc, "promote"),
+        1 => plans::start(alloc, place.saturating_add(1)),
+        2 => plans::plain(alloc, "tick", "web"),
+        _ => plans::plain(alloc, "promote", "web"),
     }
-}
-
-fn numbered_text(alloc: Global, text: &str, number: u32) -> Result<String, AllocError> {
-    format!(in alloc; "{text}{number}")
 }
 
 // A service is registered, or time passes on one of those that are there.
-fn on_many(place: u32) -> &'static str {
-    if place % 2 == 0 { USUAL } else { "tick" }
+fn on_many(alloc: Global, place: u32, service: &str) -> Result<String, AllocError> {
+    if place % 2 == 0 {
+        plans::usual(alloc, service)
+    } else {
+        plans::plain(alloc, "tick", service)
+    }
 }
 
 // The number of that service. Among those that are there it leaps about as they grow.
@@ -201,13 +203,11 @@ fn reporting(alloc: Global, place: u32) -> Result<String, AllocError> {
     match place {
         0 => plans::template(alloc, 1, 1_000_000),
         1 => plans::register(alloc, ONE_ANALYSIS),
-        2 => String::from_str(alloc, "start v2"),
-        _ => report_at(alloc, place - BEFORE_REPORTS + 1, after(place)),
+        2 => plans::start(alloc, 2),
+        _ => plans::report_at(
+            alloc,
+            place - BEFORE_REPORTS + 1,
+            BEGIN.saturating_add(after(place)),
+        ),
     }
-}
-
-// A report of one measurement, a success taken so many seconds after the moment at which all
-// begins.
-fn report_at(alloc: Global, ordinal: u32, after: u64) -> Result<String, AllocError> {
-    format!(in alloc; "report 1 m0:{ordinal}:{after}:0")
 }

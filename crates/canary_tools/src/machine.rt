@@ -2,7 +2,7 @@
 //! service's strategy: no register, and nothing is read or written.
 
 use crate::fault::Fault;
-use crate::plans::{self, Size};
+use crate::plans::{self, Size, command};
 use crate::timing::{Batch, Work, quickest};
 use canary_base::moments::Moment;
 use canary_plan::command::Command;
@@ -12,7 +12,6 @@ use canary_plan::templates::Templates;
 use canary_release::decide::{Decision, DeskChange, decide};
 use canary_release::reply::ReplyStatus;
 use canary_release::service::Service;
-use canary_testing::asked::command;
 use std::alloc::{AllocError, Global};
 
 // What is decided, cell by cell: the service is registered, a release is started, and then, at the
@@ -174,9 +173,9 @@ fn text_of(alloc: Global, size: Size, cell: u32) -> Result<String, AllocError> {
     let all = size.metrics.max(1);
     match cell {
         0 => plans::register(alloc, size),
-        1 => String::from_str(alloc, "start v2"),
-        2 => String::from_str(alloc, "tick"),
-        3 => String::from_str(alloc, "promote"),
+        1 => plans::start(alloc, 2),
+        2 => plans::plain(alloc, "tick", "web"),
+        3 => plans::plain(alloc, "promote", "web"),
         4 => plans::good_report(alloc, 1),
         5 => plans::good_report(alloc, all),
         _ => plans::doubtful_report(alloc, all),
