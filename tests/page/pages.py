@@ -9,6 +9,7 @@ import subprocess
 import sys
 import time
 
+import records
 import stories
 import textfile
 from outline import Broken, outline, tree_of
@@ -326,6 +327,14 @@ def try_textfile(program, folder):
             textfile.look_at_alerts()
 
 
+def try_records(program, folder):
+    """The files in JSON beside a page."""
+    try:
+        records.try_all(program, folder, make_desk)
+    except (records.Wrong, ValueError, KeyError, UnicodeDecodeError) as error:
+        fail(f"--json: {error}")
+
+
 def main(program, folder, names):
     known = {case.__name__: case for case in stories.CASES}
     for name in names:
@@ -343,6 +352,7 @@ def main(program, folder, names):
         try_watch(program, folder)
         try_faults(program, folder)
         try_textfile(program, folder)
+        try_records(program, folder)
     print(f"page: {len(names or known)} desks drawn", file=sys.stderr)
 
 

@@ -29,6 +29,7 @@ pub mod pipe;
 pub mod progress;
 mod seat;
 pub mod serve;
+mod shelf;
 pub mod status;
 mod watched;
 mod work;
