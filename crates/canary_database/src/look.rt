@@ -98,7 +98,7 @@ fn look_at_tables<S: Alter + Drop, W: Write, F: Write>(
     match sight {
         Sight::Status(drawing) => status_of(rt, &mut book, drawing, now),
         Sight::Page { every } => {
-            let mut shown = Shown::services(rt.alloc(), errors, is_terminal);
+            let mut shown = Shown::services(rt, errors, is_terminal);
             let drawn = page_of(rt, &mut book, View { now, every }, output, &mut shown);
             shown.end();
             drawn?;
