@@ -67,7 +67,8 @@ packages_of() {
 # What the gate does not try without the tool $1.
 left_out_without() {
     case $1 in
-        cc) echo "cc: refused allocations (tests/allocations/run)" ;;
+        cc) echo "cc: refused allocations (tests/allocations/run), and what a slow program says" \
+            "(tests/files/run)" ;;
         strace) echo "strace: calls that fail (tests/cli/run, tests/disk/run, tests/migrate/run," \
             "tests/client/run), power cuts (the last three), a client and a desk killed at each" \
             "call (tests/client/run), how much a desk writes at once (tests/listener/run), and" \

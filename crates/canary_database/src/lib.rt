@@ -25,6 +25,7 @@ pub mod migrate;
 mod named;
 pub mod open;
 pub mod page;
+mod pause;
 pub mod pipe;
 pub mod progress;
 mod seat;

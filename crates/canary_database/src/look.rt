@@ -106,7 +106,7 @@ fn look_at_tables<S: Alter + Drop, W: Write, F: Write>(
     match sight {
         Sight::Status(drawing) => status_of(rt, &mut book, drawing, now),
         Sight::Page { every, shelf } => {
-            let mut shown = Shown::services(rt.alloc(), errors, is_terminal);
+            let mut shown = Shown::services(rt, errors, is_terminal);
             let view = View { now, every };
             let drawn = page_of(rt, &mut book, view, shelf, output, &mut shown);
             shown.end();
