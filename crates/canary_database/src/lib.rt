@@ -30,5 +30,6 @@ pub mod progress;
 mod seat;
 pub mod serve;
 pub mod status;
+pub mod succeed;
 mod watched;
 mod work;
