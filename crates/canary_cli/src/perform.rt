@@ -125,14 +125,6 @@ pub fn perform<R: Read, W: Write, F: Write>(
     ensures quiet { result ≡ DONE
         → (AsksForOneThatTells (map string_bytes words.now) → ⊥) → errors.new ≡ errors.old }
 {
-    if words.len() == 4 && words[0].as_str() == "succeed" {
-        let (old, new) = (words[2].as_str(), words[3].as_str());
-        let done = canary_database::succeed::succeed(rt, old, new, output, errors, terminals.errors);
-        return match done {
-            Ok(()) => DONE,
-            Err(fault) => fail(fault, errors),
-        };
-    }
     match read_words(rt.alloc(), words) {
         Ok(program) => run_placed(rt, program, input, output, errors, terminals),
         Err(fault) => turn_away(&fault, output, errors),

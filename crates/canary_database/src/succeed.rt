@@ -2,6 +2,7 @@
 use crate::open::{fault_of, find, has_other_bytes, is_blank, names_of, open};
 use crate::progress::Shown;
 use canary_backup::copying::Part;
+use canary_base::error::Memory;
 use canary_base::moments::Moment;
 use canary_base::names::Name;
 use canary_connection::connect::connect;
@@ -129,14 +130,14 @@ fn template_names<S: Alter>(alloc: Global, conn: &mut Connection<S>) -> Result<V
         return Err(Fault::OtherSchema);
     }
     match revision_keys(conn, alloc) {
-        Ok(keys) => first_names(alloc, keys.as_slice()),
+        Ok(keys) => Ok(first_names(alloc, keys.as_slice())?),
         Err(ReadFault::Memory) => Err(Fault::Memory),
         Err(ReadFault::Storage) => Err(Fault::Storage),
         Err(ReadFault::Broken) => Err(Fault::BrokenRow),
     }
 }
 
-fn first_names(alloc: Global, keys: &[RevisionKey]) -> Result<Vec<Name>, Fault> {
+fn first_names(alloc: Global, keys: &[RevisionKey]) -> Result<Vec<Name>, Memory> {
     let mut names = Vec::new(alloc);
     for key in keys {
         if key.revision == 1 {

@@ -1,3 +1,3 @@
 pub mod Faults
 pub mod Programs
-pub mod Succession
+pub mod Successions

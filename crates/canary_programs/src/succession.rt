@@ -6,10 +6,10 @@ ghost use Rattle.canary_files.specs.Exporting.{Stays};
 ghost use Rattle.canary_release.specs.Services.{is_going};
 ghost use Rattle.canary_once.specs.Single.{request_of};
 ghost use Rattle.canary_programs.specs.declared.fault.Fault.TheVariants as fault;
-ghost use Rattle.canary_programs.specs.Succession.{is_going_on, are_going_on, stand_at};
-ghost use Rattle.canary_programs.specs.Succession.{spec_again, template_again, service_again};
-ghost use Rattle.canary_programs.specs.Succession.{commands_again, requests_from};
-ghost use Rattle.canary_programs.specs.Succession.{requests_again, IsAccepted, Succeeds};
+ghost use Rattle.canary_programs.specs.Successions.{is_going_on, are_going_on, stand_at};
+ghost use Rattle.canary_programs.specs.Successions.{spec_again, template_again, service_again};
+ghost use Rattle.canary_programs.specs.Successions.{commands_again, requests_from};
+ghost use Rattle.canary_programs.specs.Successions.{requests_again, IsAccepted, Succeeds};
 
 use crate::fault::Fault;
 use crate::show::name_of;
@@ -182,10 +182,16 @@ fn made_again(alloc: Global, service: &Service, now: Moment) -> Result<ServiceSp
     ensures made { IfOk result (λ spec. spec ≡ spec_again (stand_at now service.now)) }
 {
     let passed = service.passed(alloc, now)?;
-    if passed.service.state() == State::InProgress {
+    if is_going(passed.service.state()) {
         return Err(Fault::InProgress);
     }
     Ok(spec_again(alloc, &passed.service)?)
+}
+
+fn is_going(state: State) -> bool
+    ensures { result ≡ is_going state }
+{
+    matches!(state, State::InProgress)
 }
 
 // The service as it is asked for anew: with its strategy, and its stable version.
@@ -225,7 +231,8 @@ fn requests_of(
     let mut requests = Listed::of(Vec::new(alloc));
     let mut number = 1;
     for command in commands.into_vec() {
-        requests.push(request_of(caller, number, command, now)?)?;
+        let request = request_of(caller, number, command, now)?;
+        requests.push(request)?;
         number += 1;
     }
     Ok(requests)
