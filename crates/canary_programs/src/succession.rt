@@ -180,6 +180,7 @@ fn made_again(alloc: Global, service: &Service, now: Moment) -> Result<ServiceSp
     ensures going { result ≡ Err fault.InProgress
         → is_going (stand_at now service.now).state ≡ true }
     ensures made { IfOk result (λ spec. spec ≡ spec_again (stand_at now service.now)) }
+    ensures unasked { result ≢ Err fault.Storage }
 {
     let passed = service.passed(alloc, now)?;
     if is_going(passed.service.state()) {
