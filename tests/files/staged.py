@@ -220,7 +220,8 @@ def try_failing_successions(program, folder):
     for name in (new, new + "-wal"):
         os.remove(name)
     syncs = names.count("fsync")
-    for injected, word in (("link:error=EPERM:when=1", "file"), ("link:error=EEXIST:when=2", "file"),
+    for injected, word in (("link:error=EPERM:when=1", "file"),
+                           ("link:error=EEXIST:when=2", "file"),
                            (f"fsync:error=EIO:when={syncs}", "file"),
                            (f"fsync:error=EIO:when={syncs - 1}", "file"),
                            ("mkdir:error=EACCES:when=1", "file"),

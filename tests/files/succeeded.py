@@ -3,9 +3,11 @@ makes of a desk, when it refuses to, and that the old file stays as it was."""
 import json
 import os
 import re
+import shutil
 import sqlite3
 import subprocess
 import sys
+import tempfile
 import time
 from contextlib import closing
 
@@ -16,7 +18,8 @@ from story_words import B, Wrong, answer, command, expect, put, replies
 
 SUCCEEDED = (0, b"succeeded\n", b"")
 HEADER = b"NAME  STATUS  STEP  WEIGHT  VERSION  STABLE\n"
-MOMENT = rb"\d{4}-\d\d-\d\dT\d\d:\d\d:\d\dZ"
+# What changes of a page as time passes.
+MOMENTS = rb'as it stood at <time .*?</time>|\(\d+ days\)|<text class="tick end".*?</text>'
 # Three templates, of which one has three revisions and one no service; and six services: one that
 # is done, one that was aborted, one of which nobody released anything, one whose pause has ended by
 # now, one that waits for a measurement, and one that waits for somebody.
@@ -74,8 +77,12 @@ def succeed(program, old, new, **more):
 
 
 def rows(file, statement):
-    with closing(sqlite3.connect(f"file:{file}?mode=ro", uri=True)) as found:
-        return found.execute(statement).fetchall()
+    """What a statement finds in a copy of a file and its log."""
+    with tempfile.TemporaryDirectory() as place:
+        for end in ("", "-wal"):
+            shutil.copy(file + end, os.path.join(place, f"copy{end}"))
+        with closing(sqlite3.connect(os.path.join(place, "copy"))) as found:
+            return found.execute(statement).fetchall()
 
 
 def newest(file):
@@ -102,7 +109,7 @@ def seen(program, file):
     expect(f"page of {file}", page[::2], (0, b""))
     asked = [told([program, *words, "--db", file, *more, name]) for name in STABLE
              for words, more in ((["history"], []), (["export"], ["--caller", "copy"]))]
-    return asked, re.sub(MOMENT, b"", page[1]), pair(file)
+    return asked, re.sub(MOMENTS, b"", page[1]), pair(file)
 
 
 def try_grown(program, folder):
@@ -146,9 +153,14 @@ def want_new(program, old, new, begun):
            [(name, f"created {STABLE[name][0]}") for name in sorted(STABLE)])
     late = [at for _, at, _ in made if not begun <= at <= int(time.time())]
     expect("moments that are not now", late, [])
-    kept = "SELECT name, json_extract(spec, '$.service.manifest') FROM service ORDER BY name"
-    for (name, one), (same, other) in zip(rows(old, kept), rows(new, kept)):
-        expect(f"the strategy of {name}", (same, one is not None, other), (name, True, one))
+    for name, made in specs(new).items():
+        expect(f"the service {name}", made, {**specs(old)[name], "version": STABLE[name][0]})
+
+
+def specs(file):
+    """What each service was asked for as, as it is kept."""
+    return {name: json.loads(spec)["service"]
+            for name, spec in rows(file, "SELECT name, spec FROM service")}
 
 
 def want_released(program, new):
@@ -174,7 +186,8 @@ def try_succeeded_again(program, file):
     """The new file can be succeeded, too."""
     again = file + ".again"
     expect("again", succeed(program, file, again), SUCCEEDED)
-    expect("again: the services", stands(program, again), [healthy(name) for name in sorted(STABLE)])
+    expect("again: the services", stands(program, again),
+           [healthy(name) for name in sorted(STABLE)])
     expect("again: the templates", newest(again), newest(file))
 
 
@@ -217,7 +230,7 @@ def try_names(program, folder):
     left = sorted(os.listdir(place))
     before = pair(old)
     for name in ("file", "log", "folder", "fifo", "dangling", "link", "other", "old.db",
-                 "old.db-wal", "old.db-journal", "./old.db", "folder/../old.db", "link-wal",
+                 "old.db-wal", "old.db-journal", "./old.db", "folder/../old.db",
                  "none/new", "file/new", "folder/", ""):
         expect(f"the name {name!r}", succeed(program, "old.db", name, cwd=place), FILE_FAULT)
     for name in (":memory:", "file:new"):
