@@ -444,6 +444,35 @@ def try_backup(trial, share):
     share.refuse_each("backup", refuse)
 
 
+def try_succeed(trial, share):
+    """`succeed` makes a new file, or leaves none; the old one is as it was."""
+    remove(trial.file)
+    made = trial.converse([*STILL_AT_B, "--db", trial.file], [asked for asked, _ in BEGUN[:2]])
+    expect("succeed: an old file", made[1], (0, b"", b""))
+    words = ["succeed", "--db", trial.file, trial.copy]
+    folder, old = os.path.dirname(trial.copy), read(trial.file)
+
+    def left():
+        return sorted(name for name in os.listdir(folder) if not name.endswith(".counted"))
+
+    def refuse(number):
+        remove(trial.copy)
+        before = left()
+        found = trial.run(words, number)
+        asked = trial.asked()
+        if found == (0, b"succeeded\n", b""):
+            shown = trial.run(["status", "--db", trial.copy])
+            expect("succeed: a new file", (shown[0], b"\nweb   Healthy  2/2" in shown[1]), (0, True))
+        else:
+            expect(f"succeed: when allocation {number} is refused", found,
+                   (1, b"", OUT_OF_MEMORY))
+            expect("succeed: what is left", left(), before)
+        expect("succeed: the old file", read(trial.file), old)
+        return asked
+
+    share.refuse_each("succeed", refuse)
+
+
 def try_page_of_served(trial, share):
     """`page` of a file that a desk has open makes a page, or leaves none, and leaves no copy."""
     make_files(trial)
@@ -476,7 +505,7 @@ def try_page_of_served(trial, share):
 
 
 CASES = (try_lines, try_stream, try_tables, try_file, try_opened, try_serve, try_import, try_shown,
-         try_client, try_page, try_backup, try_page_of_served)
+         try_client, try_page, try_backup, try_succeed, try_page_of_served)
 
 
 def main():

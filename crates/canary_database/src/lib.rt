@@ -32,5 +32,6 @@ mod seat;
 pub mod serve;
 mod shelf;
 pub mod status;
+pub mod succeed;
 mod watched;
 mod work;

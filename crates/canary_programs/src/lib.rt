@@ -20,3 +20,4 @@ pub mod page;
 pub mod pipe;
 pub mod serve;
 pub mod show;
+pub mod succession;
