@@ -197,8 +197,11 @@ fn is_copy_until(rt: &HostRuntime, entry: &DirEntry, newest: &str) -> Result<boo
 // Whether a regular file of this user's stands there, with a log that is one, too, or none.
 fn is_copy(rt: &HostRuntime, path: &str) -> Result<bool, BackupFault> {
     let log = log_of(rt.alloc(), path)?;
-    Ok(is_own_file(fs::symlink_metadata(rt, path))
-        && (is_missing(rt, log.as_str()) || is_own_file(fs::symlink_metadata(rt, log.as_str()))))
+    Ok(
+        is_own_file(fs::symlink_metadata(rt, path))
+            && (is_missing(rt, log.as_str())
+                || is_own_file(fs::symlink_metadata(rt, log.as_str()))),
+    )
 }
 
 fn is_own_file(found: io::Result<Metadata>) -> bool {
