@@ -2,7 +2,7 @@
 from agents import (
     agent_of, analysis, desk_for, measured, metric, of_web, provider, reply, rollout, template,
     wait_measured, wait_status, want_once)
-from world import Wrong, expect
+from world import expect
 
 # What a provider says of the metric of each template, and what is reported of it.
 SAID = {"beside": "0.25", "within": "0.75"}
@@ -42,6 +42,5 @@ def try_two_runs(world):
     of_run = {run: {each.metric for each in found if each.run == run} for run in (1, 2)}
     expect("metrics of each run", sorted(map(len, of_run.values())), [1, 1])
     expect("measurements of the step", sum(each.metric == "within.e6" for each in found), COUNT)
-    if refused := [line for line in lines if "phase" not in line]:
-        raise Wrong(f"the desk refused reports: {refused}")
+    expect("phases, or codes of refusals", {line["phase"] for line in lines}, {"Successful"})
     return f"{len(found)} measurements of two runs"
