@@ -15,6 +15,7 @@ use canary_once::book::{Book, Receipt, Settlement};
 use canary_once::memory::MemoryBook;
 use canary_plan::command::Command;
 use canary_plan::template::{BadCondition, ConditionKey};
+use canary_plan::template_spec::TemplateSpec;
 use canary_plan::templates::Templates;
 use canary_release::decide::{Decision, DeskChange, decide};
 use canary_release::effect::{Effect, Recorded};
@@ -56,8 +57,8 @@ const REPLY: &str = concat!(
 
 /// What the report comes to; none where memory was refused.
 fn decided(alloc: Global, desk: &Desk) -> Option<Decision> {
-    let asked = command(alloc, FAILED)?;
     let at = moment("60")?;
+    let asked = command(alloc, FAILED)?;
     decide(alloc, &desk.templates, Some(&desk.service), at, &asked).ok()
 }
 
@@ -159,13 +160,17 @@ const BAD: &str = concat!(
     r#""initialDelay":0,"interval":null,"name":"n","successCondition":"result>1"}],"name":"t"}}"#
 );
 
-fn is_bad(alloc: Global) -> Option<bool> {
+fn has_bad(alloc: Global, spec: &TemplateSpec) -> Option<bool> {
     let bad = BadCondition {
         metric: 1,
         key: ConditionKey::Failure,
     };
+    Some(spec.bad_condition(alloc).ok()? == Some(bad))
+}
+
+fn is_bad(alloc: Global) -> Option<bool> {
     match command(alloc, BAD)? {
-        Command::Template(spec) => Some(spec.bad_condition(alloc).ok()? == Some(bad)),
+        Command::Template(spec) => has_bad(alloc, &spec),
         _ => Some(false),
     }
 }
