@@ -13,7 +13,9 @@ from parts import (
     want_shares,
 )
 from silence import variables
-from world import Caller, Wrong, add, environment, expect, free_port, process, wait_until
+from world import (
+    Caller, Wrong, add, environment, expect, free_port, install, process, wait_until,
+)
 
 # How many seconds a change may take to come about: on a machine with much else to do, many.
 LONGEST = 40
@@ -143,7 +145,7 @@ def try_haproxy_words(world):
         with follower(folder, spoken, *words_for(proxy)):
             want_weights("Degraded", proxy, 100, 0)
         # a canary watch that ends, after which the follower is to be started again
-        (folder / "bin" / "canary").write_text("#!/bin/sh\nexit 5\n", encoding="utf-8")
+        install(folder / "bin" / "canary", text="#!/bin/sh\nexit 5\n")
         with follower(folder, spoken, *words_for(proxy)) as (started, said):
             expect("it ends", started.wait(LONGEST), 1)
             expect("it says why", said(), "v2 50 -> 0\ncanary watch has ended\n")

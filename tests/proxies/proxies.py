@@ -81,8 +81,7 @@ def main():
     for number in (signal.SIGTERM, signal.SIGINT, signal.SIGHUP):
         signal.signal(number, end_all)
     failed = names
-    # What failed is tried once more, alone: a part starts programs that it has just written, which
-    # fails ("text file busy") if another one starts a program in that moment.
+    # What failed is tried once more, alone: all at a time they may be too much for the machine.
     for turn, beside in (("first", len(PARTS)), ("again", 1)):
         (folder / turn).mkdir()
         world = World(os.path.realpath(program), str(folder / turn), is_whole == "1", 0)
