@@ -38,4 +38,7 @@ class Handler(http.server.BaseHTTPRequestHandler):
         """Nothing."""
 
 
-http.server.ThreadingHTTPServer(("127.0.0.1", PORT), Handler).serve_forever()
+server = http.server.ThreadingHTTPServer(("127.0.0.1", PORT), Handler)
+# A router that is killed ends its connections.
+server.handle_error = lambda *_: None
+server.serve_forever()
