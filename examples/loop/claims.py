@@ -93,10 +93,10 @@ def stays_open(it):
 
 
 def is_late(it):
-    """Its measurement has been due for longer than the interval, a second."""
-    view = it.back["beside"]
-    if view.stand["moment"] <= view.run(-1)["metrics"][0]["due"] + 1:
-        raise Wrong("no measurement is late")
+    """One was taken when it had been due for longer than the interval, a second."""
+    taken = it.loop.taken("beside", it.back["beside"].run(-1)["run"])
+    if all(last + 2 >= each for last, each in zip(taken, taken[1:])):
+        raise Wrong(f"no measurement was late: {taken}")
 
 
 def ends_unmeasured(it):

@@ -2,6 +2,7 @@
 [PART..]. README.md beside it says what it shows. It ends by the status 1 if something is otherwise
 than docs/OPERATIONS.md, "If something dies", has it."""
 import collections
+import contextlib
 import dataclasses
 import http.client
 import json
@@ -88,7 +89,7 @@ class Dying(Loop):
     def __init__(self, program, folder, away):
         super().__init__(program, folder)
         self.away, self.pause = away, max(2, away // 2)
-        self.stable, self.new, self.count = "v1", "v2", 0
+        self.stable, self.new, self.count, self.copies = "v1", "v2", 0, 0
 
     def write_files(self):
         super().write_files()
@@ -245,7 +246,7 @@ class Dying(Loop):
         self.tell_logs()
         for words in want_row(row, it):
             print(f"  seen, {words}")
-        self.end(it)
+        self.end()
 
     def stay_away(self, it, begun):
         while (seconds := time.monotonic() - begun) < self.away or not self.is_seen(it):
@@ -269,7 +270,7 @@ class Dying(Loop):
         print(f"  after it: web is {wanted} {time.monotonic() - begun:.0f} s later, and {whole} has"
               " all requests")
 
-    def end(self, it):
+    def end(self):
         """Releases the new version for good, wherever it stands, and looks whether all that was
         asked was settled once."""
         for service in ("web", "beside", "unmeasured"):
@@ -280,18 +281,34 @@ class Dying(Loop):
         self.stable, self.new = self.new, self.stable
         wait_until(f"{self.stable} has all requests",
                    lambda: self.weights() == {"v1": 0, "v2": 0, "v3": 0, self.stable: 100})
-        print(f"  settled once each, {self.want_once(it)}")
+        print(f"  settled once each, {self.want_once()}")
 
     # ---- what is settled
 
-    def want_once(self, it):
+    @contextlib.contextmanager
+    def records(self):
+        """The desk's tables, out of a copy of its file."""
+        self.copies += 1
+        copy = f"copy-{self.copies}.db"
+        expect("canary backup", self.run("backup", "--db", "desk.db", copy).returncode, 0)
+        with contextlib.closing(sqlite3.connect(self.folder / copy)) as records:
+            yield records
+        for path in self.folder.glob(f"{copy}*"):
+            path.unlink()
+
+    def taken(self, service, run):
+        """When the measurements of a run were taken."""
+        with self.records() as records:
+            rows = records.execute("SELECT taken FROM measurement WHERE service = ? AND run = ?"
+                                   " ORDER BY place", (service, run)).fetchall()
+        return [taken for taken, in rows]
+
+    def want_once(self):
         """Each journal has the replies that the desk keeps, byte for byte, and the history has each
         command that was answered 200 once, and each measurement."""
-        copy = f"copy-{it.name}.db"
-        expect("canary backup", self.run("backup", "--db", "desk.db", copy).returncode, 0)
         journals = [*self.folder.glob("*.journal"), *self.folder.glob("journals/agent-*")]
         found = [self.journal(path) for path in journals]
-        with sqlite3.connect(self.folder / copy) as records:
+        with self.records() as records:
             for journal in found:
                 rows = records.execute("SELECT number, status, body FROM kept WHERE caller = ?"
                                        " ORDER BY number", (journal.caller,)).fetchall()
@@ -299,7 +316,6 @@ class Dying(Loop):
                 expect(f"{journal.caller}: pending, kept", (journal.pending, kept), (None, rows))
             lines = [line.split(" ")[0] for line, in records.execute("SELECT line FROM history")]
             (measured,), = records.execute("SELECT count(*) FROM measurement")
-        records.close()
         return compare(found, collections.Counter(lines), measured)
 
 
