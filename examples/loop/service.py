@@ -38,7 +38,12 @@ class Handler(http.server.BaseHTTPRequestHandler):
         """Nothing."""
 
 
-server = http.server.ThreadingHTTPServer(("127.0.0.1", PORT), Handler)
-# A router that is killed ends its connections.
-server.handle_error = lambda *_: None
-server.serve_forever()
+class Server(http.server.ThreadingHTTPServer):
+    # Of more connections that wait to be taken the system lets the router try again, a second later.
+    request_queue_size = 128
+
+    def handle_error(self, *_):
+        """Nothing: a router that is killed ends its connections."""
+
+
+Server(("127.0.0.1", PORT), Handler).serve_forever()
