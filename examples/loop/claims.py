@@ -136,7 +136,8 @@ SAME = {PAUSE: [("the same, if a background analysis is open", aborts_beside),
 # Of each row, by its column: words that have to stand there, and what has to be seen for them.
 CLAIMS = {
     "the desk": {
-        STEP: [("waits: nothing is reported", waits), ("after it the agent goes on", goes_on_after)],
+        STEP: [("waits: nothing is reported", waits),
+               ("after it the agent goes on", goes_on_after)],
         PAUSE: [("ends at its moment all the same", ends_at_its_moment),
                 ("all pauses have ended", ends_at_its_moment)],
         BACKGROUND: [("its run stays open", stays_open),

@@ -53,7 +53,8 @@ class View:
         return list(self.runs.values())[place]
 
     def measured(self):
-        return sum(metric["measurements"] for run in self.runs.values() for metric in run["metrics"])
+        return sum(metric["measurements"]
+                   for run in self.runs.values() for metric in run["metrics"])
 
 
 class Round:
@@ -351,7 +352,8 @@ def main():
         sys.exit(f"loop: the parts are {' '.join(ROWS)}")
 
     def kill_each(loop):
-        print("time           web at the desk     | HAProxy's     | who answered                | errors")
+        print("time           web at the desk     | HAProxy's     | who answered                |"
+              " errors")
         for name in names:
             loop.play(name)
         loop.draw()

@@ -39,7 +39,7 @@ class Handler(http.server.BaseHTTPRequestHandler):
 
 
 class Server(http.server.ThreadingHTTPServer):
-    # Of more connections that wait to be taken the system lets the router try again, a second later.
+    # If more connections wait to be taken, the router tries again a second later.
     request_queue_size = 128
 
     def handle_error(self, *_):
