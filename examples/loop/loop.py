@@ -94,10 +94,13 @@ class Loop:
         }[name]
 
     def start(self, name):
+        words = [str(word) for word in self.words_of(name)]
         with open(self.folder / f"{name}.log", "ab") as log:
             self.running[name] = subprocess.Popen(
-                [str(word) for word in self.words_of(name)], cwd=self.folder, env=self.variables,
-                stdin=subprocess.DEVNULL, stdout=log, stderr=subprocess.STDOUT)
+                words, cwd=self.folder, env=self.variables, stdin=subprocess.DEVNULL, stdout=log,
+                stderr=subprocess.STDOUT)
+        short = [os.path.basename(word) for word in words if word != sys.executable]
+        print(f"          {name} started: {' '.join(short)}", flush=True)
 
     def kill(self, name):
         """Kills a part as `kill -9` does."""
@@ -211,24 +214,31 @@ class Loop:
         print(f"{time.strftime('%H:%M:%S')}  {stand['status']:11} step {stand['step']}"
               f"  {stand['version']} {stand['weight']:3}%  | "
               f"{' '.join(f'{name} {weight:>3}' for name, weight in weights.items())}  | "
-              f"{shares_of(answered, errors):24} | {self.success()}", flush=True)
+              f"{sum(answered.values()):3}: {shares_of(answered, errors):19} | {self.success()}",
+              flush=True)
         for line in self.said("agent"):
             print(f"          agent: {line}", flush=True)
-        return stand
+        return stand, [*answered, *(name for name in errors if name != "500")]
 
     def release(self, stable, version, wanted):
         """Releases a version, and shows each second until it has ended so."""
         self.deploy({stable: "stable", version: "canary"})
         self.do("start", "web", version)
         until = time.monotonic() + 70
-        while time.monotonic() < until:
-            stand = self.show()
-            if stand["status"] in ("Healthy", "Degraded"):
-                for _ in range(3):
-                    self.show()
-                break
+        while (stand := self.show()[0])["status"] == "Progressing":
+            if time.monotonic() > until:
+                raise Wrong(f"the release of {version} does not end")
         if (stand["status"], stand["version"]) != (wanted, version):
             raise Wrong(f"{version} is {stand['status']}, and not {wanted}")
+        self.show_end(version if wanted == "Healthy" else stable)
+
+    def show_end(self, version):
+        """Shows three seconds, or as many as it takes until this version answers alone."""
+        who = [self.show()[1] for _ in range(3)]
+        while who[-1] != [version]:
+            if len(who) > 20:
+                raise Wrong(f"others than {version} still answer: {who[-1]}")
+            who.append(self.show()[1])
 
     def draw(self):
         """Writes the page of the desk's file."""
@@ -259,7 +269,7 @@ def play(loop, act):
 
 def two_releases(loop):
     print("time      desk                                  | HAProxy's weights   |"
-          " who answered             | Prometheus")
+          " answers: by whom         | Prometheus")
     loop.release("v1", "v2", "Healthy")
     loop.release("v2", "v3", "Degraded")
     loop.draw()
