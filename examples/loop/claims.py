@@ -119,12 +119,12 @@ def measures_beside(it):
 
 
 def no_client_sees_it(it):
-    expect("errors", it.errors(), {})
+    expect("errors", it.errors(it.seconds), {})
 
 
 def clients_see_it(it):
-    """Each request but those of the other version."""
-    if not it.errors():
+    """HAProxy tries for some seconds before it answers an error."""
+    if not it.errors(it.seconds + it.later):
         raise Wrong("no client saw an error")
 
 

@@ -68,11 +68,10 @@ class Round:
         # Those of the time away, and those after it.
         self.seconds, self.later = [], []
 
-    def errors(self):
-        """The errors that clients saw, without those that a version answered. HAProxy tries for
-        some seconds before it answers one."""
+    def errors(self, seconds):
+        """The errors that clients saw then, without those that a version answered."""
         found = collections.Counter()
-        for second in self.seconds + self.later:
+        for second in seconds:
             found.update(second["errors"])
         return {name: count for name, count in found.items() if name != "500" and count}
 

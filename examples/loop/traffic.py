@@ -1,7 +1,7 @@
 """The clients of a service: traffic.py PORT REQUESTS. It sends so many requests a second. For each
 second it writes a line of JSON: how many each version answered, and how many ended in which error:
 the status of an answer that is none of a version's, or is 500; `none` if there was no answer within
-5 seconds."""
+10 seconds."""
 import collections
 import concurrent.futures
 import contextlib
@@ -17,7 +17,7 @@ answered, errors, lock = collections.Counter(), collections.Counter(), threading
 
 def send():
     try:
-        with contextlib.closing(http.client.HTTPConnection("127.0.0.1", PORT, timeout=5)) as one:
+        with contextlib.closing(http.client.HTTPConnection("127.0.0.1", PORT, timeout=10)) as one:
             one.request("GET", "/")
             reply = one.getresponse()
             status, body = reply.status, reply.read().decode()
@@ -40,8 +40,8 @@ def tell():
 
 
 def main():
-    # Of a service that is dead each request waits for 5 seconds.
-    with concurrent.futures.ThreadPoolExecutor(6 * REQUESTS) as clients:
+    # Of a service that is dead each request may wait for 10 seconds.
+    with concurrent.futures.ThreadPoolExecutor(11 * REQUESTS) as clients:
         begun, sent = time.monotonic(), 0
         while True:
             clients.submit(send)
