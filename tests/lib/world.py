@@ -83,6 +83,13 @@ def end(started):
     running.discard(started)
 
 
+def install(path, source="/dev/stdin", text=None):
+    """Makes a program of a text, or of another one, by a process of its own. If this process wrote
+    the file, one that another thread starts meanwhile would have it open for writing as well for a
+    moment, and as long as somebody has, the system runs it for nobody ("text file busy")."""
+    subprocess.run(["install", "-m", "755", source, path], input=text, text=True, check=True)
+
+
 def environment(**more):
     """The variables of this process, without those of the client, and with these."""
     kept = {name: value for name, value in os.environ.items() if not name.startswith("CANARY_")}
