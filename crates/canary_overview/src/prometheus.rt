@@ -150,24 +150,20 @@ impl Families {
     /// The text of all families.
     pub(crate) fn text(&self) -> Result<String, Memory> {
         let mut text = String::new(self.alloc);
-        for family in self.all() {
-            family.add_to(self.alloc, &mut text)?;
-        }
+        self.add_to(&mut text)?;
         Ok(text)
     }
 
-    fn all(&self) -> [&Family; 9] {
-        [
-            &self.info,
-            &self.status,
-            &self.weight,
-            &self.step,
-            &self.steps,
-            &self.held,
-            &self.open_runs,
-            &self.measurement_late,
-            &self.late,
-        ]
+    fn add_to(&self, text: &mut String) -> Result<(), Memory> {
+        self.info.add_to(self.alloc, text)?;
+        self.status.add_to(self.alloc, text)?;
+        self.weight.add_to(self.alloc, text)?;
+        self.step.add_to(self.alloc, text)?;
+        self.steps.add_to(self.alloc, text)?;
+        self.held.add_to(self.alloc, text)?;
+        self.open_runs.add_to(self.alloc, text)?;
+        self.measurement_late.add_to(self.alloc, text)?;
+        self.late.add_to(self.alloc, text)
     }
 }
 
