@@ -462,7 +462,8 @@ def try_succeed(trial, share):
         asked = trial.asked()
         if found == (0, b"succeeded\n", b""):
             shown = trial.run(["status", "--db", trial.copy])
-            expect("succeed: a new file", (shown[0], b"\nweb   Healthy  2/2" in shown[1]), (0, True))
+            expect("succeed: a new file", (shown[0], b"\nweb   Healthy  2/2" in shown[1]),
+                   (0, True))
         else:
             expect(f"succeed: when allocation {number} is refused", found,
                    (1, b"", OUT_OF_MEMORY))
