@@ -63,18 +63,15 @@ fn is_copy_name(name: &str) -> bool
     is_of_shape(SHAPE.as_bytes(), name.as_bytes())
 }
 
+// Whether the bytes have this shape.
 fn is_of_shape(shape: &[u8], bytes: &[u8]) -> bool
     ensures { result ≡ pointwise fits shape.now bytes.now }
 {
-    if shape.len() != bytes.len() {
-        return false;
-    }
-    for (shape, byte) in shape.iter().zip(bytes) {
-        if !fits(*shape, *byte) {
-            return false;
-        }
-    }
-    true
+    let (Some((first, shapes)), Some((byte, rest))) = (shape.split_first(), bytes.split_first())
+    else {
+        return shape.is_empty() && bytes.is_empty();
+    };
+    fits(*first, *byte) && is_of_shape(shapes, rest)
 }
 
 fn fits(shape: u8, byte: u8) -> bool
