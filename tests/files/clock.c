@@ -15,7 +15,7 @@ static int written = -1;
 
 __attribute__((constructor)) static void begin(void) {
     const char *each = getenv("STEP"), *name = getenv("WRITTEN");
-    int file = name ? open(name, O_WRONLY | O_CREAT | O_TRUNC, 0600) : -1;
+    int file = name ? open(name, O_WRONLY | O_CREAT | O_APPEND, 0600) : -1;
     step = each ? strtol(each, NULL, 10) : 0;
     /* in the place of no stream */
     written = fcntl(file, F_DUPFD_CLOEXEC, 100);
