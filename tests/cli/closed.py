@@ -13,7 +13,7 @@ import sqlite3
 import subprocess
 import tempfile
 
-from conversation import STILL_AT_B
+from conversation import STILL_AT_B, without_progress
 from files import FILE, HEADER, LINES, RELEASE, ROWS
 from story_words import B, command, expect, put
 
@@ -178,7 +178,8 @@ class Trial:
                 done = subprocess.run(closing(closed, [self.program, *words]), cwd=place,
                                       stdin=stdin, stdout=output, stderr=subprocess.PIPE,
                                       timeout=60)
-            return (done.returncode, masked(done.stdout or b""), done.stderr), state_of(place)
+            told = masked(done.stdout or b""), without_progress(done.stderr)
+            return (done.returncode, *told), state_of(place)
 
 
 class Expected:
