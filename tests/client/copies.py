@@ -7,12 +7,12 @@ import time
 from reports import add_measured, metric
 from sends import HEADER, ROWS_REFUSED, ROW_AHEAD, line, want_sent
 from world import (
-    AHEAD, CONTRADICTION, DONE, ENDED, PENDING, PENDING_SAID, PROMOTED, REFUSED, REUSED, STARTED,
-    Caller, add, answering, ask, expect, put, shown, two_pauses, want, want_delivered,
+    ABORTED, AHEAD, CONTRADICTION, DONE, ENDED, PENDING, PENDING_SAID, PROMOTED, REFUSED,
+    REUSED, STARTED, Caller, add, answering, ask, expect, put, shown, shows, two_pauses, want,
+    want_delivered,
 )
 
 SERVICES = ("web", "shop", "mail", "pay", "blog", "news")
-NO_SERVICE = '{"code":"unknown-service"}\n'
 AGENT_AHEAD = f"canary: measured: {AHEAD}\n"
 TEMPLATE = {"kind": "AnalysisTemplate", "metadata": {"name": "t"}, "spec": {"metrics": [
     {"name": "m", "interval": "1s", "failureLimit": 500, "successCondition": "result >= 1",
@@ -204,46 +204,102 @@ def try_moved(world):
         want("the next one", desk.do("promote", "measured"), DONE, shown(ENDED, "measured"))
 
 
+def succeeded(desk):
+    """What `canary succeed` says of the desk's file, and makes of it beside it."""
+    found = desk.world.run(["succeed", "--db", "desk.db", "new.db"], desk.folder)
+    return found.status, found.output, found.errors
+
+
+def go_on(desk):
+    """The desk goes on with a new file that succeeds its own, which is kept under another name."""
+    desk.kill()
+    expect("succeed", succeeded(desk), (0, "succeeded\n", ""))
+    put_away(desk, "kept.db")
+    for end in ("", "-wal"):
+        shutil.move(desk.folder / f"new.db{end}", desk.folder / f"desk.db{end}")
+    desk.start()
+
+
 def try_new_file(world):
-    """A desk that begins anew with a new file: what callers get, and what each has to do."""
+    """A desk that goes on with a new file, which succeeds its own: what callers get, and what each
+    has to do."""
     with world.desk("new-file") as desk:
         add_for_agent(desk)
         expect("an agent: before", agent(desk), (DONE, 1, ""))
+        expect("in use", succeeded(desk), (1, "", "canary: in-use\n"))
         setup, team = Caller(desk, "setup"), by("team")
-        desk.write("web.json", two_pauses())
-        setup.send({"service": {"version": "v1", "manifest": two_pauses()}})
-        setup.send({"start": {"service": "web", "version": "v2"}})
+        for name in ("web", "shop"):
+            setup.send({"service": {"version": "v1", "manifest": two_pauses(name)}})
+            setup.send({"start": {"service": name, "version": "v2"}})
         key = {"options": ("--once", "deploy-7"), **team}
         want("before", desk.do("promote-full", "web", **key), DONE, shown(ENDED))
-        put_away(desk, "kept.db")
+        want("before: an abort", desk.do("abort", "shop", **team), DONE, shown(ABORTED, "shop"))
+        with loses(desk) as port:
+            found = desk.do("tick", "web", port=port, tries=1, **by("first"))
+        want("first: the reply is lost", found, PENDING, said=PENDING_SAID)
+        desk.kill()
+        expect("in progress", succeeded(desk), (1, "", "canary: in-progress\n"))
         desk.start()
-        want_nothing_there(desk)
-        want("a journal", desk.do("start", "web", "v3", **team), CONTRADICTION, said=AHEAD)
-        want("its key", desk.do("promote-full", "web", **key), DONE, shown(ENDED))
-        for name in ("team.journal", "ops.journal"):
-            (desk.folder / name).rename(desk.folder / f"{name}.old")
-        want("no service", desk.do("start", "web", "v3", **team), REFUSED, NO_SERVICE)
-        want("the service, as it is now", desk.do("service", "web.json", "v2", **team), DONE,
-             shown(("Healthy", 4, 100)))
-        want("a start", desk.do("start", "web", "v3", **team), DONE, shown(STARTED))
-        want_delivered("team", desk, **team)
-        add_for_agent(desk)
-        expect("an agent: its service is there again", agent(desk), (CONTRADICTION, 0, AGENT_AHEAD))
-        (desk.folder / "journals").rename(desk.folder / "journals.old")
-        expect("an agent: anew", agent(desk), (DONE, 1, ""))
-        found = world.run(["history", "--db", "kept.db", "web"], desk.folder)
-        expect("the old file has the past", (found.status, found.output.splitlines()[-1][-7:]),
-               (0, "done v2"))
+        want("nothing is in progress", desk.do("promote-full", "measured"), DONE,
+             shows("measured", "Healthy", 4, 100) + "\n")
+        go_on(desk)
+        want_nothing_lacks(desk)
+        want_journals(desk, key)
+        want_measured(desk)
+        want_past(desk)
 
 
-def want_nothing_there(desk):
-    """What those get that need no journal, and an agent, of a desk without their service."""
-    want("a query", desk.ask("get", "web"), REFUSED, NO_SERVICE)
-    want("what is due", desk.ask("due", "web"), REFUSED, said="there is no such service")
-    found = desk.ask("watch", "--forever", "--json", "--timeout", "3", "web")
-    expect("a follower", (found.status, found.output), (PENDING, ""))
-    expect("a follower: why", "canary: there is no such service" in found.errors, True)
-    expect("an agent", agent(desk), (REFUSED, 0, "canary: measured: there is no such service\n"))
+def want_nothing_lacks(desk):
+    """What those get that need no journal: each service, done at its stable version."""
+    for name, version in (("web", "v2"), ("shop", "v1"), ("measured", "v2")):
+        stand = json.loads(desk.ask("get", name).output)
+        expect(f"a query of {name}", [stand[word] for word in ("status", "version", "stable",
+                                                               "weight", "runs")],
+               ["Healthy", version, version, 100, 0])
+    want("a run of the old desk", desk.ask("get", "measured", "1"), REFUSED,
+         '{"code":"unknown-run"}\n')
+    found = desk.ask("due", "measured")
+    expect("what is due", (found.status, found.output, found.errors), (DONE, "", ""))
+    found = desk.ask("watch", "--json", "--timeout", "3", "--until", "Healthy", "shop")
+    expect("a follower", (found.status, json.loads(found.output)["weight"]), (DONE, 100))
     desk.write("rows.csv", HEADER + rows(1, 1, 1))
     want_sent("rows of a run that is not there", desk.ask("send", "rows.csv"), ROWS_REFUSED,
-              '1 422 {"code":"unknown-service"}\n', (0, 0, 1))
+              '1 422 {"code":"unknown-run"}\n', (0, 0, 1))
+
+
+def want_journals(desk, key):
+    """What those get that have a journal of the old desk."""
+    team = by("team")
+    want("a journal", desk.do("start", "web", "v3", **team), CONTRADICTION, said=AHEAD)
+    want("its key", desk.do("promote-full", "web", **key), DONE, shown(ENDED))
+    want("first: what is pending acts here", desk.do("tick", "web", **by("first")), DONE,
+         shown(ENDED))
+    want_delivered("first", desk, **by("first"))
+    expect("a caller of that name", put(desk.port, "succeed", 1, '{"tick":{"service":"web"}}'),
+           (409, '{"code":"reused"}'))
+    want("a new journal of that name", desk.do("tick", "web", **by("succeed")), DONE, shown(ENDED))
+    for name in ("team.journal", "ops.journal"):
+        (desk.folder / name).rename(desk.folder / f"{name}.old")
+    want("a start", desk.do("start", "web", "v3", **team), DONE, shown(STARTED))
+    want("an end", desk.do("promote-full", "web", **team), DONE, shown(ENDED))
+    want_delivered("team", desk, **team)
+
+
+def want_measured(desk):
+    """An agent with its old journals reports nothing; one that begins anew measures the next
+    release, by the newest revisions."""
+    expect("an agent: nothing is due", agent(desk), (DONE, 0, ""))
+    expect("a start", desk.do("start", "measured", "v3").status, DONE)
+    expect("an agent: ahead", agent(desk), (CONTRADICTION, 0, AGENT_AHEAD))
+    (desk.folder / "journals").rename(desk.folder / "journals.old")
+    expect("an agent: anew", agent(desk), (DONE, 1, ""))
+
+
+def want_past(desk):
+    """The old file has the past."""
+    found = desk.world.run(["history", "--db", "kept.db", "web"], desk.folder)
+    expect("the old file has the past", (found.status, found.output.splitlines()[-1][-7:]),
+           (0, "done v2"))
+    found = desk.world.run(["export", "--db", "kept.db", "--caller", "a", "measured"], desk.folder)
+    expect("the old file has the measurements", (found.status, len(found.output.splitlines())),
+           (0, 2))

@@ -161,6 +161,97 @@ def try_failing_backups(program, folder):
         want_names(f"backup, {injected}", place, ["desk[.]db", "desk[.]db-wal"])
 
 
+def want_succeeded(row, program, file):
+    """A new file is whole: its desk has the service that the requests made, done."""
+    status, output, errors = told([program, "status", "--db", file])
+    expect(row, (status, errors, b"\nweb   Healthy  2/2" in output), (0, b"", True))
+
+
+def try_killed_successions(program, folder):
+    """`succeed` is killed at each call that names or removes something, and at calls that write or
+    sync: the new file is whole then or not there, and the old one as it was. Once what is left is
+    removed, it is done."""
+    place = folder_in(folder, "killed-succession")
+    old, new = os.path.join(place, "old.db"), os.path.join(place, "new.db")
+    make_desk(program, old, 2)
+    log, before = os.path.join(folder, "succession-log"), pair(old)
+    words = [program, "succeed", "--db", old, new]
+    calls = ("mkdir", "link", "unlink", "rmdir") + WRITING
+    expect("succeed", told(traced(log, calls) + words), (0, b"succeeded\n", b""))
+    names = [name for name, _, _ in calls_in(log)]
+    expect("succeed: the order of its calls", [name for name in names if name not in WRITING],
+           ["mkdir", "link", "link", "unlink", "unlink", "rmdir"])
+    expect("succeed: what it does between the two names", names[names.index("link"):][:3],
+           ["link", "fsync", "link"])
+    kept = 0
+    for at in sorted({*range(0, len(names), max(1, len(names) // 20)), len(names) - 1,
+                      *(at for at, name in enumerate(names) if name not in WRITING)}):
+        for name in ("new.db", "new.db-wal"):
+            if name in os.listdir(place):
+                os.remove(os.path.join(place, name))
+        when = names[:at + 1].count(names[at])
+        row = f"succeed, killed at {names[at]} {when}"
+        ended = told(traced(log, [names[at]], f"{names[at]}:signal=KILL:when={when}") + words)
+        expect(row, ended[0] != 0, True)
+        expect(f"{row}: the old file", pair(old), before)
+        left = set(os.listdir(place)) - {"old.db", "old.db-wal", "new.db", "new.db-wal"}
+        for name in left:
+            expect(f"{row}: {name}", bool(re.fullmatch(f"new[.]db[.]part-[0-9]+-{RANDOM}", name)),
+                   True)
+            subprocess.run(["rm", "-r", os.path.join(place, name)], check=True)
+        if os.path.exists(new):
+            kept += 1
+            expect(f"{row}: its log", os.path.exists(new + "-wal"), True)
+            want_succeeded(row, program, new)
+    expect("succeed, killed: both kinds of end", 0 < kept < len(names), True)
+
+
+def try_failing_successions(program, folder):
+    """`succeed` of which a call fails leaves nothing: a name that it takes, a folder that it syncs,
+    what it writes."""
+    place = folder_in(folder, "failing-succession")
+    old, new = os.path.join(place, "old.db"), os.path.join(place, "new.db")
+    make_desk(program, old, 2)
+    log = os.path.join(folder, "failing-succession-log")
+    words = [program, "succeed", "--db", old, new]
+    calls = ("link",) + WRITING
+    expect("succeed", told(traced(log, calls) + words), (0, b"succeeded\n", b""))
+    names = [name for name, _, _ in calls_in(log)]
+    for name in (new, new + "-wal"):
+        os.remove(name)
+    syncs = names.count("fsync")
+    for injected, word in (("link:error=EPERM:when=1", "file"),
+                           ("link:error=EEXIST:when=2", "file"),
+                           (f"fsync:error=EIO:when={syncs}", "file"),
+                           (f"fsync:error=EIO:when={syncs - 1}", "file"),
+                           ("mkdir:error=EACCES:when=1", "file"),
+                           ("pwrite64:error=ENOSPC:when=5", "storage")):
+        call = injected.partition(":")[0]
+        expect(f"succeed, {injected}", told(traced(log, [call], injected) + words),
+               (1, b"", f"canary: {word}\n".encode()))
+        want_names(f"succeed, {injected}", place, ["old[.]db", "old[.]db-wal"])
+
+
+def try_held(program, folder):
+    """While `succeed` gives the new file its names, nobody else opens the old one; another one
+    under the same name is refused."""
+    place = folder_in(folder, "held")
+    old, new = os.path.join(place, "old.db"), os.path.join(place, "new.db")
+    make_desk(program, old, 2)
+    log = os.path.join(folder, "held-log")
+    words = [program, "succeed", "--db", old, new]
+    making = begin(traced(log, ["link"], "link:signal=STOP:when=2") + words)
+    stopped = stopped_in(log)
+    in_use = (1, b"", b"canary: in-use\n")
+    expect("held: history", told([program, "history", "--db", old, "web"]), in_use)
+    expect("held: another", told([*words[:-1], os.path.join(place, "other")]), in_use)
+    expect("held: the same", told(words), FILE_FAULT)
+    os.kill(stopped, signal.SIGCONT)
+    expect("held", end_of(making), (0, b"succeeded\n", b""))
+    want_succeeded("held", program, new)
+    want_names("held", place, ["old[.]db", "old[.]db-wal", "new[.]db", "new[.]db-wal"])
+
+
 def try_page_in_turn(program, folder):
     """A page is made under a name that nobody knows before, is its owner's alone until it is whole,
     and is synced before and after it is named; killed or failing it leaves OUT as it was."""
@@ -314,7 +405,8 @@ def main():
     program, folder, *names = sys.argv[1:]
     try:
         for part in (try_no_memory, try_making, try_mixed_pair, try_killed_backups,
-                     try_log_begun_anew, try_failing_backups, try_page_in_turn, try_places,
+                     try_log_begun_anew, try_failing_backups, try_killed_successions,
+                     try_failing_successions, try_held, try_page_in_turn, try_places,
                      try_folder_taken):
             if not names or part.__name__ in names:
                 part(os.path.realpath(program), folder)

@@ -101,6 +101,16 @@ impl Pair {
         is_missing(rt, self.database.as_str()) && is_missing(rt, self.log.as_str())
     }
 
+    // The names of another database beside this one: nothing is there under them, and a desk of
+    // this one does not use them.
+    fn other(&self, rt: &HostRuntime, name: &str) -> Result<Pair, BackupFault> {
+        let other = Pair::of(rt.alloc(), name)?;
+        if !other.is_free(rt) || self.has_name(rt, name)? {
+            return Err(BackupFault::File);
+        }
+        Ok(other)
+    }
+
     // Has both on the disk.
     fn sync(&self, rt: &HostRuntime) -> io::Result<()> {
         sync(rt, self.database.as_str())?;
@@ -157,7 +167,7 @@ fn sync(rt: &HostRuntime, name: &str) -> io::Result<()> {
     OpenOptions::new().write(true).open(rt, name)?.sync_all()
 }
 
-/// A copy of a database, whole in a folder `copy`.part-PROCESS-RANDOM of its own.
+/// A database, whole in a folder NAME.part-PROCESS-RANDOM of its own, which is to have this name.
 #[derive(Drop)]
 pub struct Part {
     folder: OwnFolder,
@@ -176,11 +186,21 @@ impl Part {
     /// then.
     pub fn of(rt: &HostRuntime, file: &str, copy: &str) -> Result<Part, BackupFault> {
         let from = Pair::found(rt, file)?;
-        let to = Pair::of(rt.alloc(), copy)?;
-        if !to.is_free(rt) || from.has_name(rt, copy)? {
-            return Err(BackupFault::File);
-        }
+        let to = from.other(rt, copy)?;
         let folder = OwnFolder::beside(rt, copy, "part")?.filled(rt, &from)?;
+        Ok(Part { folder, to })
+    }
+
+    /// A part in which nothing is yet, of a database beside that of `file`. Whoever makes that
+    /// database, and its log, has to close it before `name`.
+    ///
+    /// # Errors
+    /// `File` if there is no such file, if `name` or `name`-wal is there already, if `name` is a
+    /// name that a desk uses for that file, or if no folder can be made; `Storage` if the file
+    /// cannot be reached; `Memory` if an allocation was refused. There is no part then.
+    pub fn empty(rt: &HostRuntime, file: &str, name: &str) -> Result<Part, BackupFault> {
+        let to = Pair::found(rt, file)?.other(rt, name)?;
+        let folder = OwnFolder::beside(rt, name, "part")?;
         Ok(Part { folder, to })
     }
 
@@ -189,13 +209,13 @@ impl Part {
         self.folder.copy().database()
     }
 
-    /// Gives the copy its names, once it is on the disk, and removes the part: first the log's, for
-    /// whoever has that name has the other, and no name that is taken. So of some copies that are
-    /// given one name at the same time at most one has it.
+    /// Gives the database its names, once it is on the disk, and removes the part: first the log's,
+    /// for whoever has that name has the other, and no name that is taken. So of some databases
+    /// that are given one name at the same time at most one has it.
     ///
     /// # Errors
-    /// `File` if the disk fails, or the copy cannot have its names, which is so where the system
-    /// knows no hard links. There is no copy then.
+    /// `File` if the disk fails, or the database cannot have its names, which is so where the system
+    /// knows no hard links. There is no file of these names then.
     pub fn name(&self, rt: &HostRuntime) -> Result<(), BackupFault> {
         match self.take_names(rt) {
             Ok(()) => Ok(()),

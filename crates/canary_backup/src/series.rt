@@ -63,18 +63,15 @@ fn is_copy_name(name: &str) -> bool
     is_of_shape(SHAPE.as_bytes(), name.as_bytes())
 }
 
+// Whether the bytes have this shape.
 fn is_of_shape(shape: &[u8], bytes: &[u8]) -> bool
     ensures { result ≡ pointwise fits shape.now bytes.now }
 {
-    if shape.len() != bytes.len() {
-        return false;
-    }
-    for (shape, byte) in shape.iter().zip(bytes) {
-        if !fits(*shape, *byte) {
-            return false;
-        }
-    }
-    true
+    let (Some((first, shapes)), Some((byte, rest))) = (shape.split_first(), bytes.split_first())
+    else {
+        return shape.is_empty() && bytes.is_empty();
+    };
+    fits(*first, *byte) && is_of_shape(shapes, rest)
 }
 
 fn fits(shape: u8, byte: u8) -> bool
@@ -197,8 +194,11 @@ fn is_copy_until(rt: &HostRuntime, entry: &DirEntry, newest: &str) -> Result<boo
 // Whether a regular file of this user's stands there, with a log that is one, too, or none.
 fn is_copy(rt: &HostRuntime, path: &str) -> Result<bool, BackupFault> {
     let log = log_of(rt.alloc(), path)?;
-    Ok(is_own_file(fs::symlink_metadata(rt, path))
-        && (is_missing(rt, log.as_str()) || is_own_file(fs::symlink_metadata(rt, log.as_str()))))
+    Ok(
+        is_own_file(fs::symlink_metadata(rt, path))
+            && (is_missing(rt, log.as_str())
+                || is_own_file(fs::symlink_metadata(rt, log.as_str()))),
+    )
 }
 
 fn is_own_file(found: io::Result<Metadata>) -> bool {

@@ -69,12 +69,7 @@ pub fn backup_each(
 }
 
 // Makes one copy more, and removes the oldest if there are too many.
-fn backup_next(
-    rt: &HostRuntime,
-    file: &str,
-    folder: &str,
-    keep: Option<u64>,
-) -> Result<(), Fault> {
+fn backup_next(rt: &HostRuntime, file: &str, folder: &str, keep: Option<u64>) -> Result<(), Fault> {
     if !is_folder(rt, folder) {
         return Err(Fault::File);
     }

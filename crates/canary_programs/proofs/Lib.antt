@@ -1,2 +1,3 @@
+mod Again
 mod Served
 mod Stays

@@ -47,6 +47,8 @@ pub enum Fault {
     TooMany,
     /// There is no such service.
     UnknownService,
+    /// A release is going on.
+    InProgress,
     /// A word is not a valid name.
     BadName,
     /// The address is invalid, or the desk cannot listen on it.
@@ -75,6 +77,7 @@ impl fmt::Display for Fault {
             Fault::RowsSpent => "the file has more than 1,000,000 rows, or too many bytes",
             Fault::TooMany => "the service has more than 1,000,000,000 measurements",
             Fault::UnknownService => "there is no such service",
+            Fault::InProgress => "a release of a service is in progress",
             Fault::BadName => "not a valid name",
             Fault::Listen => "the address is invalid, or the desk cannot listen on it",
             Fault::Accept => "waiting for clients failed",
@@ -105,6 +108,7 @@ impl Fault {
             Fault::RowsSpent => "canary: rows-spent\n",
             Fault::TooMany => "canary: too-many\n",
             Fault::UnknownService => "canary: unknown-service\n",
+            Fault::InProgress => "canary: in-progress\n",
             Fault::BadName => "canary: bad-name\n",
             Fault::Listen => "canary: listen\n",
             Fault::Accept => "canary: accept\n",
