@@ -4,7 +4,7 @@ import re
 import subprocess
 from contextlib import contextmanager
 
-from conversation import STILL_AT_B, reply_of
+from conversation import STILL_AT_B, reply_of, without_progress
 from story_words import B, Wrong, command, expect, put
 
 SECONDS = 60
@@ -22,7 +22,7 @@ def told(words, **more):
                               timeout=SECONDS, check=False, **more)
     except subprocess.TimeoutExpired as late:
         raise Wrong(f"{words}: not done in {SECONDS} seconds") from late
-    return done.returncode, done.stdout, done.stderr
+    return done.returncode, done.stdout, without_progress(done.stderr)
 
 
 def make_desk(program, file, count=len(STREAM), options=()):

@@ -170,7 +170,7 @@ def try_kept(program, folder):
             made.update(name for name in copies_in(out) if name not in OLD)
             return len(made) >= 4
         wait_until("four copies", has_made)
-        wait_until("two copies", lambda: len(os.listdir(out)) == 4)
+    make_one(program, file, out, 2)
     made.update(name for name in copies_in(out) if name not in OLD)
     left = sorted(made)[-2:]
     expect("two are kept", sorted(os.listdir(out)), sorted(left + [name + "-wal" for name in left]))
@@ -185,12 +185,14 @@ def try_one_kept(program, folder):
     place = folder_in(folder, "one")
     file = os.path.join(place, "desk.db")
     make_killed_desk(program, file)
-    for keep, left in ((1, []), (3, OLD[3:]), (6, OLD), (7, OLD), (2 ** 64 - 1, OLD)):
+    for keep, left in ((1, []), (3, OLD[3:]), (6, OLD), (7, OLD), (10_000, OLD)):
         out = folder_in(place, f"out-{keep}")
         for name in OLD:
             copy_to(file, os.path.join(out, name))
         make_one(program, file, out, keep)
-        expect(f"{keep} kept", copies_in(out)[:-1], left)
+        found = copies_in(out)
+        expect(f"{keep} kept", [name for name in found if name in OLD], left)
+        expect(f"{keep} kept: one is new", len(found), len(left) + 1)
         expect(f"{keep} kept: logs", sum(name.endswith("-wal") for name in os.listdir(out)),
                len(left) + 1)
 
@@ -199,15 +201,22 @@ def make_one(program, file, out, keep):
     """One copy more, and what comes of the old ones."""
     before = set(copies_in(out))
     with copying(words_of(program, file, out, 1000, keep)) as process:
-        wait_until("a copy", lambda: set(copies_in(out)) - before)
-        wait_until("the copy is done", lambda: all(is_asleep(process.pid) for _ in range(20)))
+        wait_until("a copy", lambda: is_over(process) or set(copies_in(out)) - before)
+        wait_until("the copy is done", lambda: is_over(process) or is_asleep(process.pid))
+
+
+def is_over(process):
+    return process.poll() is not None
 
 
 def is_asleep(process):
-    """Whether a program sleeps, a hundredth of a second later."""
-    time.sleep(0.01)
-    with open(f"/proc/{process}/stat", encoding="ascii") as told_state:
-        return told_state.read().rpartition(")")[2].split()[0] == "S"
+    """Whether a program sleeps, for a fifth of a second."""
+    states = set()
+    for _ in range(20):
+        time.sleep(0.01)
+        with open(f"/proc/{process}/stat", encoding="ascii") as told_state:
+            states.add(told_state.read().rpartition(")")[2].split()[0])
+    return states == {"S"}
 
 
 def strangers_in(program, out, file):
