@@ -1,6 +1,6 @@
 -- One command more, and one request more; and what the register says of requests that were accepted.
 use Rattle.std.proofs.Common.{◌≡◌, ℕ, suc, ◌+◌, ◌<◌, List, [], ◌∷◌, ◌++◌, length, take, get_or, Bool, true, false, Option, Some, None, refl, sym, ap, ◌∙◌, subst, append_assoc, arith}
-use Rattle.std.specs.Prelude.{◌||◌, cond, All}
+use Rattle.std.specs.Prelude.{◌||◌, cond, option_map, All, Result, Ok, Err, OnOk}
 use Rattle.std.specs.List.{filter_map, cons_option, list_any, AllByRecursion}
 use Rattle.std.specs.Ordering.{nat_cmp}
 use Rattle.std.specs.Cmp.Lexicographic.{slice_cmp, nat_list_cmp_total}
@@ -12,11 +12,13 @@ use Rattle.std.proofs.lemmas.List.{take_more}
 use Rattle.std.proofs.lemmas.List.Elements.{filter_map-append, recursion_from_All}
 use Rattle.std.proofs.lemmas.List.Folds.{list_any_more, list_any_at}
 use Rattle.canary_plan.specs.declared.template.Template.{Template}
+use Rattle.canary_plan.specs.declared.template_spec.TemplateSpec.{TemplateSpec}
 use Rattle.canary_plan.specs.declared.command.Command.{Command}
+use Rattle.canary_plan.specs.declared.command.Command.TheVariants.{Template as AddTemplate}
 use Rattle.canary_plan.specs.Plans.{Templates}
 use Rattle.canary_release.specs.declared.reply.Reply.{Reply}
 use Rattle.canary_release.specs.declared.reply.ReplyStatus.TheVariants.{Accepted}
-use Rattle.canary_release.specs.Desks.{Desk}
+use Rattle.canary_release.specs.Desks.{Desk, newest}
 use Rattle.canary_once.specs.declared.event.Event.{Event}
 use Rattle.canary_once.specs.declared.event.Answer.{Answer}
 use Rattle.canary_once.specs.declared.event.Answer.TheVariants.{Replied, Unavailable}
@@ -24,18 +26,27 @@ use Rattle.canary_once.specs.Books.{BookState}
 use Rattle.canary_once.specs.Contents.{Contents, put_some, known_named}
 use Rattle.canary_once.specs.Answers.{heard, replies_in, answers_of, after}
 use Rattle.canary_files.specs.Exporting.{Stays}
-use Rattle.canary_programs.specs.Successions.{is_going_on, are_going_on, IsAccepted, Succeeds, requests_from, request_again}
+use Rattle.canary_programs.specs.Successions.{template_again, is_going_on, are_going_on, IsAccepted, Succeeds, requests_from, request_again}
 
 -- What is found under the one name that was asked for.
 
 put_got : (name : List ℕ) (o : Option Template) → get (put_some empty name o) name ≡ o
 put_got name None = get-empty (slice_cmp nat_cmp) name
 put_got name (Some t) =
-    get-insert nat_list_cmp_total empty name t name
-    ∙ ap (λ b. cond b (Some t) (get empty name)) (is_eq-slice_cmp name name ∙ (bytes_eq-Decides name name).1 refl)
+    let none : FinMap (slice_cmp nat_cmp) Template = empty in
+    get-insert nat_list_cmp_total none name t name
+    ∙ ap (λ b. cond b (Some t) (get none name)) (is_eq-slice_cmp name name ∙ (bytes_eq-Decides name name).1 refl)
 
 pub found_alone : (known : Templates) (name : List ℕ) (found : FinMap (slice_cmp nat_cmp) Template) → found ≡ known_named known (name ∷ []) → get found name ≡ known name
 found_alone known name found is = ap (λ (m : FinMap (slice_cmp nat_cmp) Template). get m name) is ∙ put_got name (known name)
+
+pub template_told : (desk : Desk) (name : List ℕ) (found : FinMap (slice_cmp nat_cmp) Template) (t : Template) (copy : TemplateSpec) → found ≡ known_named (newest desk.templates) (name ∷ []) → Some t ≡ get found name → copy ≡ t.spec → Some (AddTemplate copy) ≡ template_again desk name
+template_told desk name found t copy is there same =
+    ap (λ (s : TemplateSpec). Some (AddTemplate s)) same
+    ∙ ap (option_map (λ (x : Template). AddTemplate x.spec)) (there ∙ found_alone (newest desk.templates) name found is)
+
+pub none_told : (desk : Desk) (name : List ℕ) (found : FinMap (slice_cmp nat_cmp) Template) → found ≡ known_named (newest desk.templates) (name ∷ []) → None ≡ get found name → None ≡ template_again desk name
+none_told desk name found is there = ap (option_map (λ (x : Template). AddTemplate x.spec)) (there ∙ found_alone (newest desk.templates) name found is)
 
 -- The step of a loop over names.
 
@@ -113,3 +124,7 @@ succeeds events answers old new n all told is =
       is ∙ ap (after old) whole,
       subst (AllByRecursion (λ (r : Reply). r.status ≡ Accepted)) (told ∙ ap (answers_of old) whole) (all_accepted answers each),
     )
+
+pub on_ok : {A E P Q : Type 0} (r : Result A E) → (P → Q) → OnOk r P → OnOk r Q
+on_ok (Ok x) then_so so = then_so so
+on_ok (Err e) then_so so = tt
