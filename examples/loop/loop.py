@@ -1,5 +1,4 @@
-"""The whole loop of a release: loop.py PROGRAM FOLDER. examples/loop/README.md says what it
-shows."""
+"""The whole loop of a release: loop.py PROGRAM FOLDER. README.md beside it says what it shows."""
 import collections
 import contextlib
 import csv
@@ -12,20 +11,24 @@ import signal
 import socket
 import subprocess
 import sys
-import threading
 import time
 import urllib.parse
 import urllib.request
 
 HERE = pathlib.Path(__file__).resolve().parent
 OPERATIONS = HERE.parent / "operations"
-PARTS = ("v1", "v2", "v3", "prometheus", "desk", "web")
 # The share of errors of each version.
 VERSIONS = {"v1": 0.01, "v2": 0.01, "v3": 0.3}
+# The parts that have a port; `web` is HAProxy's.
+LISTENING = (*VERSIONS, "prometheus", "web", "desk")
 # How many requests the service gets in a second.
 REQUESTS = 50
 QUERY = ('sum(rate(requests_total{track="canary",code!~"5.."}[5s]))'
          ' / sum(rate(requests_total{track="canary"}[5s]))')
+
+
+class Wrong(Exception):
+    """The loop is not as it should be."""
 
 
 def free_ports(count):
@@ -40,7 +43,7 @@ def wait_until(what, is_so, seconds=60):
     until = time.monotonic() + seconds
     while not is_so():
         if time.monotonic() > until:
-            raise SystemExit(f"loop: {what}: not in {seconds} seconds")
+            raise Wrong(f"{what}: not in {seconds} seconds")
         time.sleep(.1)
 
 
@@ -51,49 +54,72 @@ def get(port, path, timeout=2):
         return reply.status, reply.read().decode()
 
 
+def listens(port):
+    with socket.socket() as client:
+        return client.connect_ex(("127.0.0.1", port)) == 0
+
+
 class Loop:
     """The parts, and what they say."""
+    manifests = "web.yaml"
 
     def __init__(self, program, folder):
         self.folder = pathlib.Path(folder)
-        self.port = dict(zip(PARTS, free_ports(len(PARTS))))
-        self.running, self.is_over = {}, threading.Event()
-        self.answered, self.told = collections.Counter(), 0
+        self.port = dict(zip(LISTENING, free_ports(len(LISTENING))))
+        self.running, self.shown = {}, collections.Counter()
         (self.folder / "bin").mkdir()
         (self.folder / "bin" / "canary").symlink_to(program)
         self.variables = {**os.environ, "PATH": f"{self.folder}/bin:{os.environ['PATH']}",
-                          "CANARY_DESK": f"127.0.0.1:{self.port['desk']}", "CANARY_AS": "ops",
+                          "CANARY_DESK": self.at("desk"), "CANARY_AS": "ops",
                           "CANARY_JOURNAL": str(self.folder / "ops.journal")}
+
+    def at(self, name):
+        return f"127.0.0.1:{self.port[name]}"
 
     # ---- the parts
 
-    def start(self, name, *words):
+    def words_of(self, name):
+        """The command line of a part."""
+        if name in VERSIONS:
+            return [sys.executable, HERE / "service.py", self.port[name], name, VERSIONS[name]]
+        return {
+            "prometheus": ["prometheus", "--config.file=prometheus.yml", "--log.level=error",
+                           "--storage.tsdb.path=data",
+                           f"--web.listen-address={self.at('prometheus')}"],
+            "haproxy": ["haproxy", "-db", "-f", "haproxy.cfg"],
+            "desk": ["canary", "serve", "--listen", self.at("desk"), "--db", "desk.db"],
+            "traffic": [sys.executable, HERE / "traffic.py", self.port["web"], REQUESTS],
+            "agent": ["canary", "agent", "--journals", "journals", self.manifests],
+            "follower": [OPERATIONS / "follow-haproxy", "web", "socket", "web"],
+        }[name]
+
+    def start(self, name):
+        words = [str(word) for word in self.words_of(name)]
         with open(self.folder / f"{name}.log", "ab") as log:
             self.running[name] = subprocess.Popen(
-                [str(word) for word in words], cwd=self.folder, env=self.variables, stdout=log,
-                stdin=subprocess.DEVNULL, stderr=subprocess.STDOUT)
+                words, cwd=self.folder, env=self.variables, stdin=subprocess.DEVNULL, stdout=log,
+                stderr=subprocess.STDOUT)
+        short = [os.path.basename(word) for word in words if word != sys.executable]
+        print(f"          {name} started: {' '.join(short)}", flush=True)
+
+    def kill(self, name):
+        """Kills a part as `kill -9` does."""
+        self.running[name].kill()
+        self.running[name].wait()
 
     def start_all(self):
         self.write_files()
-        for version, errors in VERSIONS.items():
-            self.start(version, sys.executable, HERE / "service.py", self.port[version], version,
-                       errors)
-        self.start("prometheus", "prometheus", "--config.file=prometheus.yml", "--log.level=error",
-                   "--storage.tsdb.path=data",
-                   f"--web.listen-address=127.0.0.1:{self.port['prometheus']}")
-        self.start("haproxy", "haproxy", "-db", "-f", "haproxy.cfg")
-        self.start("desk", "canary", "serve", "--listen", f"127.0.0.1:{self.port['desk']}", "--db",
-                   "desk.db")
-        for name in PARTS:
-            wait_until(f"{name} listens", lambda name=name: self.listens(self.port[name]))
-        threading.Thread(target=self.send_traffic, daemon=True).start()
-        self.do("--argo", "template", "web.yaml")
-        self.do("--argo", "service", "web.yaml", "v1")
-        self.start("agent", "canary", "agent", "--journals", "journals", "web.yaml")
-        self.start("follower", OPERATIONS / "follow-haproxy", "web", "socket", "web")
+        for name in (*VERSIONS, "prometheus", "haproxy", "desk"):
+            self.start(name)
+        for name in LISTENING:
+            wait_until(f"{name} listens", lambda name=name: listens(self.port[name]))
+        self.start("traffic")
+        self.do("--argo", "template", self.manifests)
+        self.do("--argo", "service", self.manifests, "v1")
+        self.start("agent")
+        self.start("follower")
 
     def stop_all(self):
-        self.is_over.set()
         for process in self.running.values():
             process.kill()
         for process in self.running.values():
@@ -102,61 +128,59 @@ class Loop:
     def write_files(self):
         text = (OPERATIONS / "follow.haproxy.cfg").read_text(encoding="utf-8")
         for old, new in (("/run/haproxy/admin.sock", self.folder / "socket"),
-                         ("bind :8081", f"bind 127.0.0.1:{self.port['web']}"),
-                         ("127.0.0.1:9101", f"127.0.0.1:{self.port['v1']}"),
-                         ("127.0.0.1:9102", f"127.0.0.1:{self.port['v2']}")):
+                         ("bind :8081", f"bind {self.at('web')}"),
+                         ("127.0.0.1:9101", self.at("v1")), ("127.0.0.1:9102", self.at("v2"))):
             text = text.replace(old, str(new))
-        text += f"    server v3 127.0.0.1:{self.port['v3']} weight 0\n"
+        text += f"    server v3 {self.at('v3')} weight 0\n"
         (self.folder / "haproxy.cfg").write_text(text, encoding="utf-8")
-        text = (HERE / "web.yaml").read_text(encoding="utf-8")
-        text = text.replace("127.0.0.1:9090", f"127.0.0.1:{self.port['prometheus']}")
-        (self.folder / "web.yaml").write_text(text, encoding="utf-8")
+        text = (HERE / self.manifests).read_text(encoding="utf-8")
+        text = text.replace("127.0.0.1:9090", self.at("prometheus"))
+        (self.folder / self.manifests).write_text(text, encoding="utf-8")
         text = (HERE / "prometheus.yml").read_text(encoding="utf-8")
         (self.folder / "prometheus.yml").write_text(text, encoding="utf-8")
-        self.deploy("v1", None)
+        self.deploy({"v1": "stable"})
 
-    def deploy(self, stable, canary):
-        """Tells Prometheus which version is the new one."""
-        tracks = [(stable, "stable"), *([(canary, "canary")] if canary else [])]
-        targets = [{"targets": [f"127.0.0.1:{self.port[version]}"],
+    def deploy(self, tracks):
+        """Tells Prometheus which versions there are, and which of them is the new one."""
+        targets = [{"targets": [self.at(version)],
                     "labels": {"service": "web", "track": track, "version": version}}
-                   for version, track in tracks]
+                   for version, track in tracks.items()]
         new = self.folder / "targets.json.new"
         new.write_text(json.dumps(targets), encoding="utf-8")
         new.rename(self.folder / "targets.json")
 
+    def run(self, *words):
+        """A command that ends."""
+        return subprocess.run(["canary", *words], cwd=self.folder, env=self.variables,
+                              stdin=subprocess.DEVNULL, capture_output=True, text=True, check=False)
+
     def do(self, *words):
         """A command of the engineer's."""
-        done = subprocess.run(["canary", "do", *words], cwd=self.folder, env=self.variables,
-                              capture_output=True, text=True, check=False)
+        done = self.run("do", *words)
         if done.returncode:
-            raise SystemExit(f"loop: canary do {' '.join(words)}: {done.stdout}{done.stderr}")
+            raise Wrong(f"canary do {' '.join(words)}: {done.stdout}{done.stderr}")
         print(f"          ops: canary do {' '.join(words)}", flush=True)
-
-    def listens(self, port):
-        with socket.socket() as client:
-            return client.connect_ex(("127.0.0.1", port)) == 0
 
     # ---- what they say
 
-    def send_traffic(self):
-        while not self.is_over.wait(1 / REQUESTS):
-            try:
-                status, body = get(self.port["web"], "/")
-            except (OSError, http.client.HTTPException):
-                status, body = 0, "none"
-            self.answered[body if status in (200, 500) else "none", status] += 1
+    def ask(self, path):
+        """What the desk answers to a query."""
+        return json.loads(get(self.port["desk"], path)[1])
 
-    def stand(self):
-        return json.loads(get(self.port["desk"], "/services/web")[1])
+    def stand(self, service="web"):
+        return self.ask(f"/services/{service}")
+
+    def history(self, service="web"):
+        return self.ask(f"/services/{service}/history")["lines"]
 
     def weights(self):
+        """The weights that HAProxy has."""
         with socket.socket(socket.AF_UNIX) as haproxy:
             haproxy.connect(str(self.folder / "socket"))
             haproxy.sendall(b"show stat\n")
             text = b"".join(iter(lambda: haproxy.recv(65536), b"")).decode()
         rows = csv.DictReader(io.StringIO(text.lstrip("# ")))
-        return {row["svname"]: row["weight"] for row in rows if row["svname"] in VERSIONS}
+        return {row["svname"]: int(row["weight"]) for row in rows if row["svname"] in VERSIONS}
 
     def success(self):
         """The share of good answers of the new version, as Prometheus has it."""
@@ -165,62 +189,97 @@ class Loop:
         values = [each["value"][1] for each in found["data"]["result"]]
         return f"{float(values[0]):.2f}" if values else "-"
 
-    def reports(self):
-        """What the agent has said since the last time."""
-        lines = (self.folder / "agent.log").read_text(encoding="utf-8").splitlines()
-        new, self.told = lines[self.told:], len(lines)
+    def said(self, name):
+        """The lines that a part has written since the last time."""
+        lines = (self.folder / f"{name}.log").read_text(encoding="utf-8").split("\n")[:-1]
+        new, self.shown[name] = lines[self.shown[name]:], len(lines)
         return new
 
+    def second(self, longest=1.5):
+        """Waits until a second of the traffic is over: who answered how many of its requests, and
+        how many ended in which error. None of both if the traffic says nothing for so long."""
+        until = time.monotonic() + longest
+        while not (lines := self.said("traffic")) and time.monotonic() < until:
+            time.sleep(.05)
+        answered, errors = collections.Counter(), collections.Counter()
+        for line in map(json.loads, lines):
+            answered.update(line["answered"])
+            errors.update(line["errors"])
+        return answered, errors
+
     def show(self):
-        """A line for the second that is over."""
-        answered, self.answered = self.answered, collections.Counter()
-        stand, weights, count = self.stand(), self.weights(), max(1, sum(answered.values()))
-        of = {version: sum(found for (name, _), found in answered.items() if name == version)
-              for version in (*VERSIONS, "none")}
-        shares = " ".join(f"{name} {found * 100 / count:3.0f}%"
-                          for name, found in of.items() if found)
+        """A line for a second."""
+        answered, errors = self.second()
+        stand, weights = self.stand(), self.weights()
         print(f"{time.strftime('%H:%M:%S')}  {stand['status']:11} step {stand['step']}"
               f"  {stand['version']} {stand['weight']:3}%  | "
               f"{' '.join(f'{name} {weight:>3}' for name, weight in weights.items())}  | "
-              f"{shares:24} | {self.success()}", flush=True)
-        for line in self.reports():
+              f"{sum(answered.values()):3}: {shares_of(answered, errors):19} | {self.success()}",
+              flush=True)
+        for line in self.said("agent"):
             print(f"          agent: {line}", flush=True)
-        return stand
+        return stand, [*answered, *(name for name in errors if name != "500")]
 
     def release(self, stable, version, wanted):
         """Releases a version, and shows each second until it has ended so."""
-        self.deploy(stable, version)
+        self.deploy({stable: "stable", version: "canary"})
         self.do("start", "web", version)
         until = time.monotonic() + 70
-        while time.monotonic() < until:
-            time.sleep(1)
-            stand = self.show()
-            if stand["status"] in ("Healthy", "Degraded"):
-                for _ in range(3):
-                    time.sleep(1)
-                    self.show()
-                break
+        while (stand := self.show()[0])["status"] == "Progressing":
+            if time.monotonic() > until:
+                raise Wrong(f"the release of {version} does not end")
         if (stand["status"], stand["version"]) != (wanted, version):
-            raise SystemExit(f"loop: {version} is {stand['status']}, and not {wanted}")
+            raise Wrong(f"{version} is {stand['status']}, and not {wanted}")
+        self.show_end(version if wanted == "Healthy" else stable)
+
+    def show_end(self, version):
+        """Shows three seconds, or as many as it takes until this version answers alone."""
+        who = [self.show()[1] for _ in range(3)]
+        while who[-1] != [version]:
+            if len(who) > 20:
+                raise Wrong(f"others than {version} still answer: {who[-1]}")
+            who.append(self.show()[1])
+
+    def draw(self):
+        """Writes the page of the desk's file."""
+        drawn = self.run("page", "--db", "desk.db", "desk.html")
+        if drawn.returncode:
+            raise Wrong(f"canary page: {drawn.stderr}")
 
 
-def main():
+def shares_of(answered, errors):
+    """Who answered which share of the requests, and which share of them nobody did."""
+    nobody = sum(errors.values()) - errors["500"]
+    count = max(1, sum(answered.values()) + nobody)
+    found = {**dict(sorted(answered.items())), **({"nobody": nobody} if nobody else {})}
+    return " ".join(f"{name} {of * 100 / count:3.0f}%" for name, of in found.items())
+
+
+def play(loop, act):
+    """Starts the parts, does what is to be done with them, and ends all of them in any case."""
     signal.signal(signal.SIGTERM, lambda *_: sys.exit(143))
-    loop = Loop(os.path.realpath(sys.argv[1]), sys.argv[2])
     try:
         loop.start_all()
-        print("time      desk                                  | HAProxy's weights   |"
-              " who answered             | Prometheus")
-        loop.release("v1", "v2", "Healthy")
-        loop.release("v2", "v3", "Degraded")
-        print("\nWhat the desk says of it:")
-        for line in json.loads(get(loop.port["desk"], "/services/web/history")[1])["lines"]:
-            print(f"  {line}")
-        print("\nWhat the follower did:")
-        for line in (loop.folder / "follower.log").read_text(encoding="utf-8").splitlines():
-            print(f"  {line}")
+        act(loop)
+    except Wrong as wrong:
+        sys.exit(f"loop: {wrong}")
     finally:
         loop.stop_all()
 
 
-main()
+def two_releases(loop):
+    print("time      desk                                  | HAProxy's weights   |"
+          " answers: by whom         | Prometheus")
+    loop.release("v1", "v2", "Healthy")
+    loop.release("v2", "v3", "Degraded")
+    loop.draw()
+    print("\nWhat the desk says of it:")
+    for line in loop.history():
+        print(f"  {line}")
+    print("\nWhat the follower did:")
+    for line in loop.said("follower"):
+        print(f"  {line}")
+
+
+if __name__ == "__main__":
+    play(Loop(os.path.realpath(sys.argv[1]), sys.argv[2]), two_releases)

@@ -38,4 +38,12 @@ class Handler(http.server.BaseHTTPRequestHandler):
         """Nothing."""
 
 
-http.server.ThreadingHTTPServer(("127.0.0.1", PORT), Handler).serve_forever()
+class Server(http.server.ThreadingHTTPServer):
+    # If more connections wait to be taken, the router tries again a second later.
+    request_queue_size = 128
+
+    def handle_error(self, *_):
+        """Nothing: a router that is killed ends its connections."""
+
+
+Server(("127.0.0.1", PORT), Handler).serve_forever()

@@ -15,6 +15,7 @@ import edits
 import lines
 import real
 import replies
+import runs
 import silence
 import streams
 import web
@@ -39,7 +40,7 @@ CONTEXT = multiprocessing.get_context("fork")
 # The parts that run, by their names.
 parts = {}
 # The long ones first.
-PARTS = parts_of(silence, real, crowd, replies, edits, lines, web, edges, streams)
+PARTS = parts_of(silence, real, crowd, replies, edits, lines, runs, web, edges, streams)
 
 
 def give_up(*_):

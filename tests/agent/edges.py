@@ -4,7 +4,6 @@ import contextlib
 import http.client
 import json
 import os
-import shutil
 import signal
 import stat
 import subprocess
@@ -17,7 +16,7 @@ from agents import (
 from journal_rule import journal_of, line_of
 from world import (
     AHEAD, BROKEN, DONE, IN_USE, LOCAL, NO_FILE, NO_JOURNAL_FILE, OTHER_CALLER, PENDING,
-    REFUSED, WORDS, Ended, Wrong, answering, environment, expect, free_port,
+    REFUSED, WORDS, Ended, Wrong, answering, environment, expect, free_port, install,
     process)
 from world import ask as ask_bytes
 
@@ -421,8 +420,7 @@ def run_as_nobody(desk, *files, **more):
     """Runs an agent as a user who may not write here; as it is, if this is no superuser."""
     program = desk.folder / "canary"
     if not program.exists():
-        shutil.copy(desk.world.program, program)
-        program.chmod(0o755)
+        install(program, desk.world.program)
     user = {"user": NOBODY, "group": NOBODY} if os.getuid() == 0 else {}
     ended = subprocess.run([str(program), *agent_words(desk, *files, **more)], timeout=20,
                            cwd=desk.folder, env=environment(), stdin=subprocess.DEVNULL,

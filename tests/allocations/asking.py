@@ -66,6 +66,41 @@ def refuse_by_variables(trial, share):
         row, refuse_in(trial, row, lambda number: words, wanted, **given))
 
 
+# What a crash left behind the closed gate: a part of the next record.
+TORN = b'{"asked":{"bo'
+
+
+def begin_with(file, left):
+    """The file has these bytes, or is not there."""
+    if left is None:
+        with contextlib.suppress(FileNotFoundError):
+            os.remove(file)
+        return
+    with open(file, "wb") as journal:
+        journal.write(left)
+
+
+def refuse_each_of_call(trial, share, address):
+    """Each allocation of a call is refused that reads a journal with a torn rest, and of one that
+    begins a journal, by a caller of its own; the file is as before each time."""
+    with open(trial.file, "rb") as file:
+        whole = file.read()
+    for row, left, caller in (("client do, a torn journal", whole + TORN, lambda number: "ops"),
+                              ("client do, a new journal", None, lambda number: f"n{number}")):
+        def words(number, row=row, caller=caller):
+            return ["do", "--desk", address, "--as", caller(number), "--journal", trial.file,
+                    "--once", row, "tick", "web"]
+
+        refuse_once = refuse_in(trial, row, words, (0, PAUSED, b""))
+
+        def refuse(number, left=left, refuse_once=refuse_once):
+            begin_with(trial.file, left)
+            return refuse_once(number)
+
+        share.each_from(1).refuse_each(row, refuse)
+    begin_with(trial.file, whole)
+
+
 def ask_refused(trial, share):
     """Commands with keys of their own, and a query: each gets its reply, or says why not; and the
     same call gets it then."""
@@ -84,6 +119,7 @@ def ask_refused(trial, share):
         share.refuse_each("client do", refuse_in(
             trial, "client do",
             lambda number: call(trial, address, ["--once", str(number), "tick", "web"]), wanted))
+        refuse_each_of_call(trial, share, address)
         query = ["get", "--desk", address, "web", "history"]
         shown = trial.run(query)
         expect("client: a history", shown[0], 0)

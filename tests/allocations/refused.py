@@ -13,7 +13,7 @@ from asking import ask_refused
 from conversation import STILL_AT_B, reply_of
 from serving import converse_with_desk
 from story_tables import expect_tables
-from story_words import Wrong, answer, expect, get, messages_of_story, query
+from story_words import B, Wrong, answer, command, expect, get, messages_of_story, put, query
 
 ROOT = os.path.join(os.path.dirname(os.path.realpath(__file__)), "../..")
 MANIFESTS = ("rollouts/step-analysis.json", "templates/success-rate.json")
@@ -218,6 +218,63 @@ def try_stream(trial, _):
         return trial.asked()
 
     EACH.refuse_each("a stream", refuse)
+
+
+# Commands of each kind over a release in its second attempt, whose metrics, steps and entries have
+# all parts that they can have; a condition that is none; commands that come again; and bodies that
+# are no commands, as `unreadable` or `unsupported`.
+WIDE = r"""ops 1 template t m,success=result>10,count=3,interval=60 n dryRun:n => [t 1]
+ops 2 template t m n,success=result>1,failure=result> => 422 bad-condition
+ops 3 service v1 setWeight:20 analysis:t pause:300 background:t => [web Healthy 3 100]
+ops 4 start v2 => [web Progressing 1 20]
+agent 1 report 1 m:1:0:!down n:1:0:[1;2] => [web Progressing 1 20 | 1 Error Successful | Running]
+ops 5 abort => [web Degraded 1 0]
+ops 6 retry => [web Progressing 1 20]
+ops 7 template s m => [s 1]
+ops 8 start v3 => 422 in-progress
+ops 9 promoteFull => [web Healthy 3 100]
+ops 9 promoteFull => [web Healthy 3 100]
+ops 9 tick => 409 reused
+ops 10 {"tick":{"service":"web","more":[1,2,3]}} => 400 unreadable
+ops 10 {"tick":{"service":"web"} => 400 unreadable
+ops 10 {"template":{"kind":"Pod","metadata":{"name":"t"}}} => 400 unsupported"""
+
+# A pause that ends by time, at a clock of 300 seconds a message, which passes a step more if a
+# message is sent again.
+TIMED = """\
+ops 1 template t m => [t 1]
+ops 2 service v1 setWeight:20 pause:300 analysis:t background:t => [web Healthy 3 100]
+ops 3 start v2 => [web Paused 1 20]
+ops 4 tick => [web Progressing 2 20]
+agent 1 report 1 m:1:900:!down => [web Progressing 2 20 | 1 Error | Running]
+ops 5 abort => [web Degraded 2 0]"""
+EACH_300 = ["pipe", "--at", str(B), "--step", "300"]
+
+
+def messages_of(table):
+    """The requests of a table, a JSON body or a compact text each, and their replies."""
+    messages = []
+    for row in table.split("\n"):
+        asked, told = row.split(" => ")
+        caller, number, asked = asked.split(" ", 2)
+        body = asked.encode() if asked.startswith("{") else command(asked)
+        messages.append((put(caller, number, body), answer(told)))
+    return messages
+
+
+def try_tables(trial, _):
+    """The tables above over a book in memory: each allocation is refused."""
+    for row, words, table in (("a wide stream", STILL_AT_B, WIDE),
+                              ("a timed stream", EACH_300, TIMED)):
+        asked, wanted = map(list, zip(*messages_of(table)))
+        expect_told(f"{row}, with nothing refused", trial.converse(words, asked), wanted)
+
+        def refuse(number, row=row, words=words, asked=asked, wanted=wanted):
+            found = trial.converse(words, asked, number)
+            expect_told(f"{row}: when allocation {number} is refused", found, wanted)
+            return trial.asked()
+
+        EACH.refuse_each(row, refuse)
 
 
 def try_over_file(trial, share, row, prepare):
@@ -448,8 +505,8 @@ def try_page_of_served(trial, share):
             desk.kill()
 
 
-CASES = (try_lines, try_stream, try_file, try_opened, try_serve, try_import, try_shown, try_client,
-         try_page, try_backup, try_succeed, try_page_of_served)
+CASES = (try_lines, try_stream, try_tables, try_file, try_opened, try_serve, try_import, try_shown,
+         try_client, try_page, try_backup, try_succeed, try_page_of_served)
 
 
 def main():

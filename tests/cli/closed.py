@@ -13,7 +13,7 @@ import sqlite3
 import subprocess
 import tempfile
 
-from conversation import STILL_AT_B
+from conversation import STILL_AT_B, without_progress
 from files import FILE, HEADER, LINES, RELEASE, ROWS
 from story_words import B, command, expect, put
 
@@ -59,12 +59,14 @@ PROGRAMS = (
     Row("history", "--db", "desk.db", "web"),
     Row("status", "--db", "desk.db"),
     Row("status", "--db", "desk.db", "--json", is_held=True),
+    Row("status", "--db", "desk.db", "--prometheus"),
     Row("page", "--db", "desk.db", "-"),
     Row("page", "--db", "desk.db", "desk.html"),
     Row("page", "--db", "desk.db", "new.html", is_held=True),
     Row("backup", "--db", "desk.db", "copy.db", is_held=True),
     Row("migrate", "--db", "first.db"),
     Row("migrate", "--db", "first.db", "--dry-run"),
+    Row("succeed", "--db", "done.db", "new.db"),
 )
 
 
@@ -74,10 +76,13 @@ def make_places(program, folder):
     for name, content in FILES.items():
         with open(os.path.join(folder, name), "wb") as file:
             file.write(content)
-    words = [*STILL_AT_B, "--db", "desk.db"]
-    done = subprocess.run([program, *words], cwd=folder, input=b"".join(ASKED),
-                          capture_output=True, timeout=60)
-    expect("the desk", (done.returncode, done.stdout.count(b"HTTP/1.1 200 OK\r\n")), (0, 3))
+    # no release goes on in the second
+    for name, asked in (("desk.db", ASKED), ("done.db", ASKED[:2])):
+        words = [*STILL_AT_B, "--db", name]
+        done = subprocess.run([program, *words], cwd=folder, input=b"".join(asked),
+                              capture_output=True, timeout=60)
+        found = (done.returncode, done.stdout.count(b"HTTP/1.1 200 OK\r\n"))
+        expect(f"the desk {name}", found, (0, len(asked)))
     first = sqlite3.connect(os.path.join(folder, "first.db"))
     with open(FIRST_VERSION, encoding="utf-8") as story:
         first.executescript(story.read())
@@ -171,7 +176,8 @@ class Trial:
                 done = subprocess.run(closing(closed, [self.program, *words]), cwd=place,
                                       stdin=stdin, stdout=output, stderr=subprocess.PIPE,
                                       timeout=60)
-            return (done.returncode, masked(done.stdout or b""), done.stderr), state_of(place)
+            told = masked(done.stdout or b""), without_progress(done.stderr)
+            return (done.returncode, *told), state_of(place)
 
 
 class Expected:

@@ -4,7 +4,7 @@ import os
 import shutil
 import subprocess
 
-from conversation import limits_writes
+from conversation import limits_writes, without_progress
 from story_words import B, Wrong, answer, command, expect, put
 from streams import FAR, connection, joined, read_some, reset
 
@@ -108,7 +108,7 @@ def written_to_full(program, words, output, most, given=None):
                               stderr=subprocess.PIPE, timeout=60,
                               preexec_fn=lambda: limits_writes(FAR))
         written.seek(FAR - most)
-        return written.read(), done.returncode, done.stderr
+        return written.read(), done.returncode, without_progress(done.stderr)
 
 
 def try_full_outputs(program, folder):

@@ -7,6 +7,7 @@ import subprocess
 import time
 import tty
 
+from conversation import without_progress
 from story_words import B, Wrong, command, expect, put
 
 ERASED = b"\r\x1b[K"
@@ -85,7 +86,8 @@ def try_judging(program, place):
     for words in rows:
         plain = subprocess.run([program, *words], cwd=place, stdin=subprocess.DEVNULL, timeout=60,
                                capture_output=True)
-        expect(f"{words}: no terminal", (plain.returncode, plain.stderr), (0, b""))
+        expect(f"{words}: no terminal", (plain.returncode, without_progress(plain.stderr)),
+               (0, b""))
         written, shown = run_showing(program, words, place)
         expect(words, (written, judged(words, shown)), (plain.stdout, b""))
     return len(rows)
@@ -172,7 +174,8 @@ def try_missing(program, place):
             os.remove(os.path.join(place, name))
         done = subprocess.run([program, *words], cwd=place, stdin=subprocess.DEVNULL, timeout=60,
                               capture_output=True)
-        expect(f"{words}, on no terminal", (done.returncode, done.stdout, done.stderr),
+        expect(f"{words}, on no terminal",
+               (done.returncode, done.stdout, without_progress(done.stderr)),
                (status, b"", elsewhere))
         for name in set(os.listdir(place)) - before:
             os.remove(os.path.join(place, name))
@@ -207,7 +210,8 @@ def try_faults(program, place):
         expect(f"{words}, on a terminal", (written, shown), (b"", line + about))
         done = subprocess.run([program, *words], cwd=place, stdin=subprocess.DEVNULL, timeout=60,
                               capture_output=True)
-        expect(f"{words}, on no terminal", (done.returncode, done.stderr), (1, line))
+        expect(f"{words}, on no terminal", (done.returncode, without_progress(done.stderr)),
+               (1, line))
     with open(os.path.join(place, "errors"), "w", encoding="ascii") as errors:
         desk = subprocess.Popen([program, "serve", "--listen", "127.0.0.1:0", "--db", "desk.db"],
                                 cwd=place, stdout=subprocess.PIPE, stderr=errors)
@@ -233,7 +237,7 @@ def try_watching(program, place):
                                        stderr=subprocess.PIPE)
     once = read_terminal(shown, 60)
     os.close(shown)
-    expect(words, (once, running.stderr.read(), running.wait()), (plain, b"", 0))
+    expect(words, (once, without_progress(running.stderr.read()), running.wait()), (plain, b"", 0))
     words = [*words, "--watch", "1"]
     running, shown = begin_on_terminal(program, words, place, "stdout", stdin=subprocess.DEVNULL,
                                        stderr=subprocess.PIPE)
@@ -241,7 +245,7 @@ def try_watching(program, place):
     found = read_terminal(shown, 60, lambda found: len(found) >= len(wanted))
     running.kill()
     os.close(shown)
-    told = running.communicate()[1]
+    told = without_progress(running.communicate()[1])
     expect(words, (found[:len(wanted)], told), (wanted, b""))
     return 2
 

@@ -10,6 +10,7 @@ import traceback
 import argo
 import closed
 import copies
+import fates
 import journals
 import kills
 import limits
@@ -38,8 +39,8 @@ def parts_of(*modules):
 
 
 # The long ones first.
-PARTS = parts_of(storms, kills, journals, copies, replies, wishes, closed, reports, sends, queries,
-                 silence, strangers, limits, words, minutes, argo)
+PARTS = parts_of(storms, kills, journals, fates, copies, replies, wishes, closed, reports, sends,
+                 queries, silence, strangers, limits, words, minutes, argo)
 
 
 def fail(why):

@@ -14,8 +14,8 @@ from world import (
     AHEAD, BEHIND, BROKEN, CONTRADICTION, DONE, EMPTIED, ENDED, IN_USE, KEY_USED, LATE, LOCAL, LOST,
     MARKS, NOT_BEGUN, NO_FILE, NO_JOURNAL_FILE, OTHER_CALLER, PENDING, PENDING_SAID, PROMOTED,
     REFUSED, REUSED, SPENT, STARTED, TOOK_PLACE, UNREACHABLE, WORDS, Caller, Wrong, add, answering,
-    ask, environment, expect, free_port, process, shown, shows, two_pauses, want, want_all_said,
-    want_delivered,
+    ask, environment, expect, free_port, install, process, shown, shows, two_pauses, want,
+    want_all_said, want_delivered,
 )
 
 NOBODY = 65534
@@ -493,9 +493,9 @@ def try_unwritable(world):
         want("tick", desk.do("tick", "web"), DONE, shown(STARTED))
         before = (desk.folder / "ops.journal").read_bytes()
         program = desk.folder / "canary"
-        shutil.copy(world.program, program)
-        for path, mode in ((program, 0o755), (desk.folder / "ops.journal", 0o444),
-                           (world.folder, 0o711), (desk.folder, 0o555)):
+        install(program, world.program)
+        for path, mode in ((desk.folder / "ops.journal", 0o444), (world.folder, 0o711),
+                           (desk.folder, 0o555)):
             path.chmod(mode)
         nobody = {"user": NOBODY, "group": NOBODY} if os.getuid() == 0 else {}
         for name in ("new.journal", "ops.journal"):

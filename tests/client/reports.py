@@ -9,7 +9,7 @@ import time
 
 from world import (
     BEHIND, DONE, PENDING, PENDING_SAID, REFUSED, WORDS, Caller, Wrong, answering, ask,
-    environment, expect, free_port, process, rollout, want, want_delivered,
+    environment, expect, free_port, install, process, rollout, want, want_delivered,
 )
 
 AGENT = pathlib.Path(__file__).resolve().parents[2] / "examples" / "operations" / "report"
@@ -215,9 +215,8 @@ def try_agent(world):
         add_measured(desk, metric("m", "1s"), metric("n", "1s"), metric("-x", "1s"))
         (desk.folder / "bin").mkdir()
         (desk.folder / "bin" / "canary").symlink_to(world.program)
-        script = desk.folder / "bin" / "measure"
-        script.write_text('#!/bin/sh\n[ "$1" = web ] && [ "$2" != n ] && echo -5\n')
-        script.chmod(0o755)
+        install(desk.folder / "bin" / "measure",
+                text='#!/bin/sh\n[ "$1" = web ] && [ "$2" != n ] && echo -5\n')
         variables = {"PATH": f"{desk.folder}/bin:{os.environ['PATH']}",
                      "CANARY_DESK": f"127.0.0.1:{desk.port}", "AGENT_FOLDER": str(desk.folder)}
 

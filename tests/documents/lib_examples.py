@@ -9,8 +9,7 @@ import re
 # The crates of tests, that of figures, and the program: no caller rests on them. Nor does any rest on
 # the laws over all senders, or on those over all books over tables.
 NO_LIBRARIES = {
-    "canary_bench", "canary_desk", "canary_senders", "canary_tables_laws", "canary_testing",
-    "canary_tests", "canary_yaml_reader",
+    "canary_desk", "canary_senders", "canary_tables_laws", "canary_tests", "canary_tools",
 }
 EXAMPLE = re.compile(r"^In use \((\w+), (\S+)\):\n\n((?:    .*\n)+)", re.MULTILINE)
 CODE = re.compile(r"^    ", re.MULTILINE)
@@ -35,7 +34,7 @@ def stands(code, source):
 def fault_of(crates, crate, name, file, code):
     """What is wrong with an example of the crate, from that file of the crate of that name."""
     source = crates / name / file
-    if name == crate or name == "canary_bench":
+    if name == crate or name == "canary_tools":
         return f"an example from {name} does not show that it runs"
     if not source.is_file():
         return f"there is no {name}/{file}"

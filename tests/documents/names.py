@@ -1,6 +1,7 @@
 """Checks the names in documents, a part of documents.py.
 
-- a crate, a module `canary_x::module` and what stands in it, `canary_x::module::name`, are there
+- a crate, a module `canary_x::module` and what stands in it, `canary_x::module::name`, are there; a
+  name that begins so may also be a family of `status --prometheus`
 - a name in backquotes that is written as code is (`is_broken`, `BookState`) stands in some source,
   script, test or example of the repository, or is one of another's (NOT_OURS)
 - the first line of each file of specs/ and proofs/ says what it is about
@@ -16,6 +17,8 @@ EXCEPTIONS = "docs/ARCHITECTURE.md"
 SOURCES = ("crates", "tests", "bench", "examples", ".ci")
 # Programs that are built beside the crates.
 PROGRAMS = {"canary_unproved"}
+# A text of `status --prometheus` with all families.
+FAMILIES = "tests/page/textfile.prom"
 # Names of the kit, of systems, of programs by others, and names that a document makes up.
 NOT_OURS = {
     "analysisRunMetadata", "LimitFSIZE", "O_NOFOLLOW", "RENAME_NOREPLACE", "set_step_limit",
@@ -49,8 +52,13 @@ def fault_of_path(root, crate, names):
     return f"{crate}::{names[0]} has no {lacking[0]}" if lacking else None
 
 
+def families(root):
+    text = (root / FAMILIES).read_text(encoding="utf-8")
+    return set(re.findall(r"^# TYPE (\w+) gauge$", text, re.MULTILINE))
+
+
 def faults_of_crates(root, name, page):
-    known = {folder.name for folder in (root / "crates").iterdir()} | PROGRAMS
+    known = {folder.name for folder in (root / "crates").iterdir()} | PROGRAMS | families(root)
     for number, line in enumerate(page.text.split("\n"), 1):
         for crate in CRATE.findall(line):
             if crate not in known:

@@ -11,7 +11,7 @@ import sqlite3
 import subprocess
 import sys
 
-from conversation import STILL_AT_B
+from conversation import STILL_AT_B, without_progress
 from story_words import B, Wrong, answer, command, expect, get, put, query, replies, reply
 
 MANY, WIDE, LONG = 150, 32, 33_000
@@ -38,7 +38,7 @@ def run(program, words, sent=b""):
 
 
 def want(row, done, output):
-    expect(row, (done.returncode, done.stdout, done.stderr), (0, output, b""))
+    expect(row, (done.returncode, done.stdout, without_progress(done.stderr)), (0, output, b""))
 
 
 def tell(program, file, row, messages):

@@ -230,7 +230,7 @@ def try_names(program, folder):
     left = sorted(os.listdir(place))
     before = pair(old)
     for name in ("file", "log", "folder", "fifo", "dangling", "link", "other", "old.db",
-                 "old.db-wal", "old.db-journal", "./old.db", "folder/../old.db",
+                 "old.db-wal", "old.db-journal", os.path.join(".", "old.db"), "folder/../old.db",
                  "none/new", "file/new", "folder/", ""):
         expect(f"the name {name!r}", succeed(program, "old.db", name, cwd=place), FILE_FAULT)
     for name in (":memory:", "file:new"):

@@ -1,5 +1,6 @@
 """A conversation with a program over its standard streams, on a clock that begins at the moment
 B."""
+import re
 import resource
 import signal
 
@@ -7,6 +8,13 @@ from story_words import B
 
 AT_B = ["pipe", "--at", str(B), "--step", "1"]
 STILL_AT_B = ["pipe", "--at", str(B), "--step", "0"]
+PROGRESS = re.compile(rb"canary: \d+ (?:of \d+ )?(?:rows judged|MB read|services drawn)\n")
+
+
+def without_progress(errors):
+    """What standard error has but for the lines of a program that takes more than two seconds, as it
+    may on a slow machine."""
+    return PROGRESS.sub(b"", errors)
 
 
 def limits_writes(most):

@@ -28,7 +28,7 @@ sys.exit(sys.version_info < (3, 10) or sqlite3.sqlite_version_info < (3, 37))' ;
         pyyaml) python3 -c 'import yaml' ;;
         haproxy) haproxy -c -f <(haproxy_of_scripts) ;;
         nginx) nginx -V 2>&1 | grep -e --with-http_ssl_module ;;
-        prometheus) prometheus --version ;;
+        prometheus) prometheus --version && promtool --version ;;
         *) command -v "$1" ;;
     esac > /dev/null 2>&1 < /dev/null
 }
@@ -45,7 +45,7 @@ described() {
         pyyaml) echo "PyYAML, the module yaml of python3" ;;
         haproxy) echo "haproxy 2.5 or later, built with OpenSSL" ;;
         nginx) echo "nginx with its module http_ssl" ;;
-        prometheus) echo "prometheus 2" ;;
+        prometheus) echo "prometheus 2, with promtool" ;;
         *) echo "$1" ;;
     esac
 }
@@ -67,7 +67,8 @@ packages_of() {
 # What the gate does not try without the tool $1.
 left_out_without() {
     case $1 in
-        cc) echo "cc: refused allocations (tests/allocations/run)" ;;
+        cc) echo "cc: refused allocations (tests/allocations/run), and what a slow program says" \
+            "(tests/files/run)" ;;
         strace) echo "strace: calls that fail (tests/cli/run, tests/disk/run, tests/migrate/run," \
             "tests/client/run), power cuts (the last three), a client and a desk killed at each" \
             "call (tests/client/run), how much a desk writes at once (tests/listener/run), and" \
@@ -82,7 +83,8 @@ left_out_without() {
         nginx) echo "nginx: what follows a release by nginx, and roles by it (tests/proxies/run)" ;;
         openssl) echo "openssl: roles by a proxy (tests/proxies/run)" ;;
         prometheus) echo "prometheus: releases that a real Prometheus measures (tests/agent/run)," \
-            "and examples/loop (tests/proxies/run)" ;;
+            "examples/loop (tests/proxies/run), and what promtool says of \`status --prometheus\`" \
+            "and of alerts (tests/page/run)" ;;
     esac
 }
 

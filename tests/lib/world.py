@@ -83,6 +83,13 @@ def end(started):
     running.discard(started)
 
 
+def install(path, source="/dev/stdin", text=None):
+    """Makes a program of a text, or of another one, by a process of its own. If this process wrote
+    the file, one that another thread starts meanwhile would have it open for writing as well for a
+    moment, and as long as somebody has, the system runs it for nobody ("text file busy")."""
+    subprocess.run(["install", "-m", "755", source, path], input=text, text=True, check=True)
+
+
 def environment(**more):
     """The variables of this process, without those of the client, and with these."""
     kept = {name: value for name, value in os.environ.items() if not name.startswith("CANARY_")}
@@ -118,7 +125,12 @@ class World:
 
     def run(self, words, folder, timeout=120, variables=None, stdin=subprocess.DEVNULL, **more):
         """Runs the client, and has what came of it."""
-        with process([self.program, *words], cwd=folder, stdin=stdin, stdout=subprocess.PIPE,
+        return self.run_words([self.program, *words], folder, timeout, variables, stdin, **more)
+
+    def run_words(self, words, folder, timeout=120, variables=None, stdin=subprocess.DEVNULL,
+                  **more):
+        """Runs a command, as another one that begins the client."""
+        with process(words, cwd=folder, stdin=stdin, stdout=subprocess.PIPE,
                      stderr=subprocess.PIPE, env=environment(**(variables or {})),
                      **more) as client:
             output, errors = client.communicate(timeout=timeout)

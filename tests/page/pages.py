@@ -1,5 +1,6 @@
 """Draws the pages of some desks, and looks at them: pages.py PROGRAM FOLDER [CASE..]. The comment at
 the top of tests/page/run says what is tried."""
+import contextlib
 import json
 import os
 import re
@@ -8,7 +9,9 @@ import subprocess
 import sys
 import time
 
+import records
 import stories
+import textfile
 from outline import Broken, outline, tree_of
 
 HERE = os.path.dirname(os.path.abspath(__file__))
@@ -115,7 +118,31 @@ def try_case(program, folder, case):
     root = look(page, name)
     tidy(page, name)
     want_outline(root, name)
-    look_at_values(run([program, "status", "--json", "--db", file], name), root, name)
+    values = run([program, "status", "--json", "--db", file], name)
+    look_at_values(values, root, name)
+    with wrong_texts(name):
+        textfile.look_at_case(name, text_of(program, file, name), values)
+
+
+@contextlib.contextmanager
+def wrong_texts(row):
+    """Says of a text for the textfile collector what is wrong with it, and ends."""
+    try:
+        yield
+    except textfile.Wrong as error:
+        fail(f"{row}: status --prometheus: {error}")
+
+
+def text_of(program, file, row):
+    """What `status --prometheus` writes, to which promtool does not object."""
+    text = run([program, "status", "--prometheus", "--db", file], row)
+    if has_prometheus():
+        textfile.promtool(["check", "metrics"], input=text)
+    return text
+
+
+def has_prometheus():
+    return "prometheus" not in os.environ.get("CHECK_WITHOUT", "").split()
 
 
 def parts_of(out):
@@ -285,6 +312,29 @@ def try_faults(program, folder):
             fail("a fault changed a file")
 
 
+def try_textfile(program, folder):
+    """The text for the textfile collector of a desk that was worked out by hand, by itself and as
+    node_exporter shows it; and the alerts of examples/operations."""
+    file = os.path.join(folder, "textfile.db")
+    make_desk(program, file, "textfile", textfile.worked())
+    with wrong_texts("textfile"):
+        text = text_of(program, file, "textfile")
+        textfile.look_at_worked(text)
+        textfile.look(text, run([program, "status", "--json", "--db", file], "textfile"))
+        textfile.collect(folder, text)
+    if has_prometheus():
+        with wrong_texts("alerts"):
+            textfile.look_at_alerts()
+
+
+def try_records(program, folder):
+    """The files in JSON beside a page."""
+    try:
+        records.try_all(program, folder, make_desk)
+    except (records.Wrong, ValueError, KeyError, UnicodeDecodeError) as error:
+        fail(f"--json: {error}")
+
+
 def main(program, folder, names):
     known = {case.__name__: case for case in stories.CASES}
     for name in names:
@@ -301,6 +351,8 @@ def main(program, folder, names):
         try_silence(program, folder)
         try_watch(program, folder)
         try_faults(program, folder)
+        try_textfile(program, folder)
+        try_records(program, folder)
     print(f"page: {len(names or known)} desks drawn", file=sys.stderr)
 
 

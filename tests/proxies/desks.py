@@ -140,6 +140,8 @@ class Sender:
         self.group, self.port, self.connection = group, port, None
         self.sent = self.again = 0
         self.slowest = 0.0
+        # What was sent, and the reply to it.
+        self.exchanges = []
 
     def ask(self, method, path, command):
         """The status and the body of the reply; 503 if there is none."""
@@ -166,10 +168,30 @@ class Sender:
                 time.sleep(.02)
             self.slowest = max(self.slowest, time.monotonic() - begun)
             if isinstance(wanted[1], dict):
-                found = found[0], {name: value for name, value in json.loads(found[1]).items()
-                                   if name != "moment"}
+                found = without_moment(found)
             expect(f"{method} {path} {json.dumps(command)[:200]}", found, wanted)
+            self.exchanges.append((method, path, command, found))
             self.sent += 1
+
+
+def without_moment(found):
+    """The status and the body of a reply to the query of a service."""
+    return found[0], {name: value for name, value in json.loads(found[1]).items()
+                      if name != "moment"}
+
+
+def want_same_alone(world, name, sender):
+    """A desk that has this group alone, and no proxy before it, gives each request of the group the
+    same reply, but where HAProxy gave it to no desk."""
+    with world.desk(f"alone-{name}") as desk:
+        alone = Sender(None, desk.port)
+        for method, path, command, through in sender.exchanges:
+            if through == NOBODY:
+                continue
+            found = alone.ask(method, path, command)
+            if isinstance(through[1], dict):
+                found = without_moment(found)
+            expect(f"alone: {method} {path} {json.dumps(command)[:200]}", found, through)
 
 
 @contextlib.contextmanager
@@ -199,8 +221,9 @@ def kill_for_a_while(desk, senders, has_ended):
 
 
 def try_desks(world):
-    """Through HAProxy each request gets the reply that a desk of its group alone gives. While one
-    desk is away, those of the other groups are answered, and none of them is sent again."""
+    """Through HAProxy each request gets the reply that a desk of its group alone gives, by the rules
+    and by such a desk. While one desk is away, those of the other groups are answered, and none of
+    them is sent again."""
     count, is_over = 2500 if world.is_whole else 250, threading.Event()
     with four_desks(world) as (desks, port):
         senders = {name: Sender(Group(name, count), port) for name in GROUPS}
@@ -222,3 +245,5 @@ def try_desks(world):
         if senders["pay"].slowest < 1 and not senders["pay"].again:
             raise Wrong("no request of the desk that was killed had to wait")
         expect("the others are answered at once", [sender.again for sender in others], [0, 0, 0])
+    for name, sender in senders.items():
+        want_same_alone(world, name, sender)

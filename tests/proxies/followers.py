@@ -2,18 +2,15 @@
 and what stays when the desk, the proxy or the follower is away: parts of proxies.py."""
 import contextlib
 import json
-import os
 import shlex
-import signal
-import subprocess
 import time
 
 from parts import (
-    OPERATIONS, HAProxy, Nginx, children_of, filled, follower, is_alive, lasts, speaking, version,
+    HAProxy, Nginx, children_of, filled, follower, is_alive, lasts, speaking, version,
     want_shares,
 )
 from silence import variables
-from world import Caller, Wrong, add, environment, expect, free_port, process, wait_until
+from world import Caller, Wrong, add, expect, free_port, install, wait_until
 
 # How many seconds a change may take to come about: on a machine with much else to do, many.
 LONGEST = 40
@@ -143,7 +140,7 @@ def try_haproxy_words(world):
         with follower(folder, spoken, *words_for(proxy)):
             want_weights("Degraded", proxy, 100, 0)
         # a canary watch that ends, after which the follower is to be started again
-        (folder / "bin" / "canary").write_text("#!/bin/sh\nexit 5\n", encoding="utf-8")
+        install(folder / "bin" / "canary", text="#!/bin/sh\nexit 5\n")
         with follower(folder, spoken, *words_for(proxy)) as (started, said):
             expect("it ends", started.wait(LONGEST), 1)
             expect("it says why", said(), "v2 50 -> 0\ncanary watch has ended\n")
@@ -260,23 +257,3 @@ def try_nginx_words(world):
         # 40 lines in 4 seconds or more: a reload for the first, and one a second
         if not 2 <= proxy.reloads() <= seconds + 2:
             raise Wrong(f"{proxy.reloads()} reloads in {seconds} seconds")
-
-
-
-def try_loop(world):
-    """The whole loop of examples/loop: a good version is promoted, and a bad one aborted."""
-    folder = world.place("loop")
-    with process([OPERATIONS.parent / "loop" / "run", world.program], cwd=folder,
-                 env=environment(TMPDIR=str(folder)), stdin=subprocess.DEVNULL,
-                 stdout=subprocess.PIPE, stderr=subprocess.STDOUT, text=True,
-                 start_new_session=True) as started:
-        started.is_of_group = True
-        try:
-            shown = started.communicate(timeout=170)[0]
-        finally:
-            with contextlib.suppress(ProcessLookupError):
-                os.killpg(started.pid, signal.SIGKILL)
-    expect(f"the loop: {shown}", started.returncode, 0)
-    for line in ("done v2", "abort run 3", "v1 100 -> 80", "v3 20 -> 0"):
-        expect(f"the loop shows {line}", line in shown, True)
-    expect("it leaves nothing", [*folder.iterdir()], [])

@@ -14,7 +14,7 @@ import subprocess
 import threading
 import time
 
-from world import Wrong, end, expect, process, running, wait_until
+from world import Wrong, end, expect, install, process, running, wait_until
 
 OPERATIONS = pathlib.Path(__file__).resolve().parents[2] / "examples" / "operations"
 
@@ -187,9 +187,7 @@ def is_alive(pid):
 def speaking(folder, script):
     """The variables under which `canary` is this script of sh: a desk that is hostile."""
     (folder / "bin").mkdir()
-    file = folder / "bin" / "canary"
-    file.write_text(f"#!/bin/sh\n{script}\nexec sleep 600\n", encoding="utf-8")
-    file.chmod(0o755)
+    install(folder / "bin" / "canary", text=f"#!/bin/sh\n{script}\nexec sleep 600\n")
     return {**os.environ, "PATH": f"{folder}/bin:{os.environ['PATH']}"}
 
 

@@ -12,6 +12,7 @@ sys.path.append(str(pathlib.Path(__file__).resolve().parents[1] / "client"))
 
 import desks  # pylint: disable=wrong-import-position
 import followers  # pylint: disable=wrong-import-position
+import loops  # pylint: disable=wrong-import-position
 import notices  # pylint: disable=wrong-import-position
 import roles  # pylint: disable=wrong-import-position
 from world import World, running  # pylint: disable=wrong-import-position
@@ -26,12 +27,15 @@ NEEDS = {
     "try_roles_haproxy": {"haproxy", "openssl", "curl"},
     "try_roles_nginx": {"nginx", "haproxy", "openssl", "curl"},
     "try_loop": {"haproxy", "prometheus"},
+    "try_killed_desk": {"haproxy", "prometheus"},
+    "try_killed_router": {"haproxy", "prometheus"},
+    "try_killed_versions": {"haproxy", "prometheus"},
     "try_notify": set(),
     "try_notify_away": set(),
     "try_notify_flood": set(),
     "try_notify_words": set(),
 }
-PARTS = {name: getattr(module, name) for module in (desks, followers, notices, roles)
+PARTS = {name: getattr(module, name) for module in (desks, followers, loops, notices, roles)
          for name in NEEDS if hasattr(module, name)}
 
 
@@ -81,8 +85,7 @@ def main():
     for number in (signal.SIGTERM, signal.SIGINT, signal.SIGHUP):
         signal.signal(number, end_all)
     failed = names
-    # What failed is tried once more, alone: a part starts programs that it has just written, which
-    # fails ("text file busy") if another one starts a program in that moment.
+    # What failed is tried once more, alone: all at a time they may be too much for the machine.
     for turn, beside in (("first", len(PARTS)), ("again", 1)):
         (folder / turn).mkdir()
         world = World(os.path.realpath(program), str(folder / turn), is_whole == "1", 0)

@@ -1,4 +1,4 @@
-desk 524
+desk 557
 
 # A doubled promotion acts once, a number ahead and another command under an old number change
 # nothing, and each kept reply comes again.
@@ -696,6 +696,48 @@ ops 2 0 service v1 setWeight:20 pause:300 pause => 409 reused
 ops 3 0 start v3 => 409 reused
 ops 4 0 report 1 m:1:2:[1;-2] n:1:2:!news => 409 reused
 ops 5 0 promoteFull => 409 reused
+
+
+# A release in its second attempt, with a measurement of each: what may be done next.
+ops 1 0 template t m,success=result>9,count=3,interval=60 => [t 1]
+ops 2 0 service v1 setWeight:10 analysis:t setWeight:60 pause => [web Healthy 4 100]
+ops 3 0 start v2 => [web Progressing 1 10]
+agent 1 0 report 1 m:1:0:5 => [web Degraded 1 0 | 1 Failed | Failed]
+ops 4 0 retry => [web Progressing 1 10]
+agent 2 0 report 2 m:1:0:10 => [web Progressing 1 10 | 2 Successful | Running]
+ops 5 0 template s m => [s 1]
+ops 6 0 start v3 => 422 in-progress
+agent 3 60 report 2 m:2:60:!down => [web Progressing 1 10 | 2 Error | Running]
+ops 7 60 abort => [web Degraded 1 0]
+
+ops 1 0 template t m,success=result>9,count=3,interval=60 => [t 1]
+ops 2 0 service v1 setWeight:10 analysis:t setWeight:60 pause => [web Healthy 4 100]
+ops 3 0 start v2 => [web Progressing 1 10]
+agent 1 0 report 1 m:1:0:5 => [web Degraded 1 0 | 1 Failed | Failed]
+ops 4 0 retry => [web Progressing 1 10]
+agent 2 0 report 2 m:1:0:10 => [web Progressing 1 10 | 2 Successful | Running]
+ops 5 0 promoteFull => [web Healthy 4 100]
+
+
+# A release at a pause that ends at 300, with an open run: what may be done next.
+ops 1 0 template t m => [t 1]
+ops 2 0 service v1 setWeight:20 pause:300 analysis:t background:t => [web Healthy 3 100]
+ops 3 0 start v2 => [web Paused 1 20]
+ops 4 0 template s m => [s 1]
+ops 5 0 template t m => [t 2]
+ops 6 0 start v3 => 422 in-progress
+agent 1 1 report 1 m:1:0:!down => [web Paused 1 20 | 1 Error | Running]
+ops 7 1 abort => [web Degraded 1 0]
+
+ops 1 0 template t m => [t 1]
+ops 2 0 service v1 setWeight:20 pause:300 analysis:t background:t => [web Healthy 3 100]
+ops 3 0 start v2 => [web Paused 1 20]
+ops 4 300 tick => [web Progressing 2 20]
+
+ops 1 0 template t m => [t 1]
+ops 2 0 service v1 setWeight:20 pause:300 analysis:t background:t => [web Healthy 3 100]
+ops 3 0 start v2 => [web Paused 1 20]
+ops 4 251603539199 tick => [web Progressing 2 20]
 
 
 # A clock that has come to the greatest moment stands still.

@@ -1,2 +1,3 @@
 mod EntryLemmas
 mod LookLemmas
+mod TakingLemmas

@@ -1,3 +1,4 @@
 pub mod Lateness
 pub mod Plans
 pub mod Reports
+pub mod Takings

@@ -1,5 +1,6 @@
 //! Measurements that are being taken.
-ghost use Rattle.std.specs.Prelude.{◌≡◌, ◌≤◌};
+ghost use Rattle.std.specs.Prelude.{◌≡◌, ◌≤◌, IfOk, filter, filter_map};
+ghost use Rattle.canary_agent.specs.Takings.{IsPart, is_left, taken_of};
 
 use crate::plan::Metric;
 use crate::taken::{Came, Taken, came_of};
@@ -164,8 +165,14 @@ impl Takings {
         true
     }
 
-    /// Takes out what is there of a run, or `Memory`.
-    pub(crate) fn take(&mut self, alloc: Global, run: Number) -> Result<Vec<Taken>, Memory> {
+    /// Takes out what is there of a run. After `Memory` some of these may be gone, and are taken
+    /// anew.
+    pub(crate) fn take(&mut self, alloc: Global, run: Number) -> Result<Vec<Taken>, Memory>
+        ensures taken { IfOk result (λ taken.
+            taken.items ≡ filter_map (taken_of run) self.old.list.items) }
+        ensures left { IfOk result (λ _.
+            self.new.list.items ≡ filter (is_left run) self.old.list.items) }
+    {
         let list = mem::replace(&mut self.list, Vec::new(alloc));
         let mut found = Vec::new(alloc);
         for taking in list {
@@ -200,7 +207,9 @@ enum Part {
     Left(Taking),
 }
 
-fn part_of(taking: Taking, run: Number) -> Part {
+fn part_of(taking: Taking, run: Number) -> Part
+    ensures { IsPart run taking result }
+{
     if taking.run != run {
         return Part::Left(taking);
     }

@@ -21,3 +21,4 @@ pub mod draft;
 pub mod fault;
 pub mod folder;
 mod node;
+pub mod series;

@@ -13,7 +13,7 @@ use Rattle.canary_cli.specs.Performed.{status_of, IsNoClient, IsRun, IsRunTo}
 only_done : (done : Result Outcome Fault) → 0 ≡ status_of done → IsNoClient done → done ≡ Ok Done
 only_done (Ok Done) is none = refl
 only_done (Ok Findings) is none = let one : 0 ≡ 1 = is in absurd (omega arith)
-only_done (Ok Unclear) is none = let two : 0 ≡ 2 = is in absurd (omega arith)
+only_done (Ok (Unclear what)) is none = let two : 0 ≡ 2 = is in absurd (omega arith)
 only_done (Ok (Asked outcome)) is none = absurd (none outcome refl)
 only_done (Err f) is none = let one : 0 ≡ 1 = is in absurd (omega arith)
 

@@ -1,3 +1,4 @@
 pub mod Served
 pub mod TurnedAway
 pub mod Checked
+pub mod LeftUnclear

@@ -1,6 +1,6 @@
--- Why words in which clap finds nothing have no program.
-use Rattle.std.proofs.Common.{◌≡◌, ℕ, [], Option, Some, None, true, subst, inl, inr}
-use Rattle.std.specs.Prelude.{is_some}
+-- What comes of words that have no program, and of those for which no file may be opened.
+use Rattle.std.proofs.Common.{◌≡◌, ℕ, [], Option, Some, None, Result, Ok, Err, true, subst, sym, inl, inr}
+use Rattle.std.specs.Prelude.{is_some, IfErr, IfOk}
 use Rattle.clap.specs.Words.{IsAmong, Kinds}
 use Rattle.clap.specs.declared.error.kind.ErrorKind.TheVariants.{DisplayHelp, DisplayVersion}
 use Rattle.canary_wire.specs.Writes.{Known}
@@ -8,9 +8,10 @@ use Rattle.canary_words.specs.declared.words.Program.{Program}
 use Rattle.canary_words.specs.declared.words.WordsFault.{WordsFault}
 use Rattle.canary_words.specs.declared.words.WordsFault.TheVariants.{Help, Usage, Memory}
 use Rattle.canary_words.specs.CommandLine.{IsFor}
-use Rattle.canary_cli.specs.Performed.{IsGivenUp, IsTold}
+use Rattle.canary_cli.specs.Performed.{unopened_status, IsGivenUp, IsTold, IsTurnedAway}
 
--- only since memory ran out: they neither ask for help or for the version nor have a mistake
+-- why words in which clap finds nothing have no program:
+-- only since memory ran out, as they neither ask for help or for the version nor have a mistake
 pub only_memory : (kinds : Kinds) (fault : WordsFault) (w new_w : Known) (status : ℕ) → kinds ≡ [] → IsFor kinds fault → IsTold fault w new_w status
     → (status ≡ 1) × (new_w ≡ w)
 only_memory kinds (Help text) w new_w status none is told = absurd (elim is as (λ _. ⊥) [ inl help ↦ subst (IsAmong DisplayHelp) none help | inr version ↦ subst (IsAmong DisplayVersion) none version ])
@@ -18,6 +19,23 @@ only_memory kinds (Usage text) w new_w status none is told = absurd (subst (IsAm
 only_memory kinds Memory w new_w status none is told = told
 
 -- a program for which no file may be opened is given up so, if memory ran out
-pub given_up : (program : Option Program) (status : ℕ) → is_some program ≡ true → status ≡ 1 → IsGivenUp program status
-given_up None status is one = cc
-given_up (Some program) status is one = inr one
+no_memory : (program : Option Program) (status : ℕ) → is_some program ≡ true → status ≡ 1 → IsGivenUp program status
+no_memory None status is one = cc
+no_memory (Some program) status is one = inr one
+
+-- words in which clap finds nothing are given up, and nothing is shown
+pub given_up : (kinds : Kinds) (program : Option Program) (asked : Result Program WordsFault) (w new_w : Known) (status : ℕ) → kinds ≡ [] → IfOk asked (λ p. program ≡ Some p)
+    → IfErr asked (IsFor kinds) → is_some program ≡ true → IfOk asked (λ p. (status ≡ unopened_status p) × (new_w ≡ w))
+    → IfErr asked (λ fault. IsTold fault w new_w status)
+    → IsGivenUp program status × (new_w ≡ w)
+given_up kinds program (Ok p) w new_w status none is why some ended told = (subst (λ (o : Option Program). IsGivenUp o status) (sym is) (inl ended.0), ended.1)
+given_up kinds program (Err fault) w new_w status none is why some ended told =
+    let only = only_memory kinds fault w new_w status none why told in
+    (no_memory program status some only.0, only.1)
+
+-- and others are turned away
+pub turned_away : (kinds : Kinds) (asked : Result Program WordsFault) (w new_w : Known) (status : ℕ) → (kinds ≡ [] → ⊥) → IfOk asked (λ p. kinds ≡ []) → IfErr asked (IsFor kinds)
+    → IfErr asked (λ fault. IsTold fault w new_w status)
+    → IsTurnedAway kinds w new_w status
+turned_away kinds (Ok p) w new_w status some none why told = absurd (some none)
+turned_away kinds (Err fault) w new_w status some none why told = (fault, why, told)

@@ -1,5 +1,5 @@
 -- What a command line comes to: what is read, what is written, and the exit status.
-use Rattle.std.specs.Prelude.{◌≡◌, ◌⊎◌, ℕ, ◌<◌, length, Bool, true, false, List, [], Option, Some, None, Result, Ok, Err, codes, string_bytes, unwrap_or}
+use Rattle.std.specs.Prelude.{◌≡◌, ◌⊎◌, ◌&&◌, ℕ, ◌<◌, length, Bool, true, false, not, List, [], Option, Some, None, Result, Ok, Err, codes, is_some, string_bytes, unwrap_or, if◌then◌else◌}
 use Rattle.std.specs.Io.KnownBytes.{Appends}
 use Rattle.clap.specs.Words.{Kinds, Text}
 use Rattle.canary_once.specs.Contents.{Contents, no_contents}
@@ -15,6 +15,8 @@ use Rattle.canary_programs.specs.declared.fault.Fault.TheVariants as fault
 use Rattle.canary_programs.specs.Faults.{done_of}
 use Rattle.canary_cli.specs.declared.perform.Outcome.{Outcome}
 use Rattle.canary_cli.specs.declared.perform.Outcome.TheVariants.{Done, Findings, Unclear, Asked}
+use Rattle.canary_cli.specs.declared.unclear.Unclear.{Unclear as WhatIsUnclear}
+use Rattle.canary_cli.specs.declared.unclear.Unclear.TheVariants.{Checked, Form, Kept}
 use Rattle.canary_client.specs.Outcomes as client
 use Rattle.canary_client.specs.declared.outcome.Outcome as client_outcome
 use Rattle.canary_listen.specs.declared.limits.Limits.{Limits}
@@ -22,7 +24,7 @@ use Rattle.canary_words.specs.declared.words.Asked.{Asked as AskedOf}
 use Rattle.canary_words.specs.declared.words.Asked.TheVariants.{Do, Get, Watch, Send, Due, Agent}
 use Rattle.canary_words.specs.declared.words.AskedLimits.{AskedLimits}
 use Rattle.canary_words.specs.declared.words.Program.{Program}
-use Rattle.canary_words.specs.declared.words.Program.TheVariants.{Pipe, Serve, Import, History, Export, Status, Page, Backup, Migrate, Check, Argo, Ask}
+use Rattle.canary_words.specs.declared.words.Program.TheVariants.{Pipe, Serve, Import, History, Export, Status, Page, Backup, Migrate, Succeed, Check, Argo, Ask}
 use Rattle.canary_words.specs.declared.words.WordsFault.{WordsFault}
 use Rattle.canary_words.specs.declared.words.WordsFault.TheVariants.{Help, Usage, Memory as NoMemory}
 use Rattle.canary_words.specs.CommandLine.{IsFor, faults_of, program_of}
@@ -34,14 +36,33 @@ abbrev pub outcome_of : Result (Unit {0}) Fault → Result Outcome Fault
 outcome_of (Ok _) = Ok Done
 outcome_of (Err f) = Err f
 
--- 0 where it was done, 1 for findings or a fault, and 2 where the words do not say what to check; of
--- a client that of its outcome
+-- 0 where it was done, 1 for findings or a fault, and 2 where the words leave unclear what is asked;
+-- of a client that of its outcome
 abbrev pub status_of : Result Outcome Fault → ℕ
 status_of (Ok Done) = 0
 status_of (Ok Findings) = 1
-status_of (Ok Unclear) = 2
+status_of (Ok (Unclear what)) = 2
 status_of (Ok (Asked outcome)) = client.status_of outcome
 status_of (Err f) = 1
+
+-- ---- words that leave unclear what is asked
+
+abbrev pub unclear_if : Bool → WhatIsUnclear → Option WhatIsUnclear
+unclear_if is_so what = if is_so then Some what else None
+
+-- both are true, or neither is
+abbrev pub are_alike : Bool → Bool → Bool
+are_alike true b = b
+are_alike false b = not b
+
+-- what the words of a program leave unclear, if they do: `check` takes one of two files, `status` one
+-- of two forms, and `backup` the number of copies only with the seconds from one to the next
+abbrev pub unclear_of : Program → Option WhatIsUnclear
+unclear_of (Check file request strict) =
+    unclear_if (are_alike (is_some file) (is_some request)) Checked
+unclear_of (Status db watch json prometheus) = unclear_if (json && prometheus) Form
+unclear_of (Backup db copy every keep) = unclear_if (not (is_some every) && is_some keep) Kept
+unclear_of _ = None
 
 -- ---- what `serve` is given
 
@@ -100,7 +121,7 @@ IsCheckShown strict taken attended w new_w (Ok Done) =
     (taken ≡ true) × (strict ≡ true → attended ≡ true) × Appends w new_w (codes "ok\n")
 IsCheckShown strict taken attended w new_w (Ok Findings) = (strict ≡ false → taken ≡ false)
     × (text : List ℕ) × (3 < length text) × Appends w new_w text
-IsCheckShown strict taken attended w new_w (Ok Unclear) = ⊥
+IsCheckShown strict taken attended w new_w (Ok (Unclear what)) = ⊥
 IsCheckShown strict taken attended w new_w (Ok (Asked outcome)) = ⊥
 IsCheckShown strict taken attended w new_w (Err f) = (f ≡ fault.Memory) ⊎ (f ≡ fault.Write)
 
@@ -131,22 +152,30 @@ IsRun r new_r w new_w (Serve listen db cache connections limits) done = new_r �
 IsRun r new_r w new_w (Import db cache csv) done = Unit {0}
 IsRun r new_r w new_w (History db service) done = new_r ≡ r
 IsRun r new_r w new_w (Export db caller service) done = new_r ≡ r
-IsRun r new_r w new_w (Status db watch json) done = new_r ≡ r
-IsRun r new_r w new_w (Page db out watch) done = new_r ≡ r
-IsRun r new_r w new_w (Backup db copy) done = new_r ≡ r
+IsRun r new_r w new_w (Status db watch json prometheus) done = new_r ≡ r
+IsRun r new_r w new_w (Page db out watch json) done = new_r ≡ r
+IsRun r new_r w new_w (Backup db copy every keep) done = new_r ≡ r
 IsRun r new_r w new_w (Migrate db dry_run) done = new_r ≡ r
+IsRun r new_r w new_w (Succeed db new) done = new_r ≡ r
 IsRun r new_r w new_w (Check file request strict) done =
     (new_r ≡ r) × IsChecked w new_w done × IsNoClient done
 IsRun r new_r w new_w (Argo files out json) done = IsNoClient done
 IsRun r new_r w new_w (Ask asked) done = IsAsked r new_r asked
 
--- it shows what is in the file of a desk's records, or makes that one of this version
+-- it is no client of a desk
+abbrev pub IsOwn : Program → Type 0
+IsOwn (Ask asked) = ⊥
+IsOwn _ = Unit {0}
+
+-- it shows what is in the file of a desk's records, or makes that one of this version, or a new one of
+-- it
 abbrev pub IsOfRecords : Program → Type 0
 IsOfRecords (History db service) = Unit {0}
 IsOfRecords (Export db caller service) = Unit {0}
-IsOfRecords (Status db watch json) = Unit {0}
-IsOfRecords (Page db out watch) = Unit {0}
+IsOfRecords (Status db watch json prometheus) = Unit {0}
+IsOfRecords (Page db out watch json) = Unit {0}
 IsOfRecords (Migrate db dry_run) = Unit {0}
+IsOfRecords (Succeed db new) = Unit {0}
 IsOfRecords _ = ⊥
 
 -- the program was run so, and ended with this exit status
@@ -163,7 +192,7 @@ IsPipedTo r new_r w new_w at step status = (piped : Result (Unit {0}) Fault)
 -- connections ended, how far it has come, that it made a file, or what a check warns of
 abbrev pub MayTell : Program → Type 0
 MayTell (Pipe at step None cache) = ⊥
-MayTell (Backup db copy) = ⊥
+MayTell (Backup db copy every keep) = ⊥
 MayTell _ = Unit {0}
 
 abbrev pub IsOneThatTells : Option Program → Type 0

@@ -6,6 +6,7 @@ ghost use Rattle.canary_check.specs.Waiting.{is_attended, is_request_attended};
 ghost use Rattle.canary_cli.specs.Performed.{IsCheckShown, IsNoClient};
 
 use crate::perform::Outcome;
+use crate::unclear::Unclear;
 use crate::yaml::{self, Reading};
 use canary_base::lists::Text;
 use canary_check::check::Findings;
@@ -22,7 +23,8 @@ const WARNING: &str = "canary: warning: ";
 const MOST_BYTES: usize = 16_777_216;
 
 // Checks the manifest in the file of the name `file`, or the request's body in that of the name
-// `request`, whichever was given. If it is `strict`, each warning is a finding.
+// `request`, whichever was given: `unclear_of` says if that is not one of them. If it is `strict`,
+// each warning is a finding.
 pub(crate) fn check<P: Files + AllocGlobal, W: Write, F: Write>(
     rt: &P,
     file: &Option<Text>,
@@ -36,13 +38,10 @@ pub(crate) fn check<P: Files + AllocGlobal, W: Write, F: Write>(
     ensures client { IsNoClient result }
 {
     match file {
-        Some(file) => match request {
-            None => check_manifest(rt, file.as_str(), strict, output, errors),
-            Some(_) => Ok(Outcome::Unclear),
-        },
+        Some(file) => check_manifest(rt, file.as_str(), strict, output, errors),
         None => match request {
             Some(body) => check_request(rt, body.as_str(), strict, output, errors),
-            None => Ok(Outcome::Unclear),
+            None => Ok(Outcome::Unclear(Unclear::Checked)),
         },
     }
 }

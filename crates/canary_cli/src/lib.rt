@@ -19,6 +19,8 @@
 
 mod argo;
 mod check;
+mod given;
 pub mod perform;
 mod place;
+pub mod unclear;
 mod yaml;

@@ -1,6 +1,6 @@
 //! Running a command line.
 ghost use Rattle.std.specs.Prelude.{◌≡◌, ◌↔◌, ℕ, Bool, List, Option, Some, None, Ok, Err, [], map};
-ghost use Rattle.std.specs.Prelude.{codes, string_bytes};
+ghost use Rattle.std.specs.Prelude.{◌⊎◌, IfOk, IfErr, codes, string_bytes};
 ghost use Rattle.std.specs.IoError.{error_kind};
 ghost use Rattle.std.specs.Io.KnownBytes.{Appends};
 ghost use Rattle.canary_words.specs.CommandLine.{faults_of, program_of};
@@ -8,11 +8,15 @@ ghost use Rattle.canary_cli.specs.Performed.{outcome_of, status_of};
 ghost use Rattle.canary_cli.specs.Performed.{IsPiped, IsPipedTo, IsRun, IsRunTo, IsTold};
 ghost use Rattle.canary_cli.specs.Performed.{IsTurnedAway, IsGivenUp, unopened_status};
 ghost use Rattle.canary_cli.specs.Performed.{MayTell, AsksForOneThatTells, IsAsked, IsOfRecords};
-ghost use Rattle.canary_cli.specs.Performed.{limits_of};
+ghost use Rattle.canary_cli.specs.Performed.{limits_of, unclear_of, IsOwn};
+ghost use Rattle.canary_cli.specs.declared.unclear.Unclear.{Unclear as WhatIsUnclear};
+ghost use Rattle.canary_words.specs.declared.words.Program.{Program as AnyProgram};
 
 use crate::argo::argo;
 use crate::check::check;
+use crate::given::{drawing, file_of, file_or_none, text_of};
 use crate::place::Place;
+use crate::unclear::{Unclear, unclear_of};
 use canary_agent::agent::agent;
 use canary_base::lists::Text;
 use canary_base::moments::Moment;
@@ -22,7 +26,7 @@ use canary_client::get::get;
 use canary_client::outcome as client;
 use canary_client::send::send;
 use canary_client::watch::{Manner, watch};
-use canary_database::backup::backup;
+use canary_database::backup::{backup, backup_each};
 use canary_database::export::export;
 use canary_database::history::history;
 use canary_database::import::import;
@@ -30,13 +34,12 @@ use canary_database::migrate::migrate;
 use canary_database::open::DeskFile;
 use canary_database::page::page;
 use canary_database::status::status;
+use canary_database::succeed::succeed;
 use canary_database::{pipe, serve};
 use canary_listen::limits::Limits;
 use canary_once::clock::StepClock;
 use canary_once::memory::MemoryBook;
-use canary_overview::overview::Form;
 use canary_programs::fault::{Fault, done_of};
-use canary_programs::overview::Drawing;
 use canary_programs::show::show;
 use canary_words::words::{Asked, AskedLimits, Program, WordsFault, read_words};
 use std::alloc::Global;
@@ -56,13 +59,6 @@ const NOT_UTF8: &str = concat!(
     "For more information, try '--help'.\n"
 );
 
-// What is said of words of `check` that name no file, or two.
-const UNCLEAR: &str = concat!(
-    "error: check takes FILE or --request FILE, one of them\n\n",
-    "Usage: canary check [OPTIONS] [FILE]\n\n",
-    "For more information, try '--help'.\n"
-);
-
 // What a client says if a standard stream is closed, and nothing could be opened in its place.
 const UNOPENED: &str =
     "a standard stream is closed, and the root folder cannot be opened in its place";
@@ -74,8 +70,8 @@ pub enum Outcome {
     Done,
     /// A check was done, and found something.
     Findings,
-    /// The words do not say what is to be checked.
-    Unclear,
+    /// Nothing was done, since the words leave this unclear.
+    Unclear(Unclear),
     /// A client of a desk ended so.
     Asked(client::Outcome),
 }
@@ -118,6 +114,12 @@ pub fn perform<R: Read, W: Write, F: Write>(
         → program_of (map string_bytes words.now) ≡ Some (Program.Check file request strict)
         → result ≡ DONE
         → Appends (W.contents output.old) (W.contents output.new) (codes "ok\n") }
+    ensures unclear { (program : AnyProgram) (what : WhatIsUnclear)
+        → faults_of (map string_bytes words.now) ≡ []
+        → program_of (map string_bytes words.now) ≡ Some program
+        → unclear_of program ≡ Some what
+        → (result ≡ USAGE ⊎ result ≡ FAULT)
+        × (input.new ≡ input.old) × (W.contents output.new ≡ W.contents output.old) }
     ensures turned_away { (faults_of (map string_bytes words.now) ≡ [] → ⊥)
         → IsTurnedAway (faults_of (map string_bytes words.now))
         (W.contents output.old) (W.contents output.new) result }
@@ -180,9 +182,24 @@ pub fn give_up<W: Write, F: Write>(
     ensures unshown { faults_of (map string_bytes words.now) ≡ []
         → W.contents output.new ≡ W.contents output.old }
 {
-    match read_words(alloc, words) {
-        Ok(program) => end_unopened(&program, errors),
-        Err(why) => turn_away(&why, output, errors),
+    let asked = read_words(alloc, words);
+    end_unasked(&asked, output, errors)
+}
+
+// Says that nothing was opened for a program, or why the words give none.
+fn end_unasked<W: Write, F: Write>(
+    asked: &Result<Program, WordsFault>,
+    output: &mut W,
+    errors: &mut F,
+) -> u8
+    ensures unopened { IfOk asked.now (λ program. (result ≡ unopened_status program)
+        × (W.contents output.new ≡ W.contents output.old)) }
+    ensures told { IfErr asked.now (λ fault.
+        IsTold fault (W.contents output.old) (W.contents output.new) result) }
+{
+    match asked {
+        Ok(program) => end_unopened(program, errors),
+        Err(why) => turn_away(why, output, errors),
     }
 }
 
@@ -211,6 +228,8 @@ fn run_placed<R: Read, W: Write, F: Write>(
 ) -> u8
     ensures ran { IsRunTo (R.remaining input.old) (R.remaining input.new)
         (W.contents output.old) (W.contents output.new) program result }
+    ensures unclear { (what : WhatIsUnclear) → unclear_of program ≡ Some what
+        → (result ≡ USAGE) × (input.new ≡ input.old) × (output.new ≡ output.old) }
     ensures quiet { result ≡ DONE → (MayTell program → ⊥) → errors.new ≡ errors.old }
 {
     let place = Place::of(rt.alloc(), &program, terminals.errors);
@@ -218,7 +237,30 @@ fn run_placed<R: Read, W: Write, F: Write>(
     finish(rt, done, &place, errors)
 }
 
+// Runs a program, unless its words leave unclear what is asked.
 fn run<R: Read, W: Write, F: Write>(
+    rt: &HostRuntime,
+    program: Program,
+    input: &mut R,
+    output: &mut W,
+    errors: &mut F,
+    terminals: Terminals,
+) -> Result<Outcome, Fault>
+    ensures ran { IsRun (R.remaining input.old) (R.remaining input.new)
+        (W.contents output.old) (W.contents output.new) program result }
+    ensures unclear { (what : WhatIsUnclear) → unclear_of program ≡ Some what
+        → (result ≡ Ok (Outcome.Unclear what))
+        × (input.new ≡ input.old) × (output.new ≡ output.old) }
+    ensures quiet { (MayTell program → ⊥) → errors.new ≡ errors.old }
+{
+    match unclear_of(&program) {
+        Some(what) => Ok(Outcome::Unclear(what)),
+        None => run_clear(rt, program, input, output, errors, terminals),
+    }
+}
+
+// Runs a program whose words are clear.
+fn run_clear<R: Read, W: Write, F: Write>(
     rt: &HostRuntime,
     program: Program,
     input: &mut R,
@@ -230,6 +272,26 @@ fn run<R: Read, W: Write, F: Write>(
         (W.contents output.old) (W.contents output.new) program result }
     ensures quiet { (MayTell program → ⊥) → errors.new ≡ errors.old }
 {
+    match program {
+        Program::Ask(asked) => run_client(rt, asked, input, output, errors, terminals.output),
+        program => run_own(rt, &program, input, output, errors, terminals),
+    }
+}
+
+// Runs a program that is no client of a desk.
+fn run_own<R: Read, W: Write, F: Write>(
+    rt: &HostRuntime,
+    program: &Program,
+    input: &mut R,
+    output: &mut W,
+    errors: &mut F,
+    terminals: Terminals,
+) -> Result<Outcome, Fault>
+    requires { IsOwn program.now }
+    ensures ran { IsRun (R.remaining input.old) (R.remaining input.new)
+        (W.contents output.old) (W.contents output.new) program.now result }
+    ensures quiet { (MayTell program.now → ⊥) → errors.new ≡ errors.old }
+{
     let shows = terminals.errors;
     match program {
         Program::Pipe {
@@ -237,7 +299,7 @@ fn run<R: Read, W: Write, F: Write>(
             step,
             db,
             cache,
-        } => run_pipe(rt, at, step, db, cache, input, output, errors, shows),
+        } => run_pipe(rt, *at, *step, db, *cache, input, output, errors, shows),
         Program::Serve {
             listen,
             db,
@@ -245,28 +307,30 @@ fn run<R: Read, W: Write, F: Write>(
             connections,
             limits,
         } => {
-            let desk = ListeningDesk { listen, db, cache };
-            done(serve(rt, &desk, connections, limits, output, errors, shows))
+            let desk = (listen.as_str(), file_or_none(db, *cache));
+            done(serve(rt, desk, *connections, *limits, output, errors, shows))
         }
         Program::Import { db, cache, csv } => {
-            let file = file_of(&db, cache);
+            let file = file_of(db, *cache);
             done(import(rt, file, csv.as_str(), input, output, errors, shows))
         }
         Program::Check {
             file,
             request,
             strict,
-        } => check(rt, &file, &request, strict, output, errors),
-        Program::Argo { files, out, json } => {
-            argo(rt, &files, &out, json, input, output, errors)
-        }
-        Program::Backup { db, copy } => done(backup(rt, db.as_str(), copy.as_str())),
-        Program::Ask(asked) => run_client(rt, asked, input, output, errors, terminals.output),
-        program => run_on_records(rt, &program, output, errors, terminals),
+        } => check(rt, file, request, *strict, output, errors),
+        Program::Argo { files, out, json } => { argo(rt, files, out, *json, input, output, errors) }
+        Program::Backup {
+            db,
+            copy,
+            every,
+            keep,
+        } => done(copied(rt, db.as_str(), copy.as_str(), *every, *keep)),
+        _ => run_on_records(rt, program, output, errors, terminals),
     }
 }
 
-// Shows what is in the file of a desk's records, or makes it one of this version.
+// Shows what is in the file of a desk's records, or makes it one of this version, or a new one of it.
 fn run_on_records<W: Write, F: Write>(
     rt: &HostRuntime,
     program: &Program,
@@ -290,15 +354,29 @@ fn run_on_records<W: Write, F: Write>(
             let (db, caller, service) = (db.as_str(), caller.as_str(), service.as_str());
             done(export(rt, db, caller, service, output, errors, shows))
         }
-        Program::Status { db, watch, json } => {
-            let drawing = drawing(*watch, *json, terminals);
+        Program::Status {
+            db,
+            watch,
+            json,
+            prometheus,
+        } => {
+            let drawing = drawing(*watch, *json, *prometheus, terminals);
             done(status(rt, db.as_str(), drawing, output, errors, shows))
         }
-        Program::Page { db, out, watch } => {
-            done(page(rt, db.as_str(), out.as_str(), *watch, output, errors, shows))
+        Program::Page {
+            db,
+            out,
+            watch,
+            json,
+        } => {
+            let (db, out, json) = (db.as_str(), out.as_str(), text_of(json));
+            done(page(rt, db, out, json, *watch, output, errors, shows))
         }
         Program::Migrate { db, dry_run } => {
             done(migrate(rt, db.as_str(), *dry_run, output, errors, shows))
+        }
+        Program::Succeed { db, new } => {
+            done(succeed(rt, db.as_str(), new.as_str(), output, errors, shows))
         }
         _ => unreachable!(),
     }
@@ -370,7 +448,7 @@ fn run_pipe<R: Read, W: Write, F: Write>(
     rt: &HostRuntime,
     at: Moment,
     step: Moment,
-    db: Option<Text>,
+    db: &Option<Text>,
     cache: Option<u64>,
     input: &mut R,
     output: &mut W,
@@ -378,24 +456,31 @@ fn run_pipe<R: Read, W: Write, F: Write>(
     shows: bool,
 ) -> Result<Outcome, Fault>
     ensures ran { IsRun (R.remaining input.old) (R.remaining input.new)
-        (W.contents output.old) (W.contents output.new) (Program.Pipe at step db cache) result }
-    ensures quiet { (MayTell (Program.Pipe at step db cache) → ⊥) → errors.new ≡ errors.old }
+        (W.contents output.old) (W.contents output.new)
+        (Program.Pipe at step db.now cache) result }
+    ensures quiet { (MayTell (Program.Pipe at step db.now cache) → ⊥)
+        → errors.new ≡ errors.old }
 {
     match db {
         None => done(pipe(rt.alloc(), at, step, input, output)),
         Some(db) => {
-            let file = file_of(&db, cache);
+            let file = file_of(db, cache);
             done(pipe::pipe(rt, at, step, file, input, output, errors, shows))
         }
     }
 }
 
-// How often a status is printed, in which form, and whether on a terminal.
-fn drawing(every: Option<u64>, is_json: bool, terminals: Terminals) -> Drawing {
-    Drawing {
-        form: if is_json { Form::Json } else { Form::Tables },
-        every,
-        is_terminal: terminals.output,
+// A copy of the records, or one each time after so many seconds, of which so many are kept.
+fn copied(
+    rt: &HostRuntime,
+    db: &str,
+    copy: &str,
+    every: Option<u64>,
+    keep: Option<u64>,
+) -> Result<(), Fault> {
+    match every {
+        None => backup(rt, db, copy),
+        Some(seconds) => backup_each(rt, db, copy, seconds, keep),
     }
 }
 
@@ -415,38 +500,18 @@ fn limits_of(asked: AskedLimits) -> Limits
     }
 }
 
-// The file of a desk, and the room for what is kept of it in memory.
-fn file_of<'a>(db: &'a Text, cache: Option<u64>) -> DeskFile<'a> {
-    DeskFile {
-        name: db.as_str(),
-        cache,
-    }
-}
-
-// Where a desk listens, and the file that it works on, with the room for what it keeps of that.
-#[derive(Drop)]
-struct ListeningDesk {
-    listen: Text,
-    db: Option<Text>,
-    cache: Option<u64>,
-}
-
-// Serves clients, over the desk in a file if there is one.
+// Serves clients on an address, over the desk in a file if there is one.
 fn serve<W: Write, F: Write>(
     rt: &HostRuntime,
-    desk: &ListeningDesk,
+    desk: (&str, Option<DeskFile<'_>>),
     connections: Option<u64>,
     limits: AskedLimits,
     output: &mut W,
     errors: &mut F,
     shows: bool,
 ) -> Result<(), Fault> {
+    let (listen, file) = desk;
     let limits = limits_of(limits);
-    let listen = desk.listen.as_str();
-    let file = match &desk.db {
-        Some(db) => Some(file_of(db, desk.cache)),
-        None => None,
-    };
     serve::serve(rt, listen, file, connections, limits, output, errors, shows)
 }
 
@@ -491,8 +556,8 @@ fn finish<F: Write>(
         Ok(Outcome::Done) => DONE,
         Ok(Outcome::Findings) => FAULT,
         Ok(Outcome::Asked(outcome)) => outcome.status(),
-        Ok(Outcome::Unclear) => {
-            let _ = errors.write_all(UNCLEAR.as_bytes());
+        Ok(Outcome::Unclear(what)) => {
+            let _ = errors.write_all(what.text().as_bytes());
             USAGE
         }
         Err(fault) => {

@@ -130,12 +130,29 @@ fn files_of(alloc: Global, program: &Program) -> Result<String, AllocError> {
         Program::History { db, .. } => listed(alloc, Some(db), None),
         Program::Export { db, .. } => listed(alloc, Some(db), None),
         Program::Status { db, .. } => listed(alloc, Some(db), None),
-        Program::Page { db, out, .. } => listed(alloc, Some(db), Some(out)),
-        Program::Backup { db, copy } => listed(alloc, Some(db), Some(copy)),
+        Program::Page { db, out, json, .. } => page_files(alloc, db, out, json.as_ref()),
+        Program::Backup { db, copy, .. } => listed(alloc, Some(db), Some(copy)),
         Program::Migrate { db, .. } => listed(alloc, Some(db), None),
+        Program::Succeed { db, new } => listed(alloc, Some(db), Some(new)),
         Program::Check { file, request, .. } => listed(alloc, file.as_ref(), request.as_ref()),
         Program::Argo { out, .. } => listed(alloc, out.as_ref(), None),
         Program::Ask(_) => listed(alloc, None, None),
+    }
+}
+
+// The file of the records, the page, and the folder of the services' JSON, if there is one.
+fn page_files(
+    alloc: Global,
+    db: &Text,
+    out: &Text,
+    json: Option<&Text>,
+) -> Result<String, AllocError> {
+    match json {
+        None => listed(alloc, Some(db), Some(out)),
+        Some(folder) => {
+            let (db, out, folder) = (db.as_str(), out.as_str(), folder.as_str());
+            Ok(format!(in alloc; "{db}, {out}, {folder}")?)
+        }
     }
 }
 
@@ -145,7 +162,7 @@ fn db_of(alloc: Global, program: &Program) -> Result<String, AllocError> {
         Program::Pipe { db, .. } | Program::Serve { db, .. } => listed(alloc, db.as_ref(), None),
         Program::Import { db, .. } | Program::History { db, .. } => listed(alloc, Some(db), None),
         Program::Export { db, .. } | Program::Status { db, .. } => listed(alloc, Some(db), None),
-        Program::Page { db, .. } => listed(alloc, Some(db), None),
+        Program::Page { db, .. } | Program::Succeed { db, .. } => listed(alloc, Some(db), None),
         Program::Backup { db, .. } | Program::Migrate { db, .. } => listed(alloc, Some(db), None),
         Program::Check { .. } | Program::Argo { .. } => listed(alloc, None, None),
         Program::Ask(_) => listed(alloc, None, None),

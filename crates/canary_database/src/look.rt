@@ -1,9 +1,12 @@
 //! Looking at a desk in a file, also while it serves.
 use crate::open::{FileBook, names_of, open_found};
 use crate::progress::Shown;
+use crate::shelf::{Shelf, fill};
 use canary_backup::folder::OwnCopy;
 use canary_base::moments::Moment;
+use canary_base::names::Name;
 use canary_listen::wall_clock::WallClock;
+use canary_once::book::Book;
 use canary_page::page::View;
 use canary_page::progress::Progress;
 use canary_programs::fault::Fault;
@@ -15,18 +18,23 @@ use std::io::Write;
 
 /// What is shown of a desk, as it stands at the present moment.
 #[derive(Clone, Copy)]
-pub(crate) enum Sight {
+pub(crate) enum Sight<'a> {
     /// A table of its services, or a JSON value for each.
     Status(Drawing),
-    /// A page, which loads itself anew after so many seconds, or does not.
-    Page { every: Option<u64> },
+    /// A page, which loads itself anew after so many seconds, or does not, and the folder, if there
+    /// is one, for a file in JSON of each service.
+    Page {
+        every: Option<u64>,
+        shelf: Option<Shelf<'a>>,
+    },
 }
 
 /// Looks at the desk in a file, once. A page is written to the output meanwhile, part by part, and
-/// a terminal shows how far it has come. Of a status this gives the text, to be drawn once the file
-/// is closed; of a page, none. The file is opened as `open_found` does it, and no row of it is
-/// changed. If a desk has it open, a copy is read, which stands meanwhile where `OwnCopy` of
-/// canary_backup says, in a folder that its owner alone may read.
+/// a terminal shows how far it has come; then the files of its services, as `fill` says. Of a
+/// status this gives the text, to be drawn once the file is closed; of a page, none. The file is
+/// opened as `open_found` does it, and no row of it is changed. If a desk has it open, a copy is
+/// read, which stands meanwhile where `OwnCopy` of canary_backup says, in a folder that its owner
+/// alone may read.
 ///
 /// # Errors
 /// `File` if there is no such file, and nothing is made then, or if no copy can be made.
@@ -35,7 +43,7 @@ pub(crate) enum Sight {
 pub(crate) fn look<W: Write, F: Write>(
     rt: &HostRuntime,
     file: &str,
-    sight: Sight,
+    sight: Sight<'_>,
     output: &mut W,
     errors: &mut F,
     is_terminal: bool,
@@ -51,7 +59,7 @@ pub(crate) fn look<W: Write, F: Write>(
 fn look_at_copy<W: Write, F: Write>(
     rt: &HostRuntime,
     file: &str,
-    sight: Sight,
+    sight: Sight<'_>,
     output: &mut W,
     errors: &mut F,
     is_terminal: bool,
@@ -65,7 +73,7 @@ fn look_at_copy<W: Write, F: Write>(
 fn look_at_own_copy<W: Write, F: Write>(
     rt: &HostRuntime,
     copy: &OwnCopy,
-    sight: Sight,
+    sight: Sight<'_>,
     output: &mut W,
     errors: &mut F,
     is_terminal: bool,
@@ -77,7 +85,7 @@ fn look_at_own_copy<W: Write, F: Write>(
 fn look_at_opened<W: Write, F: Write>(
     rt: &HostRuntime,
     book: FileBook,
-    sight: Sight,
+    sight: Sight<'_>,
     output: &mut W,
     errors: &mut F,
     is_terminal: bool,
@@ -88,7 +96,7 @@ fn look_at_opened<W: Write, F: Write>(
 fn look_at_tables<S: Alter + Drop, W: Write, F: Write>(
     rt: &HostRuntime,
     book: TableBook<S>,
-    sight: Sight,
+    sight: Sight<'_>,
     output: &mut W,
     errors: &mut F,
     is_terminal: bool,
@@ -97,9 +105,10 @@ fn look_at_tables<S: Alter + Drop, W: Write, F: Write>(
     let now = WallClock::new(rt).tell();
     match sight {
         Sight::Status(drawing) => status_of(rt, &mut book, drawing, now),
-        Sight::Page { every } => {
-            let mut shown = Shown::services(rt.alloc(), errors, is_terminal);
-            let drawn = page_of(rt, &mut book, View { now, every }, output, &mut shown);
+        Sight::Page { every, shelf } => {
+            let mut shown = Shown::services(rt, errors, is_terminal);
+            let view = View { now, every };
+            let drawn = page_of(rt, &mut book, view, shelf, output, &mut shown);
             shown.end();
             drawn?;
             Ok(String::new(rt.alloc()))
@@ -121,9 +130,27 @@ fn page_of<S: Alter + Drop, W: Write, P: Progress>(
     rt: &HostRuntime,
     book: &mut TableBook<S>,
     view: View,
+    shelf: Option<Shelf<'_>>,
     output: &mut W,
     progress: &mut P,
 ) -> Result<(), Fault> {
     let names = names_of(book)?;
-    draw_page(rt.alloc(), book, names.as_slice(), view, output, progress)
+    draw_named(rt, book, names.as_slice(), view, shelf, output, progress)
+}
+
+// Draws the page of these services, and then their files.
+fn draw_named<B: Book, W: Write, P: Progress>(
+    rt: &HostRuntime,
+    book: &mut B,
+    names: &[Name],
+    view: View,
+    shelf: Option<Shelf<'_>>,
+    output: &mut W,
+    progress: &mut P,
+) -> Result<(), Fault> {
+    draw_page(rt.alloc(), book, names, view, output, progress)?;
+    match &shelf {
+        Some(shelf) => fill(rt, book, names, view.now, shelf, progress),
+        None => Ok(()),
+    }
 }

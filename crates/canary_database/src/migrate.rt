@@ -69,7 +69,7 @@ fn upgrade_file<F: Write>(
     errors: &mut F,
     is_terminal: bool,
 ) -> Result<bool, Fault> {
-    let mut shown = Shown::rows(rt.alloc(), errors, is_terminal);
+    let mut shown = Shown::rows(rt, errors, is_terminal);
     let upgraded = upgrade(rt, file, &mut shown);
     shown.end();
     upgraded.map_err(fault_of)

@@ -66,7 +66,7 @@ pub fn open<F: Write>(
     if has_other_bytes(rt, file)? {
         return Err(Fault::Storage);
     }
-    let mut shown = Shown::rows(rt.alloc(), errors, is_terminal);
+    let mut shown = Shown::rows(rt, errors, is_terminal);
     let opened = TableBook::open(rt, file, &mut shown);
     shown.end();
     match opened {

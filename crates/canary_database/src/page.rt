@@ -1,5 +1,6 @@
 //! `page`: the services of a desk as a page.
 use crate::look::{Sight, look};
+use crate::shelf::{Shelf, find_folder};
 use canary_backup::copying::Pair;
 use canary_backup::draft::Draft;
 use canary_programs::fault::Fault;
@@ -14,28 +15,33 @@ const STANDARD_OUTPUT: &str = "-";
 /// the name `out`, or on `output` where that is `-`: once, or again each time after so many
 /// seconds. The page is written beside the file of that name, to a file that its owner alone may
 /// read, and renamed to it, so that this is always a whole page. It then has the mode that `Draft`
-/// of canary_backup says. The desk's file is read as `status` reads it.
+/// of canary_backup says. The desk's file is read as `status` reads it. In the folder `json`, if
+/// there is one, files in JSON are written likewise, drawn from the same records at the same
+/// moment: SERVICE.json for each service, with all its measurements and runs, and `_services.json`,
+/// the list of them. The page has its name once they have theirs. Other files in the folder stay.
 ///
 /// # Errors
-/// As `status` of this crate; `File` also if `out` is a name that a desk uses for this file, or
-/// another name of such a file, if what stands there is not a file, or if no file can be made
-/// beside `out`, or given its name. There is no part of a page then, but for one on `output`.
+/// As `status` of this crate; `File` also if `out`, or the name of a file in JSON, is a name that a
+/// desk uses for this file, or another name of such a file, if what stands there is not a file, or
+/// if no file can be made beside it, or given its name; and if there is no folder `json`. There is
+/// no part of a page or of a file then, but for one on `output`.
 pub fn page<W: Write, F: Write>(
     rt: &HostRuntime,
     file: &str,
     out: &str,
+    json: Option<&str>,
     every: Option<u64>,
     output: &mut W,
     errors: &mut F,
     is_terminal: bool,
 ) -> Result<(), Fault> {
-    page_once(rt, file, out, every, output, errors, is_terminal)?;
+    page_once(rt, file, out, json, every, output, errors, is_terminal)?;
     let Some(seconds) = every else {
         return Ok(());
     };
     for _ in 0..u64::MAX {
         thread::sleep(rt, Duration::from_secs(seconds));
-        page_once(rt, file, out, every, output, errors, is_terminal)?;
+        page_once(rt, file, out, json, every, output, errors, is_terminal)?;
     }
     Ok(())
 }
@@ -44,17 +50,43 @@ fn page_once<W: Write, F: Write>(
     rt: &HostRuntime,
     file: &str,
     out: &str,
+    json: Option<&str>,
     every: Option<u64>,
     output: &mut W,
     errors: &mut F,
     is_terminal: bool,
 ) -> Result<(), Fault> {
-    let sight = Sight::Page { every };
+    if let Some(folder) = json {
+        find_folder(rt, folder)?;
+    }
+    let desk = Pair::found(rt, file)?;
+    let shelf = shelf_of(json, &desk);
+    let sight = Sight::Page { every, shelf };
+    draw_to(rt, file, &desk, out, sight, output, errors, is_terminal)
+}
+
+fn shelf_of<'a>(json: Option<&'a str>, desk: &'a Pair) -> Option<Shelf<'a>> {
+    match json {
+        Some(folder) => Some(Shelf { folder, desk }),
+        None => None,
+    }
+}
+
+fn draw_to<W: Write, F: Write>(
+    rt: &HostRuntime,
+    file: &str,
+    desk: &Pair,
+    out: &str,
+    sight: Sight<'_>,
+    output: &mut W,
+    errors: &mut F,
+    is_terminal: bool,
+) -> Result<(), Fault> {
     if out == STANDARD_OUTPUT {
         look(rt, file, sight, output, errors, is_terminal)?;
         return flushed(output.flush());
     }
-    if Pair::found(rt, file)?.has_name(rt, out)? {
+    if desk.has_name(rt, out)? {
         return Err(Fault::File);
     }
     let mut draft = Draft::of(rt, out)?;
@@ -77,7 +109,7 @@ fn write_named<F: Write>(
     rt: &HostRuntime,
     file: &str,
     draft: &mut Draft,
-    sight: Sight,
+    sight: Sight<'_>,
     errors: &mut F,
     is_terminal: bool,
 ) -> Result<(), Fault> {

@@ -1,13 +1,26 @@
-//! Showing on a terminal how far a program has come, and that it made a file.
+//! Showing how far a program has come, and on a terminal that it made a file.
 ghost use Rattle.std.specs.Prelude.{◌≡◌, false};
 
+use crate::pause::Pause;
 use canary_adopting::progress as judging;
+use canary_listen::unblocked::Unblocked;
 use canary_page::progress as drawing;
 use std::alloc::{AllocError, Global};
 use std::io::{self, Read, Write};
 
 // What one megabyte is.
 const MEGABYTE: u64 = 1_000_000;
+
+// Into how many parts the whole is divided, each of which is shown; and of the lines that follow
+// another one where no terminal is, so that a log has a hundred of them at most.
+const PARTS: u64 = 1_000;
+
+const FURTHER_PARTS: u64 = 100;
+
+// How many seconds pass before the first line where no terminal is, and between two of them.
+const QUIET_SECONDS: u64 = 2;
+
+const LINE_SECONDS: u64 = 1;
 
 // Erases the line in which the cursor stands.
 const ERASED: &str = "\r\x1b[K";
@@ -23,59 +36,66 @@ enum Unit {
     Services,
 }
 
-/// Shows on a terminal how far a program has come, in one line that is written anew as it goes, and
-/// erased where it is done. Nothing is written where it is no terminal. A fault of the terminal,
-/// and memory that is refused for the line, are ignored.
+/// Shows how far a program has come. A terminal has one line, which is written anew as it goes, and
+/// erased where it is done. Elsewhere lines are written one below another: none in the first two
+/// seconds, then at most one a second, and one for each hundredth part of the whole where that is
+/// known. Such a line waits for nobody who reads it: if it cannot be taken at once, it is left out.
+/// A fault of the stream, a clock that cannot be read, and memory that is refused for a line, are
+/// ignored.
 #[derive(Drop)]
 pub struct Shown<'a, F: Write> {
+    rt: &'a HostRuntime,
     errors: &'a mut F,
-    alloc: Global,
     is_terminal: bool,
     unit: Unit,
     done: u64,
     // The whole; none where it is not known.
     whole: Option<u64>,
-    // How much is done when the line is written next.
+    // How much is done when a line may be written next.
     next: u64,
+    // How long no line is written where no terminal is.
+    pause: Pause,
     is_drawn: bool,
 }
 
 impl<'a, F: Write> Shown<'a, F> {
-    /// Shows how many rows are judged.
-    pub fn rows(alloc: Global, errors: &'a mut F, is_terminal: bool) -> Shown<'a, F> {
-        Shown::of(alloc, errors, is_terminal, Unit::Rows, None)
+    /// Shows how many rows are judged, on `errors`, the standard error of the process.
+    pub fn rows(rt: &'a HostRuntime, errors: &'a mut F, is_terminal: bool) -> Shown<'a, F> {
+        Shown::of(rt, errors, is_terminal, Unit::Rows, None)
     }
 
-    /// Shows how many bytes are read, of so many where that is known.
+    /// Shows how many bytes are read, of so many where that is known, on `errors`, the standard
+    /// error of the process.
     pub fn bytes(
-        alloc: Global,
+        rt: &'a HostRuntime,
         errors: &'a mut F,
         is_terminal: bool,
         whole: Option<u64>,
     ) -> Shown<'a, F> {
-        Shown::of(alloc, errors, is_terminal, Unit::Bytes, whole)
+        Shown::of(rt, errors, is_terminal, Unit::Bytes, whole)
     }
 
-    /// Shows how many services are drawn.
-    pub fn services(alloc: Global, errors: &'a mut F, is_terminal: bool) -> Shown<'a, F> {
-        Shown::of(alloc, errors, is_terminal, Unit::Services, None)
+    /// Shows how many services are drawn, on `errors`, the standard error of the process.
+    pub fn services(rt: &'a HostRuntime, errors: &'a mut F, is_terminal: bool) -> Shown<'a, F> {
+        Shown::of(rt, errors, is_terminal, Unit::Services, None)
     }
 
     fn of(
-        alloc: Global,
+        rt: &'a HostRuntime,
         errors: &'a mut F,
         is_terminal: bool,
         unit: Unit,
         whole: Option<u64>,
     ) -> Shown<'a, F> {
         Shown {
+            rt,
             errors,
-            alloc,
             is_terminal,
             unit,
             done: 0,
             whole,
             next: 0,
+            pause: Pause::begun(rt, QUIET_SECONDS),
             is_drawn: false,
         }
     }
@@ -90,52 +110,85 @@ impl<'a, F: Write> Shown<'a, F> {
     /// So much more is done.
     pub fn more(&mut self, count: u64) {
         self.done = self.done.saturating_add(count);
-        if self.is_terminal && self.next <= self.done {
+        if self.next <= self.done {
+            self.show();
             self.next = self.done.saturating_add(self.part());
-            self.draw();
         }
     }
 
-    // How much more is done from one drawing to the next: a per mille of the whole, or a megabyte.
+    // How much more is done until a line may be written next: a part of the whole, or a megabyte.
+    // No two lines below one another have the same number.
     fn part(&self) -> u64 {
+        let is_below = !self.is_terminal;
+        let parts = if is_below && self.is_drawn {
+            FURTHER_PARTS
+        } else {
+            PARTS
+        };
+        let least = if is_below && self.unit == Unit::Bytes {
+            MEGABYTE
+        } else {
+            1
+        };
         match self.whole {
-            Some(whole) => (whole / 1_000).max(1),
+            Some(whole) => (whole / parts).max(least),
             None => MEGABYTE,
         }
     }
 
+    fn show(&mut self) {
+        if self.is_terminal {
+            self.draw();
+        } else if self.pause.is_over(self.rt) {
+            self.tell();
+            self.pause = Pause::begun(self.rt, LINE_SECONDS);
+        }
+    }
+
+    // Writes the line of a terminal anew.
     fn draw(&mut self) {
-        if let Ok(line) = self.line() {
+        if let Ok(line) = self.line("\r", "") {
             let _ = self.errors.write_all(line.as_bytes());
             let _ = self.errors.flush();
             self.is_drawn = true;
         }
     }
 
-    fn line(&self) -> Result<String, AllocError> {
+    // Writes a line below the others, unless that would wait.
+    fn tell(&mut self) {
+        if let Ok(line) = self.line("", "\n") {
+            let mut errors = Unblocked::new(self.rt, &mut *self.errors);
+            let _ = errors.write_all(line.as_bytes());
+            let _ = errors.flush();
+            self.is_drawn = true;
+        }
+    }
+
+    // The line, and what stands before it and behind it.
+    fn line(&self, before: &str, behind: &str) -> Result<String, AllocError> {
+        let alloc = self.rt.alloc();
+        let text = self.text(alloc)?;
+        format!(in alloc; "{before}canary: {text}{behind}")
+    }
+
+    fn text(&self, alloc: Global) -> Result<String, AllocError> {
         let (done, whole) = (self.done, self.whole.unwrap_or(self.done));
-        let line = match (self.unit, self.whole) {
-            (Unit::Rows, _) => {
-                format!(in self.alloc; "\rcanary: {done} of {whole} rows judged")?
-            }
-            (Unit::Services, _) => {
-                format!(in self.alloc; "\rcanary: {done} of {whole} services drawn")?
-            }
-            (Unit::Bytes, Some(_)) => format!(in self.alloc;
-                "\rcanary: {} of {} MB read",
+        let text = match (self.unit, self.whole) {
+            (Unit::Rows, _) => format!(in alloc; "{done} of {whole} rows judged")?,
+            (Unit::Services, _) => format!(in alloc; "{done} of {whole} services drawn")?,
+            (Unit::Bytes, Some(_)) => format!(in alloc;
+                "{} of {} MB read",
                 done / MEGABYTE,
                 whole.div_ceil(MEGABYTE)
             )?,
-            (Unit::Bytes, None) => {
-                format!(in self.alloc; "\rcanary: {} MB read", done / MEGABYTE)?
-            }
+            (Unit::Bytes, None) => format!(in alloc; "{} MB read", done / MEGABYTE)?,
         };
-        Ok(line)
+        Ok(text)
     }
 
-    /// Erases the line, if there is one.
+    /// Erases the line of a terminal, if there is one.
     pub fn end(&mut self) {
-        if self.is_drawn {
+        if self.is_drawn && self.is_terminal {
             let _ = self.errors.write_all(ERASED.as_bytes());
             let _ = self.errors.flush();
             self.is_drawn = false;

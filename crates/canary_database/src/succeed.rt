@@ -155,7 +155,7 @@ fn adopted<S: Alter + Drop, F: Write>(
     errors: &mut F,
     is_terminal: bool,
 ) -> Result<TableBook<S>, Fault> {
-    let mut shown = Shown::rows(rt.alloc(), errors, is_terminal);
+    let mut shown = Shown::rows(rt, errors, is_terminal);
     let adopted = TableBook::adopt(rt.alloc(), conn, &mut shown);
     shown.end();
     match adopted {

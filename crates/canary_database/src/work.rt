@@ -163,7 +163,7 @@ fn import_shown<B: Book, R: Read + Drop, W: Write, F: Write>(
     is_terminal: bool,
 ) -> Result<(), Fault> {
     let mut clock = WallClock::new(rt);
-    let shown = Shown::bytes(rt.alloc(), errors, is_terminal, whole);
+    let shown = Shown::bytes(rt, errors, is_terminal, whole);
     let mut read = Counted { source, shown };
     let imported = import_rows(rt.alloc(), &mut read, output, &mut clock, book);
     read.shown.end();

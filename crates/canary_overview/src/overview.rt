@@ -1,5 +1,6 @@
 //! The services of a desk at a glance, and their open runs.
 use crate::json::add_value;
+use crate::prometheus::Families;
 use crate::table::Table;
 use canary_base::error::Memory;
 use canary_base::moments::Moment;
@@ -38,6 +39,8 @@ pub enum Form {
     Tables,
     /// A line for each service, which is one JSON value.
     Json,
+    /// The text format of Prometheus, version 0.0.4, without timestamps.
+    Prometheus,
 }
 
 /// An overview of services, and of their open runs.
@@ -48,6 +51,7 @@ pub struct Overview {
     services: Table,
     runs: Table,
     values: String,
+    families: Families,
 }
 
 impl Overview {
@@ -64,6 +68,7 @@ impl Overview {
             services,
             runs,
             values: String::new(alloc),
+            families: Families::new(alloc),
         })
     }
 
@@ -76,6 +81,7 @@ impl Overview {
         match self.form {
             Form::Tables => self.add_rows(&passed.service),
             Form::Json => add_value(self.alloc, &mut self.values, &passed.service),
+            Form::Prometheus => self.families.add(&passed.service),
         }
     }
 
@@ -95,6 +101,7 @@ impl Overview {
         match self.form {
             Form::Tables => self.tables(),
             Form::Json => Ok(String::from_str(self.alloc, self.values.as_str())?),
+            Form::Prometheus => self.families.text(),
         }
     }
 

@@ -49,12 +49,24 @@ pub(crate) fn conditions_of(
     metric: Label,
 ) -> Result<Conditions, Memory> {
     let units = Shown::or_whole(metric.as_str()).units;
+    match spec_in(templates, revisions, metric) {
+        Some(spec) => with_mentions(alloc, true, units, &spec.success, &spec.failure),
+        None => with_mentions(alloc, false, units, &None, &None),
+    }
+}
+
+// The metric of this name, if one of these revisions has it and is still its template's newest one.
+pub(crate) fn spec_in<'a>(
+    templates: &'a Templates,
+    revisions: &[Revision],
+    metric: Label,
+) -> Option<&'a MetricSpec> {
     for revision in revisions {
         if let Some(spec) = spec_of(templates, *revision, metric) {
-            return with_mentions(alloc, true, units, &spec.success, &spec.failure);
+            return Some(spec);
         }
     }
-    with_mentions(alloc, false, units, &None, &None)
+    None
 }
 
 // The metric of this name, if the template's newest revision is this one and has it.

@@ -3,7 +3,8 @@
 //! Callers may rest on this: a page is made of the tags and the attributes of two closed lists, of
 //! numbers, of the page's own head and style sheet, and of escaped texts. So whatever texts a book
 //! has, `<`, `>`, `&` and quotes come from the page's own writing alone; a page has no script, and
-//! nothing in it is fetched. What a page shows no contract says.
+//! nothing in it is fetched. What a page shows no contract says. Nor does one say what a value in
+//! JSON has of a service; its texts are escaped by the kit's crate `json`.
 //!
 //! In use (canary_programs, src/page.rt):
 //!
@@ -33,7 +34,12 @@ pub mod page;
 mod plot;
 pub mod progress;
 mod reading;
+pub mod record;
+mod record_pages;
+mod record_run;
 mod run;
+pub mod services;
+mod sheet;
 mod shown;
 mod spot;
 mod table;

@@ -23,7 +23,7 @@ use canary_release::service::Passed;
 use std::alloc::Global;
 
 // How many measurements are read at once.
-const PAGE: u32 = 256;
+pub(crate) const PAGE: u32 = 256;
 
 // The service of this name, passed to a moment; none where there is no such service.
 pub(crate) fn passed_of<B: Book>(
@@ -118,6 +118,23 @@ fn runs_of<B: Book>(
     Ok(runs)
 }
 
+// The run of that number after these effects; none if there is none.
+pub(crate) fn run_of<B: Book>(
+    alloc: Global,
+    book: &mut B,
+    name: &Name,
+    number: u32,
+    effects: &[Effect],
+) -> Result<Option<RunRecord>, PageFault>
+    ensures { Stays (B.state book.old) (B.state book.new) }
+{
+    let Some(asked) = Number::new(number) else {
+        return Ok(None);
+    };
+    let found = book.run(name, asked)?;
+    Ok(run_after(alloc, number, found, effects)?)
+}
+
 // Adds the run of that number, without its measurements.
 fn read_run<B: Book>(
     alloc: Global,
@@ -129,11 +146,7 @@ fn read_run<B: Book>(
 ) -> Result<(), PageFault>
     ensures { Stays (B.state book.old) (B.state book.new) }
 {
-    let Some(asked) = Number::new(number) else {
-        return Ok(());
-    };
-    let found = book.run(name, asked)?;
-    let Some(record) = run_after(alloc, number, found, effects)? else {
+    let Some(record) = run_of(alloc, book, name, number, effects)? else {
         return Ok(());
     };
     let templates = templates_of(alloc, book, record.analysis.revisions())?;
@@ -150,7 +163,8 @@ fn push_run(
     Ok(())
 }
 
-fn templates_of<B: Book>(
+// The templates of these revisions, as they are now.
+pub(crate) fn templates_of<B: Book>(
     alloc: Global,
     book: &mut B,
     revisions: &[Revision],

@@ -64,9 +64,9 @@ one_more f old now new names i name start commands grown found lt at first secon
     ∙ ap (λ (xs : List Command). xs ++ cons_option found []) (before (second.honest h))
     ∙ append_assoc start (filter_map g (take i names)) (cons_option found [])
     ∙ ap (λ (xs : List Command). start ++ xs) (
-      ap (λ o. filter_map g (take i names) ++ cons_option o []) here
-      ∙ sym (filter_map-append g (take i names) (name ∷ []))
-      ∙ ap (filter_map g) (sym longer)
+    ap (λ o. filter_map g (take i names) ++ cons_option o []) here
+    ∙ sym (filter_map-append g (take i names) (name ∷ []))
+    ∙ ap (filter_map g) (sym longer)
     )
 
 pub none_more : (moment : ℕ) (old now new : BookState) (names : List (List ℕ)) (i : ℕ) (name : List ℕ)
@@ -119,8 +119,7 @@ pub succeeds : (events : List Event) (answers : List Answer) (old new : Contents
     → replies_in answers ≡ answers_of old (heard events answers) → new ≡ after old (heard events answers) → Succeeds events old new
 succeeds events answers old new n all told is =
     let each : AllByRecursion IsAccepted answers = recursion_from_All IsAccepted answers all in
-    let whole : heard events answers ≡ events = all_heard events answers n each in
-    (
+    let whole : heard events answers ≡ events = all_heard events answers n each in (
       is ∙ ap (after old) whole,
       subst (AllByRecursion (λ (r : Reply). r.status ≡ Accepted)) (told ∙ ap (answers_of old) whole) (all_accepted answers each),
     )

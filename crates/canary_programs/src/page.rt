@@ -1,12 +1,15 @@
-//! The services of a desk as a page.
+//! The services of a desk as a page, and each as a value in JSON.
 ghost use Rattle.canary_files.specs.Exporting.{Stays};
 ghost use Rattle.canary_page.specs.Drawn.{IsDrawn};
 
 use crate::fault::Fault;
+use canary_base::moments::Moment;
 use canary_base::names::Name;
 use canary_once::book::Book;
 use canary_page::page::{View, draw};
 use canary_page::progress::Progress;
+use canary_page::record::draw_json;
+use canary_page::services::draw_services;
 use std::alloc::Global;
 use std::io::Write;
 
@@ -26,6 +29,46 @@ pub fn draw_page<W: Write, B: Book, P: Progress>(
     ensures drawn { IsDrawn (W.contents out.old) (W.contents out.new) result }
 {
     match draw(alloc, book, names, view, out, progress) {
+        Ok(()) => Ok(()),
+        Err(fault) => Err(fault.into()),
+    }
+}
+
+/// Writes a service of a book, passed to a moment, as a value in JSON, as canary_page does. The
+/// book is unchanged.
+///
+/// # Errors
+/// `Write`, `Memory` and `Storage`, each where canary_page answers the same.
+pub fn write_json<W: Write, B: Book>(
+    alloc: Global,
+    book: &mut B,
+    name: &Name,
+    moment: Moment,
+    out: &mut W,
+) -> Result<(), Fault>
+    ensures { Stays (B.state book.old) (B.state book.new) }
+{
+    match draw_json(alloc, book, name, moment, out) {
+        Ok(()) => Ok(()),
+        Err(fault) => Err(fault.into()),
+    }
+}
+
+/// Writes the list of these services of a book, passed to a moment, as a value in JSON, as
+/// canary_page does. The book is unchanged.
+///
+/// # Errors
+/// `Write`, `Memory` and `Storage`, each where canary_page answers the same.
+pub fn write_services<W: Write, B: Book>(
+    alloc: Global,
+    book: &mut B,
+    names: &[Name],
+    moment: Moment,
+    out: &mut W,
+) -> Result<(), Fault>
+    ensures { Stays (B.state book.old) (B.state book.new) }
+{
+    match draw_services(alloc, book, names, moment, out) {
         Ok(()) => Ok(()),
         Err(fault) => Err(fault.into()),
     }

@@ -1,7 +1,7 @@
 //! The machine's clock, if it falls, is beyond the limits, or cannot be read.
+use crate::rows::cut;
 use canary_listen::wall_clock::WallClock;
 use canary_once::clock::Clock;
-use canary_testing::asked::cut;
 use std::cell::Cell;
 use std::io::{self, ErrorKind};
 use std::test::Fail;

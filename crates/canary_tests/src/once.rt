@@ -2,7 +2,7 @@
 //! of measurements, which no request or query asks for; and what it answers. Each test holds as
 //! well where any one allocation is refused.
 
-use crate::growths::is_right;
+use crate::rows::{B, event, is_right, moment, name};
 use crate::sending::{answer, has_status, parts, send_story, settled};
 use canary_base::numbers::Number;
 use canary_once::book::Book;
@@ -12,30 +12,42 @@ use canary_once::post::post;
 use canary_once::view::view;
 use canary_release::effect::Recorded;
 use canary_release::stand::State;
-use canary_testing::asked::{B, moment, name};
-use canary_testing::sent::event;
 use std::alloc::Global;
 use std::process::Abort;
 
 /// Stories, each after the state in which it leaves the service web, and the seconds of the last
 /// moment that it has seen and of that at which it entered its step.
-const STORIES: &str = "\
-done 0
-200 ops 1 0 service v1 setWeight:20 pause
-
-in-progress 0
-200 ops 1 0 service v1 setWeight:20 pause
-200 ops 2 0 start v2
-
-aborted 0
-200 ops 1 0 service v1 setWeight:20 pause
-200 ops 2 0 start v2
-200 ops 3 0 abort
-
-done 9
-200 ops 1 9 service v1 pause
-200 ops 2 0 start v2
-200 ops 3 1 promote";
+const STORIES: &str = concat!(
+    r#"done 0"#,
+    "\n",
+    r#"200 ops 1 0 {"service":{"analysis":null,"name":"web","steps":[{"setWeight":20},"#,
+    r#"{"pause":null}],"version":"v1"}}"#,
+    "\n\n",
+    r#"in-progress 0"#,
+    "\n",
+    r#"200 ops 1 0 {"service":{"analysis":null,"name":"web","steps":[{"setWeight":20},"#,
+    r#"{"pause":null}],"version":"v1"}}"#,
+    "\n",
+    r#"200 ops 2 0 {"start":{"service":"web","version":"v2"}}"#,
+    "\n\n",
+    r#"aborted 0"#,
+    "\n",
+    r#"200 ops 1 0 {"service":{"analysis":null,"name":"web","steps":[{"setWeight":20},"#,
+    r#"{"pause":null}],"version":"v1"}}"#,
+    "\n",
+    r#"200 ops 2 0 {"start":{"service":"web","version":"v2"}}"#,
+    "\n",
+    r#"200 ops 3 0 {"abort":{"service":"web"}}"#,
+    "\n\n",
+    r#"done 9"#,
+    "\n",
+    r#"200 ops 1 9 {"service":{"analysis":null,"name":"web","steps":[{"pause":null}],"#,
+    r#""version":"v1"}}"#,
+    "\n",
+    r#"200 ops 2 0 {"start":{"service":"web","version":"v2"}}"#,
+    "\n",
+    r#"200 ops 3 1 {"promote":{"service":"web"}}"#
+);
 
 fn word(state: State) -> &'static str {
     match state {
@@ -68,34 +80,64 @@ fn what_stories_leave(rt: HostRuntime) {
 }
 
 /// A release in its second run, with a measurement of each.
-pub(crate) const RELEASE: &str = "200 ops 1 0 template t m,success=result>9,count=3,interval=60
-200 ops 2 0 service v1 setWeight:10 analysis:t setWeight:60 pause
-200 ops 3 0 start v2
-200 agent 1 0 report 1 m:1:0:5
-200 ops 4 0 retry
-200 agent 2 0 report 2 m:1:0:10";
+pub(crate) const RELEASE: &str = concat!(
+    r#"200 ops 1 0 {"template":{"dryRun":[],"metrics":[{"consecutiveErrorLimit":4,"#,
+    r#""count":3,"failureCondition":null,"failureLimit":0,"inconclusiveLimit":0,"#,
+    r#""initialDelay":0,"interval":60,"name":"m","successCondition":"result>9"}],"#,
+    r#""name":"t"}}"#,
+    "\n",
+    r#"200 ops 2 0 {"service":{"analysis":null,"name":"web","steps":[{"setWeight":10},"#,
+    r#"{"analysis":["t"]},{"setWeight":60},{"pause":null}],"version":"v1"}}"#,
+    "\n",
+    r#"200 ops 3 0 {"start":{"service":"web","version":"v2"}}"#,
+    "\n",
+    r#"200 agent 1 0 {"report":{"entries":[{"metric":"m","ordinal":1,"result":5,"#,
+    r#""taken":1767225600}],"run":1,"service":"web"}}"#,
+    "\n",
+    r#"200 ops 4 0 {"retry":{"service":"web"}}"#,
+    "\n",
+    r#"200 agent 2 0 {"report":{"entries":[{"metric":"m","ordinal":1,"result":10,"#,
+    r#""taken":1767225600}],"run":2,"service":"web"}}"#
+);
 
 /// The same without a limit, and with two failures.
-const TWO_RUNS: &str = "200 ops 1 0 template t m,success=result>9
-200 ops 2 0 service v1 setWeight:10 analysis:t setWeight:60 pause
-200 ops 3 0 start v2
-200 agent 1 0 report 1 m:1:0:5
-200 ops 4 0 retry
-200 agent 2 0 report 2 m:1:0:5";
+const TWO_RUNS: &str = concat!(
+    r#"200 ops 1 0 {"template":{"dryRun":[],"metrics":[{"consecutiveErrorLimit":4,"#,
+    r#""count":null,"failureCondition":null,"failureLimit":0,"inconclusiveLimit":0,"#,
+    r#""initialDelay":0,"interval":null,"name":"m","successCondition":"result>9"}],"#,
+    r#""name":"t"}}"#,
+    "\n",
+    r#"200 ops 2 0 {"service":{"analysis":null,"name":"web","steps":[{"setWeight":10},"#,
+    r#"{"analysis":["t"]},{"setWeight":60},{"pause":null}],"version":"v1"}}"#,
+    "\n",
+    r#"200 ops 3 0 {"start":{"service":"web","version":"v2"}}"#,
+    "\n",
+    r#"200 agent 1 0 {"report":{"entries":[{"metric":"m","ordinal":1,"result":5,"#,
+    r#""taken":1767225600}],"run":1,"service":"web"}}"#,
+    "\n",
+    r#"200 ops 4 0 {"retry":{"service":"web"}}"#,
+    "\n",
+    r#"200 agent 2 0 {"report":{"entries":[{"metric":"m","ordinal":1,"result":5,"#,
+    r#""taken":1767225600}],"run":2,"service":"web"}}"#
+);
 
 /// What is then asked, with the status of its answer; and what is asked after that, if the release
 /// goes on, and if it is aborted.
-const ASKED: &str = "\
-200 ? 0 service web
-200 ? 0 history web
-200 ? 0 run web 1
-404 ? 0 run web 3
-200 ops 3 0 start v2
-";
+const ASKED: &str = concat!(
+    r#"200 ? 0 service web"#,
+    "\n",
+    r#"200 ? 0 history web"#,
+    "\n",
+    r#"200 ? 0 run web 1"#,
+    "\n",
+    r#"404 ? 0 run web 3"#,
+    "\n",
+    r#"200 ops 3 0 {"start":{"service":"web","version":"v2"}}"#
+);
 
-const ABORTED: &str = "200 ops 5 0 abort";
+const ABORTED: &str = r#"200 ops 5 0 {"abort":{"service":"web"}}"#;
 
-const NOT_ABORTED: &str = "422 ops 5 0 abort";
+const NOT_ABORTED: &str = r#"422 ops 5 0 {"abort":{"service":"web"}}"#;
 
 /// Whether a row is answered by the function for its kind; none where memory was refused.
 fn is_answered(alloc: Global, book: &mut MemoryBook, row: &str) -> Option<bool> {
@@ -135,7 +177,10 @@ fn has_record(alloc: Global, book: &mut MemoryBook) -> Option<bool> {
 }
 
 fn is_event(alloc: Global) -> Option<bool> {
-    match event(alloc, "ops 5 0 abort")?.copy(alloc).ok()? {
+    match event(alloc, r#"ops 5 0 {"abort":{"service":"web"}}"#)?
+        .copy(alloc)
+        .ok()?
+    {
         Event::Request(request) => Some(request.number.get() == 5),
         Event::Query { .. } => Some(false),
     }

@@ -1,15 +1,13 @@
 //! Requests and queries in rows, sent to a book. What was answered 503 changed nothing, and is sent
 //! again. The bodies of answers are told by the program (tests/stories).
 //!
-//! A row is the status of its answer, and what is sent (canary_testing's `sent`).
+//! A row is the status of its answer, and what is sent (rows.rt).
 
-use crate::growths::refused;
+use crate::rows::{event, name, refused};
 use canary_once::book::{Book, BookFault};
 use canary_once::event::Answer;
 use canary_once::memory::MemoryBook;
 use canary_once::run::run;
-use canary_testing::asked::name;
-use canary_testing::sent::event;
 use std::alloc::Global;
 use std::process::Abort;
 

@@ -1,10 +1,10 @@
 //! Conversations: the turns of clients whose bytes come in pieces, and who read slowly.
+use crate::rows::name;
 use canary_base::error::Memory;
 use canary_base::moments::Moment;
 use canary_once::book::Book;
 use canary_once::clock::StepClock;
 use canary_once::memory::MemoryBook;
-use canary_testing::asked::name;
 use canary_wire::conversation::{Cause, Conversation, Pace, Routes, Stage, Wants};
 use std::alloc::Global;
 use std::io;

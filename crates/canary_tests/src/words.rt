@@ -1,4 +1,5 @@
 //! What is printed of faults, and of names where a program is looked into.
+use crate::rows::says;
 use canary_base::error::Memory;
 use canary_base::names::{Label, Name};
 use canary_canonical::form::FormFault;
@@ -7,7 +8,6 @@ use canary_once::book::BookFault;
 use canary_plan::fault::{BindFault, CheckFault};
 use canary_plan::refusal::Refusal;
 use canary_release::parts::PartsFault;
-use canary_testing::rows::says;
 use std::alloc::Global;
 use std::test::Fail;
 

@@ -11,7 +11,7 @@ use Rattle.clap.specs.Kinds.{check_kinds}
 use Rattle.clap.specs.Faults.{check_fault, level_fault}
 use Rattle.clap.specs.declared.builder.value_parser.ValueParser.TheVariants.{Bool as bool_parser, Unsigned}
 use Rattle.clap.proofs.ValueTestLemmas.{accepts-Accepts}
-use Rattle.canary_words.specs.CommandLine.{desk_command, number_option, pipe_command, HasAgent, HasArgo, HasAsked, HasCheck, HasDesk, HasDo, HasDue, HasExport, HasImport, HasListener, HasMigrate, HasPage, HasPipe, HasStatus, HasTexts, HasWatch, IsTrueOrFalse}
+use Rattle.canary_words.specs.CommandLine.{desk_command, number_option, pipe_command, HasAgent, HasArgo, HasAsked, HasBackup, HasCheck, HasDesk, HasDo, HasDue, HasExport, HasImport, HasListener, HasMigrate, HasPage, HasPipe, HasStatus, HasTexts, HasWatch, IsTrueOrFalse}
 use Rattle.canary_words.proofs.Walks.{AreOptions, AreRead, given_text, optional_text, read-level}
 
 -- the desk and its commands, as they are built
@@ -48,29 +48,32 @@ backup = built_at 7
 abbrev pub migrate : Shape
 migrate = built_at 8
 
+abbrev pub succeed : Shape
+succeed = built_at 9
+
 abbrev pub check : Shape
-check = built_at 9
+check = built_at 10
 
 abbrev pub argo : Shape
-argo = built_at 10
+argo = built_at 11
 
 abbrev pub asking : Shape
-asking = built_at 11
+asking = built_at 12
 
 abbrev pub get : Shape
-get = built_at 12
+get = built_at 13
 
 abbrev pub watch : Shape
-watch = built_at 13
+watch = built_at 14
 
 abbrev pub send : Shape
-send = built_at 14
+send = built_at 15
 
 abbrev pub due : Shape
-due = built_at 15
+due = built_at 16
 
 abbrev pub agent : Shape
-agent = built_at 16
+agent = built_at 17
 
 -- ---- what each command has to be given
 
@@ -90,16 +93,19 @@ export_options : AreOptions export.rules export.rules
 export_options = (record { own = refl; default = tt; takes = inl (refl, refl) }, (record { own = refl; default = tt; takes = inl (refl, refl) }, (record { own = refl; default = tt; takes = inl (refl, refl) }, (record { own = refl; default = tt; takes = inr (inr refl) }, tt))))
 
 status_options : AreOptions status.rules status.rules
-status_options = (record { own = refl; default = tt; takes = inl (refl, refl) }, (record { own = refl; default = tt; takes = inl (refl, refl) }, (record { own = refl; default = refl; takes = inr (inl (refl, tt)) }, (record { own = refl; default = tt; takes = inr (inr refl) }, tt))))
+status_options = (record { own = refl; default = tt; takes = inl (refl, refl) }, (record { own = refl; default = tt; takes = inl (refl, refl) }, (record { own = refl; default = refl; takes = inr (inl (refl, tt)) }, (record { own = refl; default = refl; takes = inr (inl (refl, tt)) }, (record { own = refl; default = tt; takes = inr (inr refl) }, tt)))))
 
 page_options : AreOptions page.rules page.rules
-page_options = (record { own = refl; default = tt; takes = inl (refl, refl) }, (record { own = refl; default = tt; takes = inl (refl, refl) }, (record { own = refl; default = tt; takes = inl (refl, refl) }, (record { own = refl; default = tt; takes = inr (inr refl) }, tt))))
+page_options = (record { own = refl; default = tt; takes = inl (refl, refl) }, (record { own = refl; default = tt; takes = inl (refl, refl) }, (record { own = refl; default = tt; takes = inl (refl, refl) }, (record { own = refl; default = tt; takes = inl (refl, refl) }, (record { own = refl; default = tt; takes = inr (inr refl) }, tt)))))
 
 backup_options : AreOptions backup.rules backup.rules
-backup_options = (record { own = refl; default = tt; takes = inl (refl, refl) }, (record { own = refl; default = tt; takes = inl (refl, refl) }, (record { own = refl; default = tt; takes = inr (inr refl) }, tt)))
+backup_options = (record { own = refl; default = tt; takes = inl (refl, refl) }, (record { own = refl; default = tt; takes = inl (refl, refl) }, (record { own = refl; default = tt; takes = inl (refl, refl) }, (record { own = refl; default = tt; takes = inl (refl, refl) }, (record { own = refl; default = tt; takes = inr (inr refl) }, tt)))))
 
 migrate_options : AreOptions migrate.rules migrate.rules
 migrate_options = (record { own = refl; default = tt; takes = inl (refl, refl) }, (record { own = refl; default = refl; takes = inr (inl (refl, tt)) }, (record { own = refl; default = tt; takes = inr (inr refl) }, tt)))
+
+succeed_options : AreOptions succeed.rules succeed.rules
+succeed_options = (record { own = refl; default = tt; takes = inl (refl, refl) }, (record { own = refl; default = tt; takes = inl (refl, refl) }, (record { own = refl; default = tt; takes = inr (inr refl) }, tt)))
 
 check_options : AreOptions check.rules check.rules
 check_options = (record { own = refl; default = tt; takes = inl (refl, refl) }, (record { own = refl; default = refl; takes = inr (inl (refl, tt)) }, (record { own = refl; default = tt; takes = inl (refl, refl) }, (record { own = refl; default = tt; takes = inr (inr refl) }, tt))))
@@ -204,9 +210,19 @@ pub history_rows : (words : List Text) → level_fault history [] nothing_held w
 history_rows words none =
     two_texts history (codes "service") _ _ words history_options refl refl (both_given (is_given (codes "db") (rows_after history.rules [] words)) (is_given (codes "service") (rows_after history.rules [] words))) none
 
-pub backup_rows : (words : List Text) → level_fault backup [] nothing_held words false [] ≡ [] → HasTexts (codes "copy") (rows_after backup.rules [] words)
+-- the rows of `backup`
+pub backup_rows : (words : List Text) → level_fault backup [] nothing_held words false [] ≡ [] → HasBackup (rows_after backup.rules [] words)
 backup_rows words none =
-    two_texts backup (codes "copy") _ _ words backup_options refl refl (both_given (is_given (codes "db") (rows_after backup.rules [] words)) (is_given (codes "copy") (rows_after backup.rules [] words))) none
+    let level = read-level backup [] words false [] backup_options none in
+    let rows : List Row = rows_after backup.rules [] words in (
+      two_texts backup (codes "copy") _ _ words backup_options refl refl (both_given (is_given (codes "db") rows) (is_given (codes "copy") rows)) none,
+      number_passed 31536000 (one_of (codes "every") rows) (optional_text backup.rules (codes "every") _ rows refl level.0),
+      number_passed 10000 (one_of (codes "keep") rows) (optional_text backup.rules (codes "keep") _ rows refl level.0),
+    )
+
+pub succeed_rows : (words : List Text) → level_fault succeed [] nothing_held words false [] ≡ [] → HasTexts (codes "new") (rows_after succeed.rules [] words)
+succeed_rows words none =
+    two_texts succeed (codes "new") _ _ words succeed_options refl refl (both_given (is_given (codes "db") (rows_after succeed.rules [] words)) (is_given (codes "new") (rows_after succeed.rules [] words))) none
 
 -- the rows of `export`
 pub export_rows : (words : List Text) → level_fault export [] nothing_held words false [] ≡ [] → HasExport (rows_after export.rules [] words)
@@ -239,6 +255,7 @@ status_rows words none =
       (db.0, db.2),
       number_passed 86400 (one_of (codes "watch") rows) (optional_text status.rules (codes "watch") _ rows refl level.0),
       flag_passed (one_of (codes "json") rows) (optional_text status.rules (codes "json") _ rows refl level.0),
+      flag_passed (one_of (codes "prometheus") rows) (optional_text status.rules (codes "prometheus") _ rows refl level.0),
     )
 
 -- the rows of `page`

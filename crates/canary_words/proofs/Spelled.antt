@@ -15,13 +15,13 @@ use Rattle.clap.specs.declared.error.kind.ErrorKind.{ErrorKind}
 use Rattle.clap.specs.declared.error.kind.ErrorKind.TheVariants.{MissingSubcommand}
 use Rattle.clap.specs.declared.parser.matches.ArgMatches.{ArgMatches}
 use Rattle.clap.specs.declared.parser.matches.ArgMatches.TheViews.{out-ArgMatches, out-SubCommand}
-use Rattle.canary_words.specs.CommandLine.{desk_command, faults_of, exported, export_of, flag_given, limits_of, number_given, of_two, pipe_of, piped, program_in, program_of, text_given, texts_given, with_db, HasAgent, HasArgo, HasAsked, HasCheck, HasClientProgram, HasDo, HasDue, HasExport, HasImport, HasListener, HasMigrate, HasMoment, HasPipe, HasPage, HasProgram, HasRecordsProgram, HasStatus, HasText, HasTexts, HasWatch}
+use Rattle.canary_words.specs.CommandLine.{desk_command, faults_of, exported, export_of, flag_given, limits_of, number_given, of_two, pipe_of, piped, program_in, program_of, text_given, texts_given, with_db, HasAgent, HasArgo, HasAsked, HasBackup, HasCheck, HasClientProgram, HasDo, HasDue, HasExport, HasFurtherProgram, HasImport, HasListener, HasMigrate, HasMoment, HasPipe, HasPage, HasProgram, HasRecordsProgram, HasStatus, HasText, HasTexts, HasWatch}
 use Rattle.canary_words.specs.CommandLine.{command_of, desk_of, do_of}
 use Rattle.canary_words.specs.declared.words.Program.{Program}
-use Rattle.canary_words.specs.declared.words.Asked.TheVariants.{Get, Watch, Send, Due}
-use Rattle.canary_words.specs.declared.words.Program.TheVariants.{Serve, Import, History, Status, Page, Backup, Migrate, Ask}
+use Rattle.canary_words.specs.declared.words.Asked.TheVariants.{Get, Watch, Send}
+use Rattle.canary_words.specs.declared.words.Program.TheVariants.{Serve, Import, History, Status, Page, Backup, Migrate, Succeed, Ask}
 use Rattle.canary_words.proofs.Chains.{ok_then}
-use Rattle.canary_words.proofs.Given.{agent, agent_rows, argo, argo_rows, backup, backup_rows, check, check_rows, desk, do_rows, due, due_rows, export, export_rows, get, get_rows, history, history_rows, import, import_rows, migrate, migrate_rows, page, page_rows, pipe, pipe_rows, send, send_rows, serve, serve_rows, status, status_rows, asking, watch, watch_rows}
+use Rattle.canary_words.proofs.Given.{agent, agent_rows, argo, argo_rows, backup, backup_rows, check, check_rows, desk, do_rows, due, due_rows, export, export_rows, get, get_rows, history, history_rows, import, import_rows, migrate, migrate_rows, page, page_rows, pipe, pipe_rows, send, send_rows, serve, serve_rows, status, status_rows, succeed, succeed_rows, asking, watch, watch_rows}
 use Rattle.canary_words.proofs.Walks.{IsNoHelp, below_none, stop-no_help}
 
 pub desk_is_simple : is_simple_and_free desk_command ≡ true
@@ -105,7 +105,10 @@ backup_met : (words : List Text) → IsGiven backup words
 backup_met words none = of_records (Some (rows_at backup words)) (inr (inr (inr (inr (inr (inl (rows_after backup.rules [] words, refl, backup_rows words none)))))))
 
 migrate_met : (words : List Text) → IsGiven migrate words
-migrate_met words none = of_records (Some (rows_at migrate words)) (inr (inr (inr (inr (inr (inr (rows_after migrate.rules [] words, refl, migrate_rows words none)))))))
+migrate_met words none = of_records (Some (rows_at migrate words)) (inr (inr (inr (inr (inr (inr (inl (rows_after migrate.rules [] words, refl, migrate_rows words none))))))))
+
+succeed_met : (words : List Text) → IsGiven succeed words
+succeed_met words none = of_records (Some (rows_at succeed words)) (inr (inr (inr (inr (inr (inr (inr (rows_after succeed.rules [] words, refl, succeed_rows words none))))))))
 
 check_met : (words : List Text) → IsGiven check words
 check_met words none = inr (inr (inr (inl (rows_after check.rules [] words, refl, check_rows words none))))
@@ -133,7 +136,7 @@ agent_met words none = of_client (Some (rows_at agent words)) (inr (inr (inr (in
 
 -- the desk's commands, in their order; the last one is `help`
 each_given : (name : Text) (words : List Text) → answers_to name (codes "help", []) ≡ false → AreGiven name words (built desk_command).subs
-each_given name words other = (λ _. pipe_met words, (λ _. serve_met words, (λ _. import_met words, (λ _. history_met words, (λ _. export_met words, (λ _. status_met words, (λ _. page_met words, (λ _. backup_met words, (λ _. migrate_met words, (λ _. check_met words, (λ _. argo_met words, (λ _. asking_met words, (λ _. get_met words, (λ _. watch_met words, (λ _. send_met words, (λ _. due_met words, (λ _. agent_met words, (λ is none. let bad : true ≡ false = sym is ∙ other in cc, tt))))))))))))))))))
+each_given name words other = (λ _. pipe_met words, (λ _. serve_met words, (λ _. import_met words, (λ _. history_met words, (λ _. export_met words, (λ _. status_met words, (λ _. page_met words, (λ _. backup_met words, (λ _. migrate_met words, (λ _. succeed_met words, (λ _. check_met words, (λ _. argo_met words, (λ _. asking_met words, (λ _. get_met words, (λ _. watch_met words, (λ _. send_met words, (λ _. due_met words, (λ _. agent_met words, (λ is none. let bad : true ≡ false = sym is ∙ other in cc, tt)))))))))))))))))))
 
 met : (o : Option (Text × List Text)) (words : List Text) → IsNoHelp o
     → level_fault desk (names_of (built desk_command)) nothing_held words (is_some (entered (built desk_command) o)) (entered_fault (built desk_command) o) ≡ []
@@ -225,12 +228,13 @@ program_met met (inr (inr (inl (inl h)))) = met_so met _ h.0 h.1 (two_made (λ d
 program_met met (inr (inr (inl (inr (inl h))))) = met_so met _ h.0 h.1 (two_made History (codes "service") h.0 h.2)
 program_met met (inr (inr (inl (inr (inr (inl h)))))) = met_so met _ h.0 h.1 (export_spelled h.0 h.2)
 program_met met (inr (inr (inl (inr (inr (inr (inl h))))))) =
-    met_so met _ h.0 h.1 (made (λ db. Status db (number_given (codes "watch") h.0) (flag_given (codes "json") h.0)) (codes "db") h.0 h.2.0)
+    met_so met _ h.0 h.1 (made (λ db. Status db (number_given (codes "watch") h.0) (flag_given (codes "json") h.0) (flag_given (codes "prometheus") h.0)) (codes "db") h.0 h.2.0)
 program_met met (inr (inr (inl (inr (inr (inr (inr (inl h)))))))) =
-    met_so met _ h.0 h.1 (two_made (λ db out. Page db out (number_given (codes "watch") h.0)) (codes "out") h.0 h.2.0)
-program_met met (inr (inr (inl (inr (inr (inr (inr (inr (inl h))))))))) = met_so met _ h.0 h.1 (two_made Backup (codes "copy") h.0 h.2)
-program_met met (inr (inr (inl (inr (inr (inr (inr (inr (inr h))))))))) =
+    met_so met _ h.0 h.1 (two_made (λ db out. Page db out (number_given (codes "watch") h.0) (text_given (codes "json") h.0)) (codes "out") h.0 h.2.0)
+program_met met (inr (inr (inl (inr (inr (inr (inr (inr (inl h))))))))) = met_so met _ h.0 h.1 (two_made (λ db copy. Backup db copy (number_given (codes "every") h.0) (number_given (codes "keep") h.0)) (codes "copy") h.0 h.2.0)
+program_met met (inr (inr (inl (inr (inr (inr (inr (inr (inr (inl h)))))))))) =
     met_so met _ h.0 h.1 (made (λ db. Migrate db (flag_given (codes "dry-run") h.0)) (codes "db") h.0 h.2.0)
+program_met met (inr (inr (inl (inr (inr (inr (inr (inr (inr (inr h)))))))))) = met_so met _ h.0 h.1 (two_made Succeed (codes "new") h.0 h.2)
 program_met met (inr (inr (inr (inl h)))) = met_so met _ h.0 h.1 refl
 program_met met (inr (inr (inr (inr (inl h))))) = met_so met _ h.0 h.1 (made_of _ (texts_given (codes "file") h.0) (texts_there (codes "file") h.0 h.2.0))
 program_met met (inr (inr (inr (inr (inr h))))) = client_met met h
@@ -263,10 +267,11 @@ IsGivenFor name rows = choose (bytes_eq name (codes "pipe")) (HasPipe rows)
     (choose (bytes_eq name (codes "export")) (HasExport rows)
     (choose (bytes_eq name (codes "status")) (HasStatus rows)
     (choose (bytes_eq name (codes "page")) (HasPage rows)
-    (choose (bytes_eq name (codes "backup")) (HasTexts (codes "copy") rows)
+    (choose (bytes_eq name (codes "backup")) (HasBackup rows)
     (choose (bytes_eq name (codes "migrate")) (HasMigrate rows)
+    (choose (bytes_eq name (codes "succeed")) (HasTexts (codes "new") rows)
     (choose (bytes_eq name (codes "check")) (HasCheck rows)
-    (choose (bytes_eq name (codes "argo")) (HasArgo rows) (IsAskedFor name rows)))))))))))
+    (choose (bytes_eq name (codes "argo")) (HasArgo rows) (IsAskedFor name rows))))))))))))
 
 -- what was met is met under one name
 given_as : (o : Option (Text × List Row)) (n name : Text) (r rows : List Row) → o ≡ Some (n, r) → o ≡ Some (name, rows) → IsGivenFor n r → IsGivenFor name rows
@@ -281,6 +286,12 @@ client_given_for o name rows (inr (inr (inr (inl h)))) is = given_as o (codes "s
 client_given_for o name rows (inr (inr (inr (inr (inl h))))) is = given_as o (codes "due") name h.0 rows h.1 is h.2
 client_given_for o name rows (inr (inr (inr (inr (inr h))))) is = given_as o (codes "agent") name h.0 rows h.1 is h.2
 
+-- and of one that reads manifests, or asks a desk
+pub further_given_for : (o : Option (Text × List Row)) (name : Text) (rows : List Row) → HasFurtherProgram o → o ≡ Some (name, rows) → IsGivenFor name rows
+further_given_for o name rows (inl h) is = given_as o (codes "check") name h.0 rows h.1 is h.2
+further_given_for o name rows (inr (inl h)) is = given_as o (codes "argo") name h.0 rows h.1 is h.2
+further_given_for o name rows (inr (inr h)) is = client_given_for o name rows h is
+
 pub given_for : (o : Option (Text × List Row)) (name : Text) (rows : List Row) → HasProgram o → o ≡ Some (name, rows) → IsGivenFor name rows
 given_for o name rows (inl h) is = given_as o (codes "pipe") name h.0 rows h.1 is h.2
 given_for o name rows (inr (inl h)) is = given_as o (codes "serve") name h.0 rows h.1 is h.2
@@ -290,10 +301,9 @@ given_for o name rows (inr (inr (inl (inr (inr (inl h)))))) is = given_as o (cod
 given_for o name rows (inr (inr (inl (inr (inr (inr (inl h))))))) is = given_as o (codes "status") name h.0 rows h.1 is h.2
 given_for o name rows (inr (inr (inl (inr (inr (inr (inr (inl h)))))))) is = given_as o (codes "page") name h.0 rows h.1 is h.2
 given_for o name rows (inr (inr (inl (inr (inr (inr (inr (inr (inl h))))))))) is = given_as o (codes "backup") name h.0 rows h.1 is h.2
-given_for o name rows (inr (inr (inl (inr (inr (inr (inr (inr (inr h))))))))) is = given_as o (codes "migrate") name h.0 rows h.1 is h.2
-given_for o name rows (inr (inr (inr (inl h)))) is = given_as o (codes "check") name h.0 rows h.1 is h.2
-given_for o name rows (inr (inr (inr (inr (inl h))))) is = given_as o (codes "argo") name h.0 rows h.1 is h.2
-given_for o name rows (inr (inr (inr (inr (inr h))))) is = client_given_for o name rows h is
+given_for o name rows (inr (inr (inl (inr (inr (inr (inr (inr (inr (inl h)))))))))) is = given_as o (codes "migrate") name h.0 rows h.1 is h.2
+given_for o name rows (inr (inr (inl (inr (inr (inr (inr (inr (inr (inr h)))))))))) is = given_as o (codes "succeed") name h.0 rows h.1 is h.2
+given_for o name rows (inr (inr (inr h))) is = further_given_for o name rows h is
 
 named_so : {B : Type 0} (o : Option B) (f : B → Text × List Row) (name : Text) (rows : List Row) → option_map (λ b. (f b).0) o ≡ Some name → option_map (λ p. p.1) (option_map f o) ≡ Some rows
     → option_map f o ≡ Some (name, rows)
@@ -334,19 +344,24 @@ missed m name r found is = λ rows met.
     let none : false ≡ true = subst IsSome is (found.1 named) in
     cc
 
--- where no other command was met, one that asks a desk was
-pub client_left : (m : ArgMatches) → HasProgram (subcommand_rows_of m)
-    → IsMissed m (codes "pipe") × IsMissed m (codes "serve") × IsMissed m (codes "import") × IsMissed m (codes "history") × IsMissed m (codes "export") × IsMissed m (codes "status") × IsMissed m (codes "page") × IsMissed m (codes "backup") × IsMissed m (codes "migrate") × IsMissed m (codes "check") × IsMissed m (codes "argo")
-    → HasClientProgram (subcommand_rows_of m)
+-- where no command on records was met, nor one that serves a desk, a further one was
+pub further_left : (m : ArgMatches) → HasProgram (subcommand_rows_of m)
+    → IsMissed m (codes "pipe") × IsMissed m (codes "serve") × IsMissed m (codes "import") × IsMissed m (codes "history") × IsMissed m (codes "export") × IsMissed m (codes "status") × IsMissed m (codes "page") × IsMissed m (codes "backup") × IsMissed m (codes "migrate") × IsMissed m (codes "succeed")
+    → HasFurtherProgram (subcommand_rows_of m)
+further_left m (inl h) missed = absurd (missed.0 h.0 h.1)
+further_left m (inr (inl h)) missed = absurd (missed.1 h.0 h.1)
+further_left m (inr (inr (inl (inl h)))) missed = absurd (missed.2 h.0 h.1)
+further_left m (inr (inr (inl (inr (inl h))))) missed = absurd (missed.3 h.0 h.1)
+further_left m (inr (inr (inl (inr (inr (inl h)))))) missed = absurd (missed.4 h.0 h.1)
+further_left m (inr (inr (inl (inr (inr (inr (inl h))))))) missed = absurd (missed.5 h.0 h.1)
+further_left m (inr (inr (inl (inr (inr (inr (inr (inl h)))))))) missed = absurd (missed.6 h.0 h.1)
+further_left m (inr (inr (inl (inr (inr (inr (inr (inr (inl h))))))))) missed = absurd (missed.7 h.0 h.1)
+further_left m (inr (inr (inl (inr (inr (inr (inr (inr (inr (inl h)))))))))) missed = absurd (missed.8 h.0 h.1)
+further_left m (inr (inr (inl (inr (inr (inr (inr (inr (inr (inr h)))))))))) missed = absurd (missed.9 h.0 h.1)
+further_left m (inr (inr (inr h))) missed = h
+
+-- where neither that reads manifests was met, one that asks a desk was
+pub client_left : (m : ArgMatches) → HasFurtherProgram (subcommand_rows_of m) → IsMissed m (codes "check") × IsMissed m (codes "argo") → HasClientProgram (subcommand_rows_of m)
 client_left m (inl h) missed = absurd (missed.0 h.0 h.1)
 client_left m (inr (inl h)) missed = absurd (missed.1 h.0 h.1)
-client_left m (inr (inr (inl (inl h)))) missed = absurd (missed.2 h.0 h.1)
-client_left m (inr (inr (inl (inr (inl h))))) missed = absurd (missed.3 h.0 h.1)
-client_left m (inr (inr (inl (inr (inr (inl h)))))) missed = absurd (missed.4 h.0 h.1)
-client_left m (inr (inr (inl (inr (inr (inr (inl h))))))) missed = absurd (missed.5 h.0 h.1)
-client_left m (inr (inr (inl (inr (inr (inr (inr (inl h)))))))) missed = absurd (missed.6 h.0 h.1)
-client_left m (inr (inr (inl (inr (inr (inr (inr (inr (inl h))))))))) missed = absurd (missed.7 h.0 h.1)
-client_left m (inr (inr (inl (inr (inr (inr (inr (inr (inr h))))))))) missed = absurd (missed.8 h.0 h.1)
-client_left m (inr (inr (inr (inl h)))) missed = absurd (missed.9 h.0 h.1)
-client_left m (inr (inr (inr (inr (inl h))))) missed = absurd (missed.10 h.0 h.1)
-client_left m (inr (inr (inr (inr (inr h))))) missed = h
+client_left m (inr (inr h)) missed = h

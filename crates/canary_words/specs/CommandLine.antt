@@ -18,14 +18,14 @@ use Rattle.clap.specs.declared.error.kind.ErrorKind.TheVariants.{DisplayHelp, Di
 use Rattle.canary_words.specs.declared.commands.Part.{Part}
 use Rattle.canary_words.specs.declared.commands.Part.TheVariants as part
 use Rattle.canary_words.specs.declared.words.Asked.TheVariants.{Do, Get, Watch, Send, Due, Agent}
-use Rattle.canary_words.specs.declared.words.AgentCall.{AgentCall}
 use Rattle.canary_words.specs.declared.words.AskedCommand.{AskedCommand}
 use Rattle.canary_words.specs.declared.words.AskedDesk.{AskedDesk}
 use Rattle.canary_words.specs.declared.words.AskedLimits.{AskedLimits}
 use Rattle.canary_words.specs.declared.words.Program.{Program}
 use Rattle.canary_words.specs.declared.words.Program.TheVariants.{Pipe, Serve, Import, History}
 use Rattle.canary_words.specs.declared.words.Program.TheVariants.{Export, Status, Page, Backup}
-use Rattle.canary_words.specs.declared.words.Program.TheVariants.{Migrate, Check, Argo, Ask}
+use Rattle.canary_words.specs.declared.words.Program.TheVariants.{Migrate, Succeed, Check, Argo}
+use Rattle.canary_words.specs.declared.words.Program.TheVariants.{Ask}
 use Rattle.canary_words.specs.declared.words.WordsFault.{WordsFault}
 use Rattle.canary_words.specs.declared.words.WordsFault.TheVariants.{Help, Usage, Memory}
 
@@ -152,25 +152,31 @@ export_command = with_rule (with_rule (with_rule (new_app (codes "export")) db_o
 abbrev pub watch_option : Rule
 watch_option = number_option (codes "watch") 86400
 
--- `status --db FILE --watch SECONDS --json`
+-- `status --db FILE --watch SECONDS --json --prometheus`
 abbrev pub status_command : App
-status_command = with_rule (with_rule (with_rule (new_app (codes "status")) db_option) watch_option)
-    (flag (codes "json"))
+status_command = with_rule (with_rule (with_rule (with_rule (new_app (codes "status")) db_option)
+    watch_option) (flag (codes "json"))) (flag (codes "prometheus"))
 
--- `page --db FILE --watch SECONDS OUT`
+-- `page --db FILE --watch SECONDS --json FOLDER OUT`
 abbrev pub page_command : App
-page_command = with_rule (with_rule (with_rule (new_app (codes "page")) db_option) watch_option)
-    (text_word (codes "out"))
+page_command = with_rule (with_rule (with_rule (with_rule (new_app (codes "page")) db_option)
+    watch_option) (text_option (codes "json") false)) (text_word (codes "out"))
 
--- `backup --db FILE COPY`
+-- `backup --db FILE --every SECONDS --keep N COPY`
 abbrev pub backup_command : App
-backup_command =
-    with_rule (with_rule (new_app (codes "backup")) db_option) (text_word (codes "copy"))
+backup_command = with_rule (with_rule (with_rule (with_rule (new_app (codes "backup")) db_option)
+    (number_option (codes "every") 31536000)) (number_option (codes "keep") 10000))
+    (text_word (codes "copy"))
 
 -- `migrate --db FILE --dry-run`
 abbrev pub migrate_command : App
 migrate_command =
     with_rule (with_rule (new_app (codes "migrate")) db_option) (flag (codes "dry-run"))
+
+-- `succeed --db OLD NEW`
+abbrev pub succeed_command : App
+succeed_command =
+    with_rule (with_rule (new_app (codes "succeed")) db_option) (text_word (codes "new"))
 
 -- `check FILE --strict`, or `check --request FILE --strict`
 abbrev pub check_command : App
@@ -251,9 +257,9 @@ with_client_commands a = with_subcommand (with_subcommand (with_subcommand (with
 -- with the commands that work on the file of a desk's records
 abbrev pub with_records_commands : App → App
 with_records_commands a = with_subcommand (with_subcommand (with_subcommand (with_subcommand
-    (with_subcommand (with_subcommand (with_subcommand a import_command.top) history_command.top)
-    export_command.top) status_command.top) page_command.top) backup_command.top)
-    migrate_command.top
+    (with_subcommand (with_subcommand (with_subcommand (with_subcommand a import_command.top)
+    history_command.top) export_command.top) status_command.top) page_command.top)
+    backup_command.top) migrate_command.top) succeed_command.top
 
 -- the desk without its commands, behind no name of the program; `--version` is taken too
 abbrev pub bare_desk : App
@@ -346,18 +352,23 @@ export_of rows = exported (text_given (codes "db") rows) (text_given (codes "cal
 
 abbrev pub status_of : List Row → Option Program
 status_of rows = option_map (λ db. Status db (number_given (codes "watch") rows)
-    (flag_given (codes "json") rows)) (text_given (codes "db") rows)
+    (flag_given (codes "json") rows) (flag_given (codes "prometheus") rows))
+    (text_given (codes "db") rows)
 
 abbrev pub page_of : List Row → Option Program
-page_of rows =
-    with_db (λ db out. Page db out (number_given (codes "watch") rows)) (codes "out") rows
+page_of rows = with_db (λ db out. Page db out (number_given (codes "watch") rows)
+    (text_given (codes "json") rows)) (codes "out") rows
 
 abbrev pub backup_of : List Row → Option Program
-backup_of = with_db Backup (codes "copy")
+backup_of rows = with_db (λ db copy. Backup db copy (number_given (codes "every") rows)
+    (number_given (codes "keep") rows)) (codes "copy") rows
 
 abbrev pub migrate_of : List Row → Option Program
 migrate_of rows = option_map (λ db. Migrate db (flag_given (codes "dry-run") rows))
     (text_given (codes "db") rows)
+
+abbrev pub succeed_of : List Row → Option Program
+succeed_of = with_db Succeed (codes "new")
 
 abbrev pub check_of : List Row → Option Program
 check_of rows = Some (Check (text_given (codes "file") rows) (text_given (codes "request") rows)
@@ -457,6 +468,7 @@ program_in p = if bytes_eq p.0 (codes "pipe") then pipe_of p.1
     else if bytes_eq p.0 (codes "page") then page_of p.1
     else if bytes_eq p.0 (codes "backup") then backup_of p.1
     else if bytes_eq p.0 (codes "migrate") then migrate_of p.1
+    else if bytes_eq p.0 (codes "succeed") then succeed_of p.1
     else if bytes_eq p.0 (codes "check") then check_of p.1
     else if bytes_eq p.0 (codes "argo") then argo_of p.1
     else client_program_in p
@@ -537,10 +549,14 @@ HasExport rows = HasText (codes "db") rows × HasText (codes "caller") rows
 
 abbrev pub HasStatus : List Row → Type 0
 HasStatus rows = HasText (codes "db") rows × MayHaveNumber (codes "watch") 86400 rows
-    × MayHaveFlag (codes "json") rows
+    × MayHaveFlag (codes "json") rows × MayHaveFlag (codes "prometheus") rows
 
 abbrev pub HasPage : List Row → Type 0
 HasPage rows = HasTexts (codes "out") rows × MayHaveNumber (codes "watch") 86400 rows
+
+abbrev pub HasBackup : List Row → Type 0
+HasBackup rows = HasTexts (codes "copy") rows × MayHaveNumber (codes "every") 31536000 rows
+    × MayHaveNumber (codes "keep") 10000 rows
 
 abbrev pub HasMigrate : List Row → Type 0
 HasMigrate rows = HasText (codes "db") rows × MayHaveFlag (codes "dry-run") rows
@@ -588,8 +604,9 @@ abbrev pub HasRecordsProgram : Option (Text × List Row) → Type 0
 HasRecordsProgram met = Meets (codes "import") HasImport met
     ⊎ (Meets (codes "history") (HasTexts (codes "service")) met
     ⊎ (Meets (codes "export") HasExport met ⊎ (Meets (codes "status") HasStatus met
-    ⊎ (Meets (codes "page") HasPage met ⊎ (Meets (codes "backup") (HasTexts (codes "copy")) met
-    ⊎ Meets (codes "migrate") HasMigrate met)))))
+    ⊎ (Meets (codes "page") HasPage met ⊎ (Meets (codes "backup") HasBackup met
+    ⊎ (Meets (codes "migrate") HasMigrate met
+    ⊎ Meets (codes "succeed") (HasTexts (codes "new")) met))))))
 
 -- one of the commands that ask a desk was met, with all that it has to be given
 abbrev pub HasClientProgram : Option (Text × List Row) → Type 0
@@ -599,9 +616,12 @@ HasClientProgram met = Meets (codes "do") HasDo met
     ⊎ (Meets (codes "send") (HasAsked (codes "csv")) met ⊎ (Meets (codes "due") HasDue met
     ⊎ Meets (codes "agent") HasAgent met))))
 
+-- one of the commands that read manifests, or that ask a desk, was met, with all of this
+abbrev pub HasFurtherProgram : Option (Text × List Row) → Type 0
+HasFurtherProgram met = Meets (codes "check") HasCheck met ⊎ (Meets (codes "argo") HasArgo met
+    ⊎ HasClientProgram met)
+
 -- one of the commands was met, with all that it has to be given
 abbrev pub HasProgram : Option (Text × List Row) → Type 0
 HasProgram met = Meets (codes "pipe") HasPipe met
-    ⊎ (Meets (codes "serve") HasListener met ⊎ (HasRecordsProgram met
-    ⊎ (Meets (codes "check") HasCheck met ⊎ (Meets (codes "argo") HasArgo met
-    ⊎ HasClientProgram met))))
+    ⊎ (Meets (codes "serve") HasListener met ⊎ (HasRecordsProgram met ⊎ HasFurtherProgram met))

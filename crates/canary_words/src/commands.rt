@@ -5,6 +5,7 @@ ghost use Rattle.canary_words.specs.CommandLine.{bare_desk, desk_command, with_r
 ghost use Rattle.canary_words.specs.CommandLine.{pipe_command, serve_command, import_command};
 ghost use Rattle.canary_words.specs.CommandLine.{history_command, export_command, status_command};
 ghost use Rattle.canary_words.specs.CommandLine.{page_command, backup_command, migrate_command};
+ghost use Rattle.canary_words.specs.CommandLine.{succeed_command};
 ghost use Rattle.canary_words.specs.CommandLine.{check_command, flag, moment_option, number_option};
 ghost use Rattle.canary_words.specs.CommandLine.{text_option, text_words, with_numbers, with_value};
 ghost use Rattle.canary_words.specs.CommandLine.{with_client_commands, do_command, get_command};
@@ -38,6 +39,12 @@ pub const MOST_CACHE: u64 = 68_719_476_736;
 
 /// The most seconds between two looks at a desk: a day.
 pub const MOST_WATCH: u64 = 86_400;
+
+/// The most seconds from one copy of the records to the next that can be asked for: a year.
+pub const MOST_EVERY: u64 = 31_536_000;
+
+/// The most copies of the records that can be asked to be kept.
+pub const MOST_KEEP: u64 = 10_000;
 
 /// The most seconds for which a measurement can be asked to be late: a year.
 pub const MOST_LATE: u64 = 31_536_000;
@@ -122,7 +129,8 @@ fn with_records_commands<'a>(
     let desk = with_command(desk, status_command(alloc));
     let desk = with_command(desk, page_command(alloc));
     let desk = with_command(desk, backup_command(alloc));
-    with_command(desk, migrate_command(alloc))
+    let desk = with_command(desk, migrate_command(alloc));
+    with_command(desk, succeed_command(alloc))
 }
 
 // The desk's command with those that ask a desk.
@@ -244,34 +252,38 @@ fn export_command<'a>(alloc: Global) -> Result<Command<'a>, AllocError>
 fn status_command<'a>(alloc: Global) -> Result<Command<'a>, AllocError>
     ensures { IfOk result (λ c. app_of c ≡ status_command) }
 {
-    static PARTS: [Part; 3] = [
+    static PARTS: [Part; 4] = [
         Part::Needed("db", "FILE", help::DB_HELP),
         WATCH,
         Part::Flag("json", help::JSON_HELP),
+        Part::Flag("prometheus", help::PROMETHEUS_HELP),
     ];
     let status = command(alloc, "status", help::STATUS_ABOUT, help::STATUS_HELP);
     with_parts(alloc, status, &PARTS)
 }
 
-// `page --db FILE OUT` and its further option.
+// `page --db FILE OUT` and its further options.
 fn page_command<'a>(alloc: Global) -> Result<Command<'a>, AllocError>
     ensures { IfOk result (λ c. app_of c ≡ page_command) }
 {
-    static PARTS: [Part; 3] = [
+    static PARTS: [Part; 4] = [
         Part::Needed("db", "FILE", help::DB_HELP),
         WATCH,
+        Part::Optional("json", "FOLDER", help::JSON_FOLDER_HELP),
         Part::Word("out", "OUT", help::OUT_HELP),
     ];
     let page = command(alloc, "page", help::PAGE_ABOUT, help::PAGE_HELP);
     with_parts(alloc, page, &PARTS)
 }
 
-// `backup --db FILE COPY`.
+// `backup --db FILE COPY` and its further options.
 fn backup_command<'a>(alloc: Global) -> Result<Command<'a>, AllocError>
     ensures { IfOk result (λ c. app_of c ≡ backup_command) }
 {
-    static PARTS: [Part; 2] = [
+    static PARTS: [Part; 4] = [
         Part::Needed("db", "FILE", help::DB_HELP),
+        Part::Number("every", "SECONDS", MOST_EVERY, help::EVERY_HELP),
+        Part::Number("keep", "N", MOST_KEEP, help::KEEP_HELP),
         Part::Word("copy", "COPY", help::COPY_HELP),
     ];
     let backup = command(alloc, "backup", help::BACKUP_ABOUT, help::BACKUP_HELP);
@@ -288,6 +300,18 @@ fn migrate_command<'a>(alloc: Global) -> Result<Command<'a>, AllocError>
     ];
     let migrate = command(alloc, "migrate", help::MIGRATE_ABOUT, help::MIGRATE_HELP);
     with_parts(alloc, migrate, &PARTS)
+}
+
+// `succeed --db OLD NEW`.
+fn succeed_command<'a>(alloc: Global) -> Result<Command<'a>, AllocError>
+    ensures { IfOk result (λ c. app_of c ≡ succeed_command) }
+{
+    static PARTS: [Part; 2] = [
+        Part::Needed("db", "OLD", help::OLD_HELP),
+        Part::Word("new", "NEW", help::NEW_HELP),
+    ];
+    let succeed = command(alloc, "succeed", help::SUCCEED_ABOUT, help::SUCCEED_HELP);
+    with_parts(alloc, succeed, &PARTS)
 }
 
 // `check FILE`, or `check --request FILE`, and its flag.

@@ -193,8 +193,14 @@ pub(crate) const STATUS_ABOUT: &str = "Prints a table of the services and their 
 
 pub(crate) const JSON_HELP: &str = "Print a line of JSON for each service, in place of the table";
 
+pub(crate) const PROMETHEUS_HELP: &str =
+    "Print the text format of Prometheus, in place of the table";
+
 pub(crate) const STATUS_HELP: &str = concat!(
     "With --json, each line is the JSON value of one service, with its keys in ascending order.\n",
+    "With --prometheus, status prints what node_exporter's textfile collector reads: write it to\n",
+    "a file beside the one that the collector reads, then rename it. --json and --prometheus\n",
+    "together are an invalid command line.\n\n",
     "With --watch, status goes on until it is stopped or has a fault. While a desk has FILE\n",
     "open, status reads a copy, which it makes beside FILE and removes again.\n\n",
     "Exit status: 0 if status printed all services, 2 for an invalid command line, and 1 for a\n",
@@ -208,7 +214,8 @@ pub(crate) const STATUS_HELP: &str = concat!(
     "  canary: broken-row       FILE has a row that no desk writes\n",
     "\nExamples:\n",
     "  canary status --db desk.db --watch 5\n",
-    "  canary status --db desk.db --json"
+    "  canary status --db desk.db --json\n",
+    "  canary status --db desk.db --prometheus > desk.new && mv desk.new desk.prom"
 );
 
 // ---- page
@@ -217,45 +224,63 @@ pub(crate) const PAGE_ABOUT: &str = "Draws the services and their runs as a page
 
 pub(crate) const OUT_HELP: &str = "The file to write the page to; - is standard output";
 
+pub(crate) const JSON_FOLDER_HELP: &str =
+    "Also write one JSON file for each service, FOLDER/SERVICE.json";
+
 pub(crate) const PAGE_HELP: &str = concat!(
     "The page is one file, which has no script and fetches nothing. page writes it beside OUT\n",
     "and renames it to OUT, so OUT is always a whole page. With --watch, page goes on until it\n",
     "is stopped or has a fault, and a browser loads the page anew as often. While a desk has\n",
     "FILE open, page reads a copy, which it makes beside FILE and removes again.\n\n",
+    "With --json, page also writes a JSON file for each service to FOLDER, which must exist.\n\n",
     "Exit status: 0 if page wrote the page, 2 for an invalid command line, and 1 for a fault,\n",
     "which a line on standard error names:\n",
-    "  canary: write         the page cannot be written to its end\n",
+    "  canary: write         the page or a JSON file cannot be written to its end\n",
     "  canary: memory        out of memory\n",
-    "  canary: file          FILE does not exist, or no copy can be made beside it, or OUT\n",
-    "                        cannot be made\n",
+    "  canary: file          FILE does not exist, or no copy can be made beside it, or OUT or a\n",
+    "                        JSON file cannot be made\n",
     "  canary: storage       cannot open, read or write FILE, or it is not a database\n",
     "  canary: in-use        FILE changes too fast for a copy\n",
     "  canary: other-schema  the tables of FILE are not a desk's\n",
     "  canary: broken-row    FILE has a row that no desk writes\n",
     "\nExamples:\n",
     "  canary page --db desk.db desk.html\n",
-    "  canary page --db desk.db --watch 5 /var/www/html/desk.html"
+    "  canary page --db desk.db --watch 5 /var/www/html/desk.html\n",
+    "  canary page --db desk.db --json /var/www/html/services /var/www/html/desk.html"
 );
 
 // ---- backup
 
 pub(crate) const BACKUP_ABOUT: &str = "Copies the records of a desk to another file";
 
-pub(crate) const COPY_HELP: &str = "The file to write the copy to, which must not exist";
+pub(crate) const EVERY_HELP: &str =
+    "Seconds from one copy to the next, 1 to 31536000 [default: only one copy]";
+
+pub(crate) const KEEP_HELP: &str = "Copies to keep with --every, 1 to 10000 [default: all]";
+
+pub(crate) const COPY_HELP: &str =
+    "The file to write the copy to, which must not exist; with --every, a folder, which must";
 
 pub(crate) const BACKUP_HELP: &str = concat!(
     "The copy is COPY and its log COPY-wal, which belong together; neither may exist before. A\n",
     "desk may serve FILE meanwhile. backup opens the copy, and looks that its tables are a\n",
     "desk's. It does not judge their rows.\n\n",
+    "With --every, COPY is a folder, which must exist. backup makes a copy there each SECONDS,\n",
+    "until it is stopped or has a fault. A copy is named desk-YYYYMMDDTHHMMSSZ.db, by its moment\n",
+    "(UTC), and has its log beside it. With --keep, once a new copy is whole, backup removes the\n",
+    "oldest of its copies in that folder, so that N are left. --keep without --every is an\n",
+    "invalid command line.\n\n",
     "Exit status: 0 if the copy is whole, 2 for an invalid command line, and 1 for a fault,\n",
     "which a line on standard error names:\n",
     "  canary: file          FILE does not exist, or a file cannot be read or written, or\n",
-    "                        COPY or COPY-wal exists\n",
+    "                        COPY or COPY-wal exists, or with --every COPY is not a folder\n",
     "  canary: memory        out of memory\n",
     "  canary: storage       FILE cannot be reached, or the copy cannot be opened\n",
     "  canary: other-schema  FILE is not a desk's\n",
     "  canary: in-use        FILE changes too fast for a copy\n",
-    "\nExample: canary backup --db desk.db desk-copy.db"
+    "\nExamples:\n",
+    "  canary backup --db desk.db desk-copy.db\n",
+    "  canary backup --db desk.db --every 3600 --keep 24 /var/backups/desk"
 );
 
 // ---- migrate
@@ -285,6 +310,33 @@ pub(crate) const MIGRATE_HELP: &str = concat!(
     "\nExamples:\n",
     "  canary migrate --db desk.db --dry-run\n",
     "  canary migrate --db desk.db"
+);
+
+// ---- succeed
+
+pub(crate) const SUCCEED_ABOUT: &str = "Makes a new desk of what a desk has come to";
+
+pub(crate) const OLD_HELP: &str = "The file with the old desk's records, which must exist";
+
+pub(crate) const NEW_HELP: &str = "The file to make the new desk in, which must not exist";
+
+pub(crate) const SUCCEED_HELP: &str = concat!(
+    "NEW gets each template of OLD at its newest revision, as its revision 1, and each service\n",
+    "at its stable version, done. It gets nothing else: no history, no measurement and no\n",
+    "settled request, so each caller begins anew with number 1. The requests that make NEW are\n",
+    "those of the caller 'succeed'. OLD stays as it is, for history, export and page. Stop its\n",
+    "desk first. succeed prints 'succeeded'.\n\n",
+    "Exit status: 0 if succeed printed its word, 2 for an invalid command line, and 1 for a\n",
+    "fault, which a line on standard error names:\n",
+    "  canary: in-progress   a release of OLD is in progress\n",
+    "  canary: in-use        another program has OLD open\n",
+    "  canary: file          OLD does not exist, or NEW exists or cannot be made\n",
+    "  canary: storage       cannot open, read or write OLD or NEW, or OLD is not a database\n",
+    "  canary: other-schema  the tables of OLD are not a desk's\n",
+    "  canary: broken-row    OLD has a row that no desk writes\n",
+    "  canary: memory        out of memory\n",
+    "  canary: write         the output failed or was closed\n",
+    "\nExample: canary succeed --db desk.db desk-of-2027.db"
 );
 
 // ---- check

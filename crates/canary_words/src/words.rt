@@ -8,7 +8,8 @@ ghost use Rattle.canary_words.specs.CommandLine.{export_of, status_of, page_of, 
 ghost use Rattle.canary_words.specs.CommandLine.{migrate_of, check_of, HasPage, HasMigrate, IsFor};
 ghost use Rattle.canary_words.specs.CommandLine.{HasProgram, HasPipe, HasListener, HasLimits};
 ghost use Rattle.canary_words.specs.CommandLine.{HasTexts, HasExport, HasStatus, HasImport};
-ghost use Rattle.canary_words.specs.CommandLine.{HasCheck, HasArgo, argo_of};
+ghost use Rattle.canary_words.specs.CommandLine.{HasCheck, HasArgo, HasBackup, argo_of};
+ghost use Rattle.canary_words.specs.CommandLine.{HasFurtherProgram, succeed_of};
 
 use crate::client::client_program_of;
 use crate::commands::desk_command;
@@ -194,29 +195,42 @@ pub enum Program {
         service: Text,
     },
     /// How the services stand, once, or again each time after so many seconds: a table, or with
-    /// `json` one JSON value for each service.
+    /// `json` one JSON value for each service, or with `prometheus` the text format of Prometheus;
+    /// not both, or the words are no status's.
     Status {
         db: Text,
         watch: Option<u64>,
         json: bool,
+        prometheus: bool,
     },
     /// How the services stand, as a page in the file of the name `out`, or on standard output where
-    /// it is `-`: once, or again each time after so many seconds.
+    /// it is `-`: once, or again each time after so many seconds. With `json`, each service also
+    /// has a JSON file in the folder of that name.
     Page {
         db: Text,
         out: Text,
         watch: Option<u64>,
+        json: Option<Text>,
     },
-    /// A copy of the records in the file of the name `copy`.
+    /// A copy of the records in the file of the name `copy`; or with `every` a copy in the folder
+    /// of that name, and a further one each time after so many seconds, of which with `keep` only
+    /// so many are kept. `keep` comes with `every`, or the words are no backup's.
     Backup {
         db: Text,
         copy: Text,
+        every: Option<u64>,
+        keep: Option<u64>,
     },
     /// The records as this version keeps them; with `dry_run` it changes nothing, and says what it
     /// would do.
     Migrate {
         db: Text,
         dry_run: bool,
+    },
+    /// A new desk, in the file of the name `new`, of what the records have come to.
+    Succeed {
+        db: Text,
+        new: Text,
     },
     /// What the desk would refuse of the manifest in the file of the name `file`, or of the
     /// request's body in that of the name `request`: one of them, or the words are no check's. With
@@ -306,6 +320,18 @@ fn program_of(alloc: Global, matches: &ArgMatches<'_>) -> Result<Program, AllocE
     if let Some(migrate) = matches.subcommand_matches("migrate") {
         return migrate_of(alloc, migrate);
     }
+    if let Some(succeed) = matches.subcommand_matches("succeed") {
+        return succeed_of(alloc, succeed);
+    }
+    further_program_of(alloc, matches)
+}
+
+// The program of a command that reads manifests or asks a desk, which the matches name.
+fn further_program_of(alloc: Global, matches: &ArgMatches<'_>) -> Result<Program, AllocError>
+    requires { HasFurtherProgram (subcommand_rows_of matches.now) }
+    ensures { IfOk result (λ p.
+        option_and_then program_in (subcommand_rows_of matches.now) ≡ Some p) }
+{
     if let Some(check) = matches.subcommand_matches("check") {
         return check_of(alloc, check);
     }
@@ -388,6 +414,7 @@ fn status_of(alloc: Global, status: &ArgMatches<'_>) -> Result<Program, AllocErr
         db: text_given(alloc, status, "db")?,
         watch: number_given(status, "watch"),
         json: flag_given(status, "json"),
+        prometheus: flag_given(status, "prometheus"),
     })
 }
 
@@ -401,16 +428,22 @@ fn page_of(alloc: Global, page: &ArgMatches<'_>) -> Result<Program, AllocError>
         db,
         out,
         watch: number_given(page, "watch"),
+        json: optional_text(alloc, page, "json")?,
     })
 }
 
 // The program of `backup` with these matches.
 fn backup_of(alloc: Global, backup: &ArgMatches<'_>) -> Result<Program, AllocError>
-    requires { HasTexts (codes "copy") (rows_of (found_of backup.now)) }
+    requires { HasBackup (rows_of (found_of backup.now)) }
     ensures { IfOk result (λ p. backup_of (rows_of (found_of backup.now)) ≡ Some p) }
 {
     let (db, copy) = two_given(alloc, backup, "db", "copy")?;
-    Ok(Program::Backup { db, copy })
+    Ok(Program::Backup {
+        db,
+        copy,
+        every: number_given(backup, "every"),
+        keep: number_given(backup, "keep"),
+    })
 }
 
 // The program of `migrate` with these matches.
@@ -422,6 +455,15 @@ fn migrate_of(alloc: Global, migrate: &ArgMatches<'_>) -> Result<Program, AllocE
         db: text_given(alloc, migrate, "db")?,
         dry_run: flag_given(migrate, "dry-run"),
     })
+}
+
+// The program of `succeed` with these matches.
+fn succeed_of(alloc: Global, succeed: &ArgMatches<'_>) -> Result<Program, AllocError>
+    requires { HasTexts (codes "new") (rows_of (found_of succeed.now)) }
+    ensures { IfOk result (λ p. succeed_of (rows_of (found_of succeed.now)) ≡ Some p) }
+{
+    let (db, new) = two_given(alloc, succeed, "db", "new")?;
+    Ok(Program::Succeed { db, new })
 }
 
 // The program of `check` with these matches.

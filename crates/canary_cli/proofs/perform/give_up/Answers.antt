@@ -1,17 +1,20 @@
-use Rattle.std.proofs.Common.{sym, subst, inl}
-use Rattle.canary_cli.specs.Performed.{IsGivenUp}
-use Rattle.canary_cli.proofs.TurnedAway.{given_up, only_memory}
+use Rattle.std.specs.Prelude.{map, string_bytes}
+use Rattle.canary_words.specs.CommandLine.{faults_of, program_of}
+use Rattle.canary_cli.proofs.TurnedAway.{given_up, turned_away}
 use Rattle.canary_cli.proofs.perform.give_up.Goals as goal
 
-pub returns-in-Ok-clause-given_up : goal.returns-in-Ok-clause-given_up
-returns-in-Ok-clause-given_up g c none =
-    subst (λ p. IsGivenUp p c.end_unopened.result) (sym c.in-Ok.ensures.program) (inl c.end_unopened.ensures)
+pub returns-clause-turned_away : goal.returns-clause-turned_away
+returns-clause-turned_away g c some =
+    turned_away _ c.read_words-asked.result _ _ _ some c.read_words-asked.ensures.taken c.read_words-asked.ensures.fault c.end_unasked.ensures.told
 
-pub returns-in-Err-clause-given_up : goal.returns-in-Err-clause-given_up
-returns-in-Err-clause-given_up g c none =
-    let told = only_memory _ c.in-Err.why _ _ _ none c.in-Err.ensures.fault c.turn_away.ensures.told in
-    given_up _ _ (c.in-Err.ensures.spelled none) told.0
+pub returns-clause-given_up : goal.returns-clause-given_up
+returns-clause-given_up g c none =
+    let words = map string_bytes c.args.words.now in
+    let ended = given_up (faults_of words) (program_of words) c.read_words-asked.result _ _ c.end_unasked.result none c.read_words-asked.ensures.program c.read_words-asked.ensures.fault (c.read_words-asked.ensures.spelled none) c.end_unasked.ensures.unopened c.end_unasked.ensures.told in
+    ended.0
 
-pub returns-in-Err-clause-unshown : goal.returns-in-Err-clause-unshown
-returns-in-Err-clause-unshown g c none =
-    (only_memory _ c.in-Err.why _ _ _ none c.in-Err.ensures.fault c.turn_away.ensures.told).1
+pub returns-clause-unshown : goal.returns-clause-unshown
+returns-clause-unshown g c none =
+    let words = map string_bytes c.args.words.now in
+    let ended = given_up (faults_of words) (program_of words) c.read_words-asked.result _ _ c.end_unasked.result none c.read_words-asked.ensures.program c.read_words-asked.ensures.fault (c.read_words-asked.ensures.spelled none) c.end_unasked.ensures.unopened c.end_unasked.ensures.told in
+    ended.1

@@ -1,6 +1,6 @@
 use Rattle.std.proofs.Common.{codes}
 use Rattle.clap.specs.Words.{found_of, rows_of, subcommand_rows_of}
-use Rattle.canary_words.proofs.Spelled.{client_left, given_for, met_by, missed, program_so}
+use Rattle.canary_words.proofs.Spelled.{further_left, given_for, met_by, missed, program_so}
 use Rattle.canary_words.proofs.words.program_of.Goals as goal
 
 pub pipe_of-requires : goal.pipe_of-requires
@@ -93,30 +93,20 @@ returns-in-Some-subcommand_matches-8 c =
     let met = met_by c.args.matches.now (codes "migrate") c.subcommand_matches-9.result c.in-Some-subcommand_matches-8.migrate c.subcommand_matches-9.ensures.found c.subcommand_matches-9.ensures.rows c.in-Some-subcommand_matches-8.is in
     program_so (subcommand_rows_of c.args.matches.now) (codes "migrate") (rows_of (found_of c.in-Some-subcommand_matches-8.migrate.now)) c.migrate_of.result met c.migrate_of.ensures
 
-pub check_of-requires : goal.check_of-requires
-check_of-requires c =
-    let met = met_by c.args.matches.now (codes "check") c.subcommand_matches-10.result c.in-Some-subcommand_matches-9.check c.subcommand_matches-10.ensures.found c.subcommand_matches-10.ensures.rows c.in-Some-subcommand_matches-9.is in
-    given_for (subcommand_rows_of c.args.matches.now) (codes "check") (rows_of (found_of c.in-Some-subcommand_matches-9.check.now)) c.requires met
+pub succeed_of-requires : goal.succeed_of-requires
+succeed_of-requires c =
+    let met = met_by c.args.matches.now (codes "succeed") c.subcommand_matches-10.result c.in-Some-subcommand_matches-9.succeed c.subcommand_matches-10.ensures.found c.subcommand_matches-10.ensures.rows c.in-Some-subcommand_matches-9.is in
+    given_for (subcommand_rows_of c.args.matches.now) (codes "succeed") (rows_of (found_of c.in-Some-subcommand_matches-9.succeed.now)) c.requires met
 
 pub returns-in-Some-subcommand_matches-9 : goal.returns-in-Some-subcommand_matches-9
 returns-in-Some-subcommand_matches-9 c =
-    let met = met_by c.args.matches.now (codes "check") c.subcommand_matches-10.result c.in-Some-subcommand_matches-9.check c.subcommand_matches-10.ensures.found c.subcommand_matches-10.ensures.rows c.in-Some-subcommand_matches-9.is in
-    program_so (subcommand_rows_of c.args.matches.now) (codes "check") (rows_of (found_of c.in-Some-subcommand_matches-9.check.now)) c.check_of.result met c.check_of.ensures
+    let met = met_by c.args.matches.now (codes "succeed") c.subcommand_matches-10.result c.in-Some-subcommand_matches-9.succeed c.subcommand_matches-10.ensures.found c.subcommand_matches-10.ensures.rows c.in-Some-subcommand_matches-9.is in
+    program_so (subcommand_rows_of c.args.matches.now) (codes "succeed") (rows_of (found_of c.in-Some-subcommand_matches-9.succeed.now)) c.succeed_of.result met c.succeed_of.ensures
 
-pub argo_of-requires : goal.argo_of-requires
-argo_of-requires c =
-    let met = met_by c.args.matches.now (codes "argo") c.subcommand_matches-11.result c.in-Some-subcommand_matches-10.argo c.subcommand_matches-11.ensures.found c.subcommand_matches-11.ensures.rows c.in-Some-subcommand_matches-10.is in
-    given_for (subcommand_rows_of c.args.matches.now) (codes "argo") (rows_of (found_of c.in-Some-subcommand_matches-10.argo.now)) c.requires met
-
-pub returns-in-Some-subcommand_matches-10 : goal.returns-in-Some-subcommand_matches-10
-returns-in-Some-subcommand_matches-10 c =
-    let met = met_by c.args.matches.now (codes "argo") c.subcommand_matches-11.result c.in-Some-subcommand_matches-10.argo c.subcommand_matches-11.ensures.found c.subcommand_matches-11.ensures.rows c.in-Some-subcommand_matches-10.is in
-    program_so (subcommand_rows_of c.args.matches.now) (codes "argo") (rows_of (found_of c.in-Some-subcommand_matches-10.argo.now)) c.argo_of.result met c.argo_of.ensures
-
-pub client_program_of-requires : goal.client_program_of-requires
-client_program_of-requires c =
+pub further_program_of-requires : goal.further_program_of-requires
+further_program_of-requires c =
     let m = c.args.matches.now in
-    client_left m c.requires (
+    further_left m c.requires (
       missed m (codes "pipe") c.subcommand_matches.result c.subcommand_matches.ensures.found c.in_default.is,
       missed m (codes "serve") c.subcommand_matches-2.result c.subcommand_matches-2.ensures.found c.in_default-subcommand_matches.is,
       missed m (codes "import") c.subcommand_matches-3.result c.subcommand_matches-3.ensures.found c.in_default-subcommand_matches-2.is,
@@ -126,6 +116,5 @@ client_program_of-requires c =
       missed m (codes "page") c.subcommand_matches-7.result c.subcommand_matches-7.ensures.found c.in_default-subcommand_matches-6.is,
       missed m (codes "backup") c.subcommand_matches-8.result c.subcommand_matches-8.ensures.found c.in_default-subcommand_matches-7.is,
       missed m (codes "migrate") c.subcommand_matches-9.result c.subcommand_matches-9.ensures.found c.in_default-subcommand_matches-8.is,
-      missed m (codes "check") c.subcommand_matches-10.result c.subcommand_matches-10.ensures.found c.in_default-subcommand_matches-9.is,
-      missed m (codes "argo") c.subcommand_matches-11.result c.subcommand_matches-11.ensures.found c.in_default-subcommand_matches-10.is,
+      missed m (codes "succeed") c.subcommand_matches-10.result c.subcommand_matches-10.ensures.found c.in_default-subcommand_matches-9.is,
     )

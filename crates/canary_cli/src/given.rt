@@ -1,0 +1,54 @@
+//! What the words of a program give: the form of a status, a text, the file of a desk.
+use crate::perform::Terminals;
+use canary_base::lists::Text;
+use canary_database::open::DeskFile;
+use canary_overview::overview::Form;
+use canary_programs::overview::Drawing;
+
+// How often a status is printed, in which form, and whether on a terminal.
+pub(crate) fn drawing(
+    every: Option<u64>,
+    is_json: bool,
+    is_prometheus: bool,
+    terminals: Terminals,
+) -> Drawing {
+    Drawing {
+        form: form_of(is_json, is_prometheus),
+        every,
+        is_terminal: terminals.output,
+    }
+}
+
+fn form_of(is_json: bool, is_prometheus: bool) -> Form {
+    if is_prometheus {
+        Form::Prometheus
+    } else if is_json {
+        Form::Json
+    } else {
+        Form::Tables
+    }
+}
+
+// A text that may be left out.
+pub(crate) fn text_of(text: &Option<Text>) -> Option<&str> {
+    match text {
+        Some(text) => Some(text.as_str()),
+        None => None,
+    }
+}
+
+// The file of a desk, and the room for what is kept of it in memory.
+pub(crate) fn file_of<'a>(db: &'a Text, cache: Option<u64>) -> DeskFile<'a> {
+    DeskFile {
+        name: db.as_str(),
+        cache,
+    }
+}
+
+// The same, if there is a file.
+pub(crate) fn file_or_none<'a>(db: &'a Option<Text>, cache: Option<u64>) -> Option<DeskFile<'a>> {
+    match db {
+        Some(db) => Some(file_of(db, cache)),
+        None => None,
+    }
+}

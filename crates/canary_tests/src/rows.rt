@@ -1,0 +1,98 @@
+//! What tables of rows are written in. A request is the caller, its number, the seconds after B and
+//! the canonical text of its command; a query is `?`, the seconds, and `service NAME`, `history
+//! NAME` or `run NAME NUMBER`.
+
+use canary_base::error::Memory;
+use canary_base::moments::Moment;
+use canary_base::names::Name;
+use canary_base::numbers::Number;
+use canary_canonical::reading::from_canonical;
+use canary_once::event::{Event, Query, Request};
+use canary_plan::command::Command;
+use std::alloc::Global;
+use std::fmt::Display;
+
+/// 2026-01-01T00:00:00Z
+pub(crate) const B: u64 = 1_767_225_600;
+
+/// Whether a call that was made twice is right: each answer is, and one is there at least, since no
+/// more than one allocation is refused.
+pub(crate) fn is_right(first: Option<bool>, second: Option<bool>) -> bool {
+    first.or(second) == Some(true) && second.or(first) == Some(true)
+}
+
+/// What a call counts for that answered a fault: none if that is `Memory`, and else it is wrong.
+pub(crate) fn refused(is_memory: bool) -> Option<bool> {
+    if is_memory { None } else { Some(false) }
+}
+
+/// What stands before the first of that mark, and what behind it: nothing where there is none.
+pub(crate) fn cut(text: &str, mark: char) -> (&str, &str) {
+    text.split_once(mark).unwrap_or((text, ""))
+}
+
+/// The moment so many seconds after B.
+pub(crate) fn moment(after: &str) -> Option<Moment> {
+    Moment::new(B.checked_add(after.parse().ok()?)?)
+}
+
+/// The name that a text spells.
+pub(crate) fn name(text: &str) -> Option<Name> {
+    Name::read(text.as_bytes())
+}
+
+/// The command with that canonical text; none where it is none's, or memory was refused.
+pub(crate) fn command(alloc: Global, text: &str) -> Option<Command> {
+    from_canonical(alloc, text).ok()
+}
+
+fn request(alloc: Global, asked: &str) -> Option<Request> {
+    let (caller, asked) = cut(asked, ' ');
+    let (number, asked) = cut(asked, ' ');
+    let (after, asked) = cut(asked, ' ');
+    Some(Request {
+        moment: moment(after)?,
+        caller: name(caller)?,
+        number: Number::read(number.as_bytes())?,
+        command: command(alloc, asked)?,
+    })
+}
+
+fn query(asked: &str) -> Option<Query> {
+    let (kind, of) = cut(asked, ' ');
+    if kind == "run" {
+        let (service, number) = cut(of, ' ');
+        return Some(Query::Run(name(service)?, Number::read(number.as_bytes())?));
+    }
+    if kind == "history" {
+        return name(of).map(Query::History);
+    }
+    name(of).map(Query::Service)
+}
+
+fn queried(asked: &str) -> Option<Event> {
+    let (after, asked) = cut(asked, ' ');
+    let moment = moment(after)?;
+    let query = query(asked)?;
+    Some(Event::Query { moment, query })
+}
+
+/// What a row sends; none where it sends nothing, or memory was refused.
+pub(crate) fn event(alloc: Global, asked: &str) -> Option<Event> {
+    match asked.strip_prefix("? ") {
+        Some(asked) => queried(asked),
+        None => request(alloc, asked).map(Event::Request),
+    }
+}
+
+fn is_printed<T: Display>(alloc: Global, value: &T, words: &str) -> Result<bool, Memory> {
+    Ok(format!(in alloc; "{value}")?.as_str() == words)
+}
+
+/// Whether the value is printed so; it is printed again where memory was refused.
+pub(crate) fn says<T: Display>(alloc: Global, value: &T, words: &str) -> Result<bool, Memory> {
+    match is_printed(alloc, value, words) {
+        Ok(is_so) => Ok(is_so),
+        Err(_) => is_printed(alloc, value, words),
+    }
+}

@@ -1,0 +1,181 @@
+"""What standard error has of a program that is slow, if it is no terminal: progress.py PROGRAM
+LIBRARY FOLDER. The library, clock.c, gives the program a clock that goes on each time that it is
+read, so that a small file takes long by it, and says when each line was written."""
+import contextlib
+import os
+import re
+import shutil
+import socket
+import subprocess
+import sys
+from concurrent.futures import ThreadPoolExecutor
+
+from conversation import STILL_AT_B
+from story_words import Wrong, command, expect, put
+
+# So many requests of each of so many callers, and so many services, with a line of a history each.
+CALLERS, EACH, SERVICES = 20, 3, 20
+ROWS = CALLERS * EACH + 2 * SERVICES
+# The milliseconds before the first line, and from one to the next.
+QUIET, BETWEEN = 2_000, 1_000
+# The milliseconds from one reading of the clock to the next: rows are judged in 41 parts, and of a
+# measurement file the clock is read once for a megabyte.
+STEP, STEP_OF_BYTES, QUICK = 400, 1_100, 10
+# Seconds in which a program has ended.
+LIMIT = 120
+# A measurement file of almost 4 MB, whose rows are too long to be read.
+LONG_ROWS = 39
+HEADER = b"caller,number,service,run,metric,ordinal,taken,result,failure\n"
+JUDGED, READ, DRAWN = ("rows judged", ROWS), ("MB read", 4), ("services drawn", SERVICES)
+WRITTEN = re.compile(r"([12]) (\d+)\n((?:(?![12] \d+\n).*\n)*)")
+LINE = re.compile(r"canary: (\d+) of (\d+) (rows judged|MB read|services drawn)\n")
+SERVE = ["serve", "--listen", "127.0.0.1:0", "--connections", "1", "--db", "desk.db"]
+
+
+def make_desk(program, folder):
+    """A desk's file and a measurement file."""
+    asked = [put(f"c{caller}", number, command("template errs m,interval=60"))
+             for caller in range(CALLERS) for number in range(1, EACH + 1)]
+    asked += [put("ops", number, command("service v1 setWeight:20 pause", f"s{number}"))
+              for number in range(1, SERVICES + 1)]
+    words = [program, *STILL_AT_B, "--db", os.path.join(folder, "desk.db")]
+    done = subprocess.run(words, input=b"".join(asked), timeout=LIMIT, capture_output=True)
+    expect("a desk", done.stdout.count(b"HTTP/1.1 200 OK"), len(asked))
+    with open(os.path.join(folder, "rows.csv"), "wb") as rows:
+        rows.write(HEADER + LONG_ROWS * (100_000 * b"x" + b"\n"))
+
+
+class Case:
+    """A program by its words, in a new folder with a desk's file and a measurement file."""
+
+    def __init__(self, program, library, above, row):
+        self.row, self.place = row, os.path.join(above, row.replace(" ", "-"))
+        self.program, self.library = program, library
+        os.mkdir(self.place)
+        for name in ("desk.db", "rows.csv"):
+            shutil.copy(os.path.join(above, name), self.place)
+        self.log = os.path.join(self.place, "written")
+
+    def run(self, words, errors=subprocess.PIPE, step=STEP, closed=False):
+        """Waits for the end of a program, and lets a client of `serve` come and go."""
+        environment = {**os.environ, "LD_PRELOAD": self.library, "STEP": str(step),
+                       "WRITTEN": self.log}
+        running = subprocess.Popen([self.program, *words], cwd=self.place, env=environment,
+                                   stdin=subprocess.DEVNULL, stdout=subprocess.PIPE, stderr=errors,
+                                   preexec_fn=(lambda: os.close(2)) if closed else None)
+        try:
+            self.wait(running, words)
+        except subprocess.TimeoutExpired:
+            raise Wrong(f"{self.row}: it does not end") from None
+        finally:
+            running.kill()
+            running.wait()
+
+    def wait(self, running, words):
+        with ThreadPoolExecutor(1) as reading:
+            if words[0] == "serve":
+                told = reading.submit(running.stdout.readline)
+                self.connect(running, told)
+            running.communicate(timeout=LIMIT)
+        expect(f"{self.row}: its status", running.returncode, 0)
+
+    def connect(self, running, told):
+        try:
+            line = re.fullmatch(rb"listening 127\.0\.0\.1:(\d+)\n", told.result(timeout=LIMIT))
+        except TimeoutError:
+            running.kill()
+            raise Wrong(f"{self.row}: it does not listen in {LIMIT} seconds") from None
+        if line is None:
+            raise Wrong(f"{self.row}: it does not listen")
+        socket.create_connection(("127.0.0.1", int(line[1])), timeout=LIMIT).close()
+
+    def calls(self):
+        """What was written: the stream, the moment, and the text."""
+        with open(self.log, encoding="latin-1") as written:
+            return [(int(stream), int(moment), text)
+                    for stream, moment, text in WRITTEN.findall(written.read())]
+
+    def check(self, wanted, step):
+        """The lines on standard error count these, one behind the other, and each comes as soon as
+        it may."""
+        parts, due = [], step + QUIET
+        for moment, text in [call[1:] for call in self.calls() if call[0] == 2]:
+            line = LINE.fullmatch(text)
+            if line is None or moment < due:
+                raise Wrong(f"{self.row}: {text!r} at {moment}, and not before {due}")
+            due = moment + BETWEEN
+            part = line[3], int(line[2])
+            if not parts or parts[-1][0] != part:
+                parts.append((part, []))
+            parts[-1][1].append(int(line[1]))
+        expect(f"{self.row}: what is counted", [part for part, _ in parts], list(wanted))
+        for (what, whole), counts in parts:
+            if counts != sorted(set(counts)) or counts[-1] > whole or len(counts) < 2:
+                raise Wrong(f"{self.row}: {what}: {counts} of {whole}")
+
+    def try_slow(self, *words, wanted=(JUDGED,), step=STEP):
+        """Lines, all before the desk listens."""
+        self.run(words, step=step)
+        self.check(wanted, step)
+        streams = [stream for stream, _, _ in self.calls()]
+        if words[0] == "serve" and streams != sorted(streams, reverse=True):
+            raise Wrong(f"{self.row}: a line comes when the desk listens")
+
+    def try_quick(self):
+        """No line of what takes less than two seconds."""
+        self.run(SERVE, step=QUICK)
+        expect(f"{self.row}: its lines", [call for call in self.calls() if call[0] == 2], [])
+
+    def try_closed(self):
+        """With standard error closed."""
+        self.run(SERVE, errors=None, closed=True)
+
+    def try_unread(self):
+        """With a pipe for standard error that is full, and that nobody reads."""
+        reader, writer = os.pipe()
+        os.set_blocking(writer, False)
+        with contextlib.suppress(BlockingIOError):
+            while os.write(writer, bytes(4096)):
+                pass
+        os.set_blocking(writer, True)
+        self.run(SERVE, errors=writer)
+        os.close(writer)
+        os.close(reader)
+
+    def try_left(self):
+        """With a pipe for standard error that has no reader any more."""
+        reader, writer = os.pipe()
+        os.close(reader)
+        self.run(SERVE, errors=writer)
+        os.close(writer)
+
+
+def try_all(case):
+    """Each of these in a new folder."""
+    db = ["--db", "desk.db"]
+    case("serve").try_slow(*SERVE)
+    case("pipe").try_slow(*STILL_AT_B, *db)
+    case("import").try_slow("import", *db, "rows.csv", wanted=(JUDGED, READ), step=STEP_OF_BYTES)
+    case("history").try_slow("history", *db, "s1")
+    case("export").try_slow("export", *db, "--caller", "a", "s1")
+    case("status").try_slow("status", *db)
+    case("page").try_slow("page", *db, "out.html", wanted=(JUDGED, DRAWN))
+    case("migrate").try_slow("migrate", *db)
+    case("a quick desk").try_quick()
+    case("a closed standard error").try_closed()
+    case("a full standard error").try_unread()
+    case("a standard error that nobody reads any more").try_left()
+
+
+def main():
+    program, library, above = map(os.path.abspath, sys.argv[1:])
+    folder = os.path.join(above, "progress")
+    os.mkdir(folder)
+    try:
+        make_desk(program, folder)
+        try_all(lambda row: Case(program, library, folder, row))
+    except (Wrong, subprocess.TimeoutExpired) as fault:
+        sys.exit(f"files: {fault}")
+
+
+main()

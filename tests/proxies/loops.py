@@ -1,0 +1,56 @@
+"""The loop of examples/loop, as a whole and with each of its parts killed: parts of proxies.py."""
+import contextlib
+import os
+import signal
+import subprocess
+
+from parts import OPERATIONS
+from world import environment, expect, process
+
+
+def run_loop(world, name, *words):
+    """What the loop shows. It ends well, and leaves nothing but what it is told to keep."""
+    folder = world.place(name)
+    with process([OPERATIONS.parent / "loop" / "run", *words, world.program], cwd=folder,
+                 env=environment(TMPDIR=str(folder)), stdin=subprocess.DEVNULL,
+                 stdout=subprocess.PIPE, stderr=subprocess.STDOUT, text=True,
+                 start_new_session=True) as started:
+        started.is_of_group = True
+        try:
+            shown = started.communicate(timeout=400)[0]
+        finally:
+            with contextlib.suppress(ProcessLookupError):
+                os.killpg(started.pid, signal.SIGKILL)
+    expect(f"the loop: {shown}", started.returncode, 0)
+    expect("it leaves", [path.name for path in folder.iterdir()], ["kept"] * ("--keep" in words))
+    return folder, shown
+
+
+def try_loop(world):
+    """A good version is promoted, and a bad one aborted."""
+    folder, shown = run_loop(world, "loop", "--keep", "kept")
+    for line in ("done v2", "abort run 3", "v1 100 -> 80", "v3 20 -> 0",
+                 f"The page of the desk: {folder}/kept/desk.html"):
+        expect(f"the loop shows {line}: {shown}", line in shown, True)
+    page = (folder / "kept" / "desk.html").read_text(encoding="utf-8")
+    expect("the page has the release", "v3" in page and page.endswith("</html>\n"), True)
+
+
+def want_killed(world, *names):
+    """What docs/OPERATIONS.md says of these parts is seen: the loop wants it."""
+    away = "20" if world.is_whole else "3"
+    words = [word for name in names for word in ("--part", name)]
+    _, shown = run_loop(world, f"killed-{names[0]}", "--kill-each", "--away", away, *words)
+    expect("each row is seen", shown.count("  settled once each, "), len(names))
+
+
+def try_killed_desk(world):
+    want_killed(world, "desk", "agent", "job")
+
+
+def try_killed_router(world):
+    want_killed(world, "follower", "haproxy", "traffic")
+
+
+def try_killed_versions(world):
+    want_killed(world, "prometheus", "new", "stable")
