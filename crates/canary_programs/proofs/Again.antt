@@ -1,15 +1,14 @@
 -- One command more, and one request more; and what the register says of requests that were accepted.
-use Rattle.std.proofs.Common.{◌≡◌, ℕ, suc, ◌+◌, ◌<◌, List, [], ◌∷◌, ◌++◌, length, take, get_or, Bool, true, false, Option, Some, None, refl, sym, ap, ◌∙◌, subst, append_assoc, arith}
-use Rattle.std.specs.Prelude.{◌||◌, cond, option_map, All, Result, Ok, Err, OnOk}
-use Rattle.std.specs.List.{filter_map, cons_option, list_any, AllByRecursion}
+use Rattle.std.proofs.Common.{◌≡◌, ℕ, zero, suc, ◌+◌, ◌<◌, List, [], ◌∷◌, ◌++◌, length, take, get_or, Bool, true, false, Option, Some, None, refl, sym, ap, ◌∙◌, subst, append_assoc, arith}
+use Rattle.std.specs.Prelude.{◌||◌, cond, option_map, All}
+use Rattle.std.specs.List.{filter_map, cons_option, AllByRecursion}
 use Rattle.std.specs.Ordering.{nat_cmp}
 use Rattle.std.specs.Cmp.Lexicographic.{slice_cmp, nat_list_cmp_total}
-use Rattle.std.specs.Str.{bytes_eq}
-use Rattle.std.specs.FinMap.{FinMap, get, insert, empty, get-insert, get-empty}
+use Rattle.std.specs.FinMap.{FinMap, get, empty, get-insert, get-empty}
 use Rattle.std.proofs.lemmas.Map.Text.{is_eq-slice_cmp}
 use Rattle.std.proofs.lemmas.Slice.Eq.{bytes_eq-Decides}
 use Rattle.std.proofs.lemmas.List.{take_more}
-use Rattle.std.proofs.lemmas.List.Elements.{filter_map-append, recursion_from_All}
+use Rattle.std.proofs.lemmas.List.Elements.{All-append, filter_map-append, recursion_from_All}
 use Rattle.std.proofs.lemmas.List.Folds.{list_any_more, list_any_at}
 use Rattle.canary_plan.specs.declared.template.Template.{Template}
 use Rattle.canary_plan.specs.declared.template_spec.TemplateSpec.{TemplateSpec}
@@ -26,27 +25,18 @@ use Rattle.canary_once.specs.Books.{BookState}
 use Rattle.canary_once.specs.Contents.{Contents, put_some, known_named}
 use Rattle.canary_once.specs.Answers.{heard, replies_in, answers_of, after}
 use Rattle.canary_files.specs.Exporting.{Stays}
-use Rattle.canary_programs.specs.Successions.{template_again, is_going_on, are_going_on, IsAccepted, Succeeds, requests_from, request_again}
+use Rattle.canary_programs.specs.Successions.{is_going_on, are_going_on, template_again, IsAccepted, Succeeds, requests_from, request_again}
 
 -- What is found under the one name that was asked for.
 
 put_got : (name : List ℕ) (o : Option Template) → get (put_some empty name o) name ≡ o
 put_got name None = get-empty (slice_cmp nat_cmp) name
 put_got name (Some t) =
-    let none : FinMap (slice_cmp nat_cmp) Template = empty in
-    get-insert nat_list_cmp_total none name t name
-    ∙ ap (λ b. cond b (Some t) (get none name)) (is_eq-slice_cmp name name ∙ (bytes_eq-Decides name name).1 refl)
+    get-insert nat_list_cmp_total empty name t name
+    ∙ ap (λ b. cond b (Some t) (get {R = slice_cmp nat_cmp} empty name)) (is_eq-slice_cmp name name ∙ (bytes_eq-Decides name name).1 refl)
 
 pub found_alone : (known : Templates) (name : List ℕ) (found : FinMap (slice_cmp nat_cmp) Template) → found ≡ known_named known (name ∷ []) → get found name ≡ known name
 found_alone known name found is = ap (λ (m : FinMap (slice_cmp nat_cmp) Template). get m name) is ∙ put_got name (known name)
-
-pub template_told : (desk : Desk) (name : List ℕ) (found : FinMap (slice_cmp nat_cmp) Template) (t : Template) (copy : TemplateSpec) → found ≡ known_named (newest desk.templates) (name ∷ []) → Some t ≡ get found name → copy ≡ t.spec → Some (AddTemplate copy) ≡ template_again desk name
-template_told desk name found t copy is there same =
-    ap (λ (s : TemplateSpec). Some (AddTemplate s)) same
-    ∙ ap (option_map (λ (x : Template). AddTemplate x.spec)) (there ∙ found_alone (newest desk.templates) name found is)
-
-pub none_told : (desk : Desk) (name : List ℕ) (found : FinMap (slice_cmp nat_cmp) Template) → found ≡ known_named (newest desk.templates) (name ∷ []) → None ≡ get found name → None ≡ template_again desk name
-none_told desk name found is there = ap (option_map (λ (x : Template). AddTemplate x.spec)) (there ∙ found_alone (newest desk.templates) name found is)
 
 -- The step of a loop over names.
 
@@ -124,6 +114,24 @@ succeeds events answers old new n all told is =
       subst (AllByRecursion (λ (r : Reply). r.status ≡ Accepted)) (told ∙ ap (answers_of old) whole) (all_accepted answers each),
     )
 
-pub on_ok : {A E P Q : Type 0} (r : Result A E) → (P → Q) → OnOk r P → OnOk r Q
-on_ok (Ok x) then_so so = then_so so
-on_ok (Err e) then_so so = tt
+-- The step of the loop over answers.
+
+one : (answer : Answer) → IsAccepted answer → All IsAccepted (answer ∷ [])
+one answer is zero d h = is
+one answer is (suc k) d h = let never : ⊥ = omega (arith, h) in absurd never
+
+pub one_accepted : (answers : List Answer) (i : ℕ) (answer : Answer) → i < length answers → answer ≡ get_or answers i answer
+    → All IsAccepted (take i answers) → IsAccepted answer → All IsAccepted (take (i + 1) answers)
+one_accepted answers i answer lt at before is =
+    let longer : take (i + 1) answers ≡ take i answers ++ answer ∷ [] = take_more answers i answer lt ∙ ap (λ (a : Answer). take i answers ++ a ∷ []) (sym at) in
+    subst (All IsAccepted) (sym longer) (All-append IsAccepted (take i answers) (answer ∷ []) before (one answer is))
+
+-- A template as it is asked for anew, if there is one.
+
+pub again_some : (desk : Desk) (name : List ℕ) (t : Template) (spec : TemplateSpec) → spec ≡ t.spec → Some t ≡ newest desk.templates name → Some (AddTemplate spec) ≡ template_again desk name
+again_some desk name t spec is known =
+    ap (λ (s : TemplateSpec). Some (AddTemplate s)) is
+    ∙ ap (λ (o : Option Template). option_map (λ (t : Template). AddTemplate t.spec) o) known
+
+pub again_none : (desk : Desk) (name : List ℕ) → None ≡ newest desk.templates name → None ≡ template_again desk name
+again_none desk name known = ap (λ (o : Option Template). option_map (λ (t : Template). AddTemplate t.spec) o) known

@@ -1,7 +1,6 @@
 -- The desk that succeeds another one: which requests make it, and how it stands then.
 use Rattle.std.specs.Prelude.{◌≡◌, ℕ, suc, Bool, false, List, [], ◌∷◌, ◌++◌, Option, Some, None, option_map, codes}
 use Rattle.std.specs.List.{list_any, filter_map, AllByRecursion}
-use Rattle.std.specs.FinMap.{get}
 use Rattle.canary_plan.specs.declared.service.ServiceSpec.{ServiceSpec}
 use Rattle.canary_plan.specs.declared.template.Template.{Template}
 use Rattle.canary_plan.specs.declared.command.Command.{Command}

@@ -1,5 +1,5 @@
 use Rattle.std.proofs.Common.{arith}
-use Rattle.canary_programs.proofs.Again.{one_more, none_more, some_going}
+use Rattle.canary_programs.proofs.Again.{one_more, none_more}
 use Rattle.canary_programs.proofs.Stays.{stays_then}
 use Rattle.canary_programs.specs.Successions.{service_again}
 use Rattle.canary_programs.proofs.succession.with_services.Goals as goal
