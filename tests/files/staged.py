@@ -174,7 +174,7 @@ def try_killed_successions(program, folder):
     place = folder_in(folder, "killed-succession")
     old, new = os.path.join(place, "old.db"), os.path.join(place, "new.db")
     make_desk(program, old, 2)
-    log, before = os.path.join(folder, "succession-log"), pair(old)
+    log, before = os.path.join(folder, "succession-log"), bytes_of(old)
     words = [program, "succeed", "--db", old, new]
     calls = ("mkdir", "link", "unlink", "rmdir") + WRITING
     expect("succeed", told(traced(log, calls) + words), (0, b"succeeded\n", b""))
@@ -193,7 +193,7 @@ def try_killed_successions(program, folder):
         row = f"succeed, killed at {names[at]} {when}"
         ended = told(traced(log, [names[at]], f"{names[at]}:signal=KILL:when={when}") + words)
         expect(row, ended[0] != 0, True)
-        expect(f"{row}: the old file", pair(old), before)
+        expect(f"{row}: the old file", bytes_of(old) == before, True)
         left = set(os.listdir(place)) - {"old.db", "old.db-wal", "new.db", "new.db-wal"}
         for name in left:
             expect(f"{row}: {name}", bool(re.fullmatch(f"new[.]db[.]part-[0-9]+-{RANDOM}", name)),

@@ -13,7 +13,7 @@ from contextlib import closing
 
 from conversation import limits_writes
 from places import (
-    FILE_FAULT, bytes_of, folder_in, make_desk, mode_of, pair, serving, told, want_names, write)
+    FILE_FAULT, bytes_of, folder_in, make_desk, mode_of, serving, told, want_names, write)
 from story_words import B, Wrong, answer, command, expect, put, replies
 
 SUCCEEDED = (0, b"succeeded\n", b"")
@@ -31,7 +31,7 @@ SERVICES = (
     ("api", "v1 setWeight:10 analysis:slow", "start v2", "abort"),
     ("shop", "v7"),
     ("mail", "v1 setWeight:30 pause:60", "start v2"),
-    ("blog", "v1 setWeight:10 analysis:slow+errs", "start v2"),
+    ("blog", "v1 setWeight:10 analysis:slow", "start v2"),
     ("news", "v1 setWeight:5 pause", "start v2"),
 )
 # What each service is in the new file: its stable version, and how many steps it has.
@@ -104,12 +104,13 @@ def healthy(name):
 
 
 def seen(program, file):
-    """What the old file shows: histories, measurements, the page but for its moments, and bytes."""
+    """What the old file shows: histories, measurements, the page but for its moments, and its bytes.
+    Whoever opens it may give a log without frames another header."""
     page = told([program, "page", "--db", file, "-"])
     expect(f"page of {file}", page[::2], (0, b""))
     asked = [told([program, *words, "--db", file, *more, name]) for name in STABLE
              for words, more in ((["history"], []), (["export"], ["--caller", "copy"]))]
-    return asked, re.sub(MOMENTS, b"", page[1]), pair(file)
+    return asked, re.sub(MOMENTS, b"", page[1]), bytes_of(file)
 
 
 def try_grown(program, folder):
@@ -120,10 +121,10 @@ def try_grown(program, folder):
     old, new = os.path.join(place, "old.db"), os.path.join(place, "new.db")
     count = make_grown(program, old)
     for ended in ("blog: abort", "news: promoteFull"):
-        before = pair(old)
+        before = bytes_of(old)
         expect(f"before {ended}", succeed(program, old, new), refused("in-progress"))
         want_names(f"before {ended}", place, ["old[.]db", "old[.]db-wal"])
-        expect(f"before {ended}: the old file", pair(old), before)
+        expect(f"before {ended}: the old file", bytes_of(old) == before, True)
         name, asked = ended.split(": ")
         count += 1
         expect(ended, asks(program, old, command(asked, name), first=count)[0][0], 200)
@@ -228,7 +229,7 @@ def try_names(program, folder):
     for name, end in (("dangling", "nowhere"), ("link", "old.db"), ("other", "file")):
         os.symlink(end, os.path.join(place, name))
     left = sorted(os.listdir(place))
-    before = pair(old)
+    before = bytes_of(old)
     for name in ("file", "log", "folder", "fifo", "dangling", "link", "other", "old.db",
                  "old.db-wal", "old.db-journal", os.path.join(".", "old.db"), "folder/../old.db",
                  "none/new", "file/new", "folder/", ""):
@@ -236,7 +237,7 @@ def try_names(program, folder):
     for name in (":memory:", "file:new"):
         expect(f"the name {name}", succeed(program, old, name, cwd=place), refused("storage"))
     expect("names: what is left", sorted(os.listdir(place)), left)
-    expect("names: the old file", pair(old), before)
+    expect("names: the old file", bytes_of(old) == before, True)
     expect("names: a file", [bytes_of(os.path.join(place, name)) for name in ("file", "log-wal")],
            [b"kept", b"kept"])
 
@@ -286,13 +287,13 @@ def try_full_disk(program, folder):
     place = folder_in(folder, "full")
     old, new = os.path.join(place, "old.db"), os.path.join(place, "new.db")
     make_desk(program, old, 2)
-    before = pair(old)
+    before = bytes_of(old)
     for most in (0, 512, 4096, 10_000):
         def first():
             limits_writes(most)
         expect(f"{most} bytes", succeed(program, old, new, preexec_fn=first), refused("storage"))
         want_names(f"{most} bytes", place, ["old[.]db", "old[.]db-wal"])
-    expect("a full disk: the old file", pair(old), before)
+    expect("a full disk: the old file", bytes_of(old) == before, True)
     expect("a disk with room", succeed(program, old, new), SUCCEEDED)
 
 
