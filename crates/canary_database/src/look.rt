@@ -148,9 +148,17 @@ fn draw_named<B: Book, W: Write, P: Progress>(
     output: &mut W,
     progress: &mut P,
 ) -> Result<(), Fault> {
-    draw_page(rt.alloc(), book, names, view, output, progress)?;
-    match &shelf {
-        Some(shelf) => fill(rt, book, names, view.now, shelf, progress),
+    let View { now, every } = view;
+    draw_page(
+        rt.alloc(),
+        book,
+        names,
+        View { now, every },
+        output,
+        progress,
+    )?;
+    match shelf {
+        Some(shelf) => fill(rt, book, names, now, &shelf, progress),
         None => Ok(()),
     }
 }
