@@ -315,15 +315,17 @@ def try_names(program, folder):
     makers = {"FIFO": os.mkfifo, "folder": os.mkdir,
               "device": lambda path: os.symlink("/dev/null", path),
               "link to a FIFO": lambda path: os.symlink(os.path.join(folder, "fifo"), path),
-              "the desk": lambda path: os.symlink(file, path),
-              "the desk's other name": lambda path: os.link(file, path)}
+              "link to the desk": lambda path: os.symlink(file, path),
+              "name of the desk": lambda path: os.link(file, path)}
     os.mkfifo(os.path.join(folder, "fifo"))
     for target in ("web.json", "_services.json"):
         path, desk = os.path.join(place, target), read(file)
         for kind, make in makers.items():
             make(path)
             before = os.lstat(path)
-            want(f"{target}: a {kind}", tried(program, *words), REFUSED)
+            # a desk's file that has another name is not opened
+            refused = (1, b"canary: storage\n") if kind == "name of the desk" else REFUSED
+            want(f"{target}: a {kind}", tried(program, *words), refused)
             want(f"{target}: a {kind} after", (os.lstat(path).st_ino, read(file)),
                  (before.st_ino, desk))
             left = [one for one in os.listdir(place) if ".part-" in one]
@@ -370,7 +372,7 @@ def try_full(program, folder):
     want("before it is full", tried(program, *words), DONE)
     sizes = {name: os.stat(os.path.join(place, name)).st_size for name in os.listdir(place)}
     size = sizes["load.json"]
-    for most in (1, 100, size // 2, size - 1):
+    for most in (512, 4096, size // 2, size - 1):
         for name in sizes:
             write(os.path.join(place, name), "kept")
         found = tried(program, *words, preexec_fn=lambda: limits_writes(most))
