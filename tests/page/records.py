@@ -305,45 +305,57 @@ def read(path):
         return file.read()
 
 
-def try_names(program, folder):
-    """What stands under the name of a file: a FIFO, a folder, a device and the desk's own file are
-    refused, also behind a link; a file is replaced, and keeps its mode; a link to a file is
-    replaced, and not the file. Others stay."""
-    file, place = os.path.join(folder, "told.db"), folder_in(folder, "names")
-    out, name = os.path.join(folder, "names.html"), os.path.join(place, "web.json")
-    words = ["--db", file, "--json", place, out]
+def places_of_names(folder):
+    """A folder for files, a page beside it, and the words that draw both."""
+    place, out = os.path.join(folder, "names"), os.path.join(folder, "names.html")
+    return place, out, ["--db", os.path.join(folder, "told.db"), "--json", place, out]
+
+
+def try_refused(program, folder):
+    """A FIFO, a folder, a device and the desk's own file under the name of a file are refused, also
+    behind a link, and stay as they are. There is no page then."""
+    file, fifo = os.path.join(folder, "told.db"), os.path.join(folder, "fifo")
+    place, out, words = places_of_names(folder)
+    os.mkdir(place)
+    os.mkfifo(fifo)
     makers = {"FIFO": os.mkfifo, "folder": os.mkdir,
               "device": lambda path: os.symlink("/dev/null", path),
-              "link to a FIFO": lambda path: os.symlink(os.path.join(folder, "fifo"), path),
+              "link to a FIFO": lambda path: os.symlink(fifo, path),
               "link to the desk": lambda path: os.symlink(file, path),
               "name of the desk": lambda path: os.link(file, path)}
-    os.mkfifo(os.path.join(folder, "fifo"))
-    for target in ("web.json", "_services.json"):
-        path, desk = os.path.join(place, target), read(file)
+    desk = read(file)
+    for path in (os.path.join(place, "web.json"), os.path.join(place, "_services.json")):
         for kind, make in makers.items():
+            row = f"{os.path.basename(path)}: a {kind}"
             make(path)
             before = os.lstat(path)
             # a desk's file that has another name is not opened
             refused = (1, b"canary: storage\n") if kind == "name of the desk" else REFUSED
-            want(f"{target}: a {kind}", tried(program, *words), refused)
-            want(f"{target}: a {kind} after", (os.lstat(path).st_ino, read(file)),
-                 (before.st_ino, desk))
+            want(row, tried(program, *words), refused)
+            want(f"{row} after", (os.lstat(path).st_ino, read(file)), (before.st_ino, desk))
             left = [one for one in os.listdir(place) if ".part-" in one]
-            want(f"{target}: a {kind}, what is left", (left, os.path.exists(out)), ([], False))
+            want(f"{row}, what is left", (left, os.path.exists(out)), ([], False))
             (os.rmdir if stat.S_ISDIR(before.st_mode) else os.unlink)(path)
+
+
+def try_replaced(program, folder):
+    """A file is replaced, and keeps its mode; a link to a file is replaced, and not the file. Others
+    stay."""
+    place, _, words = places_of_names(folder)
+    name, stranger = os.path.join(place, "web.json"), os.path.join(place, "stranger.json")
     victim = os.path.join(folder, "victim")
     write(victim, "kept")
-    os.unlink(name) if os.path.exists(name) else None
+    write(stranger, "kept")
+    if os.path.exists(name):
+        os.unlink(name)
     os.symlink(victim, name)
-    write(os.path.join(place, "stranger.json"), "kept")
     want("a link to a file", tried(program, *words), DONE)
     want("a link to a file, after", (value_in(name)["service"], os.path.islink(name)),
          ("web", False))
     os.chmod(name, 0o640)
     want("once more", tried(program, *words), DONE)
     want("once more: its mode", stat.S_IMODE(os.stat(name).st_mode), 0o640)
-    want("strangers", (read(victim), read(os.path.join(place, "stranger.json"))),
-         (b"kept", b"kept"))
+    want("strangers", (read(victim), read(stranger)), (b"kept", b"kept"))
     want("all that is there", sorted(os.listdir(place)),
          ["_services.json", "stranger.json", "web.json"])
 
@@ -434,7 +446,8 @@ def try_all(program, folder, make_desk):
     for case in stories.CASES:
         try_case(program, folder, case.__name__)
     try_pages(program, folder, make_desk)
-    try_names(program, folder)
+    try_refused(program, folder)
+    try_replaced(program, folder)
     try_folders(program, folder)
     try_full(program, folder)
     try_kills(program, folder)
