@@ -339,8 +339,8 @@ def try_refused(program, folder):
 
 
 def try_replaced(program, folder):
-    """A file is replaced, and keeps its mode; a link to a file is replaced, and not the file. Others
-    stay."""
+    """A file is replaced, and keeps its mode; a link to a file is replaced, and not the file.
+    Others stay."""
     place, _, words = places_of_names(folder)
     name, stranger = os.path.join(place, "web.json"), os.path.join(place, "stranger.json")
     victim = os.path.join(folder, "victim")
