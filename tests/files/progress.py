@@ -160,7 +160,6 @@ def try_all(case):
     case("export").try_slow("export", *db, "--caller", "a", "s1")
     case("status").try_slow("status", *db)
     case("page").try_slow("page", *db, "out.html", wanted=(JUDGED, DRAWN))
-    case("migrate").try_slow("migrate", *db)
     case("a quick desk").try_quick()
     case("a closed standard error").try_closed()
     case("a full standard error").try_unread()
