@@ -16,7 +16,7 @@ ghost use Rattle.canary_reads.specs.Reader.{IsKept};
 
 use canary_base::error::Memory;
 use canary_base::names::Name;
-use canary_judging::laws;
+use canary_judging::laws as judged;
 use canary_plan::analysis_parts::{Revision, distinct};
 use canary_plan::bound::Bound;
 use canary_plan::strategy::Strategy;
@@ -152,7 +152,7 @@ pub(crate) fn attempt<Q: Reader>(
     ensures broken { RefusesJudged (HasSuch (IsAttemptBound service.now strategy.now))
         (Q.shows conn.old) (Q.shows conn.new) result }
 {
-    laws::bindings();
+    judged::bindings();
     let binding = bound(conn, alloc, service, strategy)?;
     let revisions = binding.bound.revisions(alloc)?;
     if are_all(alloc, revisions.as_slice(), binding.rows)? {

@@ -81,6 +81,7 @@ fn judge_each<Q: Reader, G: Progress>(
     Ok(settled)
 }
 
+// That the caller has one row, with a valid count, and one receipt for each number up to it.
 fn judge_one<Q: Reader, G: Progress>(
     conn: &mut Q,
     alloc: Global,
@@ -104,6 +105,7 @@ fn judge_one<Q: Reader, G: Progress>(
     judge_receipts(conn, alloc, &caller.name, caller.settled, progress)
 }
 
+// Whether there is exactly one row, which is equal to that of the caller.
 fn is_alone(rows: Listed<CallerRow>, caller: &CallerRow) -> bool
     ensures { IsTrue result ↔ (only rows ≡ Some caller.now) }
 {
@@ -113,6 +115,7 @@ fn is_alone(rows: Listed<CallerRow>, caller: &CallerRow) -> bool
     }
 }
 
+// Whether both the names and the counts of settled requests are equal.
 #[tactic(auto, using(crate::proofs::JudgedCallers::same_row))]
 fn is_same(one: &CallerRow, other: &CallerRow) -> bool
     ensures { IsTrue result ↔ (one.now ≡ other.now) }
@@ -120,6 +123,7 @@ fn is_same(one: &CallerRow, other: &CallerRow) -> bool
     one.name == other.name && one.settled == other.settled
 }
 
+// Whether a request can have this number: from 1 to `LAST_NUMBER`.
 fn is_number(number: u32) -> bool
     ensures { IsTrue result ↔ ((1 ≤ number) × (number ≤ 1000000000)) }
 {
@@ -209,6 +213,7 @@ fn are_receipts(alloc: Global, rows: &[KeptRow], before: u32, last: u32) -> Resu
     }
 }
 
+// Whether the row has the number after that one. Nothing overflows.
 fn follows(number: u32, row: &KeptRow) -> bool
     ensures { IsTrue result ↔ (row.now.number ≡ suc number) }
 {
@@ -228,6 +233,7 @@ fn read_receipt(alloc: Global, row: &KeptRow) -> Result<(), ReadFault>
     }
 }
 
+// A copy of a row, since `reading::receipt` consumes the one that it reads; or `Memory`.
 fn copy(alloc: Global, row: &KeptRow) -> Result<KeptRow, Memory>
     ensures { IfOk result (λ copy. copy ≡ row.now) }
 {

@@ -57,6 +57,7 @@ pub(crate) fn binding_count(
     sum(attempt, of_runs)
 }
 
+// How many rows of binding all the runs have; `Storage` at 2^64 or more, or `Memory`.
 #[tactic(auto, using(crate::proofs::CountLemmas::bindings_left))]
 fn bindings_of_runs(alloc: Global, runs: &[RunRecord]) -> Result<u64, ReadFault>
     ensures value { IfOk result (λ count. count

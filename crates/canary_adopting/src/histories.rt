@@ -86,6 +86,7 @@ fn are_lines(rows: &[HistoryRow]) -> Result<(), ReadFault>
     Ok(())
 }
 
+// Whether the words of the row are those of an event.
 fn is_line(row: &HistoryRow) -> bool
     ensures { IsTrue result ↔ IsLineRow row.now }
 {

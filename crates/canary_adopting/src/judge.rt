@@ -53,6 +53,7 @@ fn count_rows<Q: Reader>(conn: &mut Q) -> Result<u64, ReadFault>
     Ok(kept.saturating_add(measured).saturating_add(others))
 }
 
+// How many rows of runs, bindings, tallies and histories there are, up to 2^64 - 1.
 fn count_others<Q: Reader>(conn: &mut Q) -> Result<u64, ReadFault>
     requires ready { Q.IsReady conn.old }
     ensures mode { Q.IsReady conn.new }
@@ -81,6 +82,7 @@ fn count_runs<Q: Reader>(conn: &mut Q) -> Result<u64, ReadFault>
     Ok(runs.saturating_add(bindings))
 }
 
+// Judges callers, templates and services, in this order: services rest on judged templates.
 fn judge_all<Q: Reader, G: Progress>(
     conn: &mut Q,
     alloc: Global,

@@ -39,6 +39,7 @@ pub(crate) struct SoFar {
 }
 
 impl SoFar {
+    // How many measurements are counted so far, of all runs and metrics.
     fn count(&self) -> u64
         ensures { result ≡ self.now.count }
     {
@@ -157,6 +158,7 @@ fn count_rows(
     Ok(counts)
 }
 
+// The counts with the measurement of one row; `Broken` if it is invalid or may not come next.
 fn count_row(
     alloc: Global,
     runs: &[RunRecord],
@@ -178,6 +180,7 @@ fn count_row(
     }
 }
 
+// The measurement of the row. A fault of the row becomes one of the read.
 fn measurement_of(alloc: Global, row: &MeasurementRow) -> Result<Recorded, ReadFault>
     ensures { IsTold (measurement_of_row row.now) result }
 {

@@ -74,6 +74,7 @@ pub(crate) fn rows_of(alloc: Global, page: &Page, number: u32) -> Result<Page, M
     })
 }
 
+// The rows that are of the run of that number, in their order; or `Memory`.
 fn runs_of(alloc: Global, rows: &[RunRow], number: u32) -> Result<Listed<RunRow>, Memory>
     ensures { IfOk result (λ found. found ≡ filter (is_numbered number) rows.now) }
 {
@@ -86,6 +87,7 @@ fn runs_of(alloc: Global, rows: &[RunRow], number: u32) -> Result<Listed<RunRow>
     Ok(found)
 }
 
+// The rows that bind the run of that number, in their order; or `Memory`.
 fn bindings_of(
     alloc: Global,
     rows: &[BindingRow],
@@ -102,6 +104,7 @@ fn bindings_of(
     Ok(found)
 }
 
+// The rows of tallies of the run of that number, in their order; or `Memory`.
 fn tallies_of(alloc: Global, rows: &[TallyRow], number: u32) -> Result<Listed<TallyRow>, Memory>
     ensures { IfOk result (λ found. found ≡ filter (is_tallied_at number) rows.now) }
 {
@@ -114,6 +117,7 @@ fn tallies_of(alloc: Global, rows: &[TallyRow], number: u32) -> Result<Listed<Ta
     Ok(found)
 }
 
+// The tallies sorted by the places of their metrics; or `Memory`.
 fn by_metric(tallies: Listed<TallyRow>) -> Result<Listed<TallyRow>, Memory>
     ensures { IfOk result (Sorts metric_of tallies) }
 {

@@ -14,7 +14,9 @@ pub trait Progress {
 pub struct Untold;
 
 impl Progress for Untold {
+    // Ignores how many rows there are.
     fn begin(&mut self, _rows: u64) {}
 
+    // Ignores that rows were judged.
     fn judged(&mut self, _rows: u64) {}
 }

@@ -14,7 +14,7 @@ ghost use Rattle.canary_adopting.specs.Remembered.{AreBindingsOf};
 
 use crate::bindings::{self, Binding};
 use canary_base::error::Memory;
-use canary_judging::laws;
+use canary_judging::laws as judged;
 use canary_plan::bound_analysis::BoundAnalysis;
 use canary_plan::strategy::Strategy;
 use canary_plan::template::Template;
@@ -52,7 +52,7 @@ pub(crate) fn analysis<Q: Reader>(
         (HasSuch (IsRunBound service run strategy.now step))
         (Q.shows conn.old) (Q.shows conn.new) result }
 {
-    laws::bindings();
+    judged::bindings();
     let binding = bound(conn, alloc, memo, rows, strategy)?;
     let Some(analysis) = binding.bound.analysis(step) else {
         return Err(ReadFault::Broken);

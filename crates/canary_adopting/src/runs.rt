@@ -46,6 +46,7 @@ pub(crate) struct SoFar {
 }
 
 impl SoFar {
+    // How many runs are judged so far, which is also the number of the last one.
     fn count(&self) -> u32
         ensures { result ≡ self.now.count }
     {
@@ -84,6 +85,7 @@ pub(crate) fn runs<Q: Reader>(
     Ok(so_far.runs)
 }
 
+// What there is before the first page: no runs, and no templates in the memo.
 fn none_yet(alloc: Global) -> SoFar
     ensures count { result.count ≡ 0 }
     ensures runs { result.runs ≡ [] }
@@ -328,6 +330,7 @@ fn are_placed(rows: &[TallyRow]) -> bool
     true
 }
 
+// The counts in the rows, in their order; or `Memory`.
 fn counts_of(alloc: Global, rows: &[TallyRow]) -> Result<Listed<Tally>, Memory>
     ensures { IfOk result (λ found. found ≡ map (λ (row : TallyRow). row.counts) rows.now) }
 {
@@ -338,6 +341,7 @@ fn counts_of(alloc: Global, rows: &[TallyRow]) -> Result<Listed<Tally>, Memory>
     Ok(found)
 }
 
+// The record of the run in the row; `Broken` if its numbers are of no closing.
 fn record_of(
     row: &RunRow,
     analysis: BoundAnalysis,

@@ -102,6 +102,7 @@ fn made_by(alloc: Global, row: &ServiceRow) -> Result<ServiceSpec, ReadFault>
     }
 }
 
+// The service that the text makes; `Broken` if it is no command that makes one; or `Memory`.
 fn spec_of(alloc: Global, text: &str) -> Result<ServiceSpec, ReadFault>
     ensures made { IfOk result (λ made. made_from (canonical_in text.now) ≡ Some made) }
     ensures broken { result ≡ Err Broken → made_from (canonical_in text.now) ≡ None }
@@ -174,6 +175,7 @@ fn judge_parts(alloc: Global, stand: Stand, count: u32, runs: &[RunRecord]) -> R
     Ok(())
 }
 
+// The runs that are not closed, in their order, as a service has them; or `Memory`.
 fn open_among(alloc: Global, runs: &[RunRecord]) -> Result<Listed<OpenRun>, Memory>
     ensures { IfOk result (λ open_runs. open_runs ≡ open_runs_in runs.now) }
 {
@@ -186,6 +188,7 @@ fn open_among(alloc: Global, runs: &[RunRecord]) -> Result<Listed<OpenRun>, Memo
     Ok(found)
 }
 
+// An open run of a service, from the record of a run that is not closed; or `Memory`.
 fn open_run(run: &RunRecord, alloc: Global) -> Result<OpenRun, Memory>
     ensures { IfOk result (λ open_run. open_run ≡ open_of_record run.now) }
 {

@@ -13,7 +13,7 @@ use crate::progress::Progress;
 use crate::service;
 use crate::totals::{self, Totals};
 use canary_base::names::Name;
-use canary_judging::laws;
+use canary_judging::laws as judged;
 use canary_reads::fault::ReadFault;
 use canary_reads::lists;
 use canary_reads::reader::Reader;
@@ -40,7 +40,7 @@ pub(crate) fn judge<Q: Reader, G: Progress>(
     ensures refused { RefusesJudged AreServicesJudged
         (Q.shows conn.old) (Q.shows conn.new) result }
 {
-    laws::totals();
+    judged::totals();
     let names = lists::service_names(conn, alloc)?;
     let totals = judge_each(conn, alloc, names.as_slice(), progress)?;
     are_all(conn, &totals)

@@ -18,7 +18,7 @@ use crate::templates;
 use canary_base::error::Memory;
 use canary_base::lists::Listed;
 use canary_base::names::Name;
-use canary_judging::laws;
+use canary_judging::laws as judged;
 use canary_plan::command::Command;
 use canary_plan::fault::CheckFault;
 use canary_plan::service::ServiceSpec;
@@ -124,7 +124,7 @@ fn template<Q: Reader>(
         → Stores (Q.shows conn.old) t → AreTemplatesJudged t → result ≡ Err Broken
         → ¬ AreWithin t }
 {
-    laws::templates_found();
+    judged::templates_found();
     let Some(row) = services::newest(conn, name)? else {
         return Ok(None);
     };

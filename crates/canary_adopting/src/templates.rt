@@ -20,12 +20,10 @@ use canary_reads::fault::ReadFault;
 use canary_reads::lists::{self, RevisionKey};
 use canary_reads::reader::Reader;
 use canary_reads::services;
+use canary_release::decide::MOST_REVISIONS;
 use canary_rows::rows::RevisionRow;
 use canary_stored::reading;
 use std::alloc::Global;
-
-// The most revisions of a template.
-const MOST_REVISIONS: u32 = 1_000_000;
 
 /// That each revision stands once, that its row is read as an accepted template of its name, and
 /// that the revisions of each name are numbered from 1 on, to 1,000,000 at most, with no gap.
@@ -48,6 +46,7 @@ pub(crate) fn judge<Q: Reader>(conn: &mut Q, alloc: Global) -> Result<(), ReadFa
     judge_each(conn, alloc, keys.as_slice())
 }
 
+// That `judge_one` accepts each of the keys.
 fn judge_each<Q: Reader>(conn: &mut Q, alloc: Global, keys: &[RevisionKey]) -> Result<(), ReadFault>
     requires ready { Q.IsReady conn.old }
     ensures mode { Q.IsReady conn.new }
@@ -65,6 +64,7 @@ fn judge_each<Q: Reader>(conn: &mut Q, alloc: Global, keys: &[RevisionKey]) -> R
     Ok(())
 }
 
+// That the key has one row of an accepted template, and is revision 1 or follows another one.
 fn judge_one<Q: Reader>(conn: &mut Q, alloc: Global, key: &RevisionKey) -> Result<(), ReadFault>
     requires ready { Q.IsReady conn.old }
     ensures mode { Q.IsReady conn.new }
@@ -98,6 +98,7 @@ fn read_revision(alloc: Global, rows: Listed<RevisionRow>) -> Result<(), ReadFau
     }
 }
 
+// Whether the template itself has this name, which is that of its row.
 fn is_of(template: &Template, name: &Name) -> bool
     ensures { IsTrue result ↔ (template.now.spec.name ≡ name.now) }
 {

@@ -40,6 +40,7 @@ pub fn agent<R: Read, W: Write, F: Write>(
     }
 }
 
+// Checks the words, opens what they name, and goes round until the call ends.
 fn try_agent<R: Read, W: Write, F: Write>(
     rt: &HostRuntime,
     call: &AgentCall,
@@ -112,6 +113,7 @@ fn folder_of(rt: &HostRuntime, call: &AgentCall) -> Result<Text, Ended> {
     }
 }
 
+// The reader of another program's values, if the call names one; `Values` if it does not open.
 fn reader_of(rt: &HostRuntime, values: &Option<Text>) -> Result<Option<Reader>, Ended> {
     let Some(name) = values else {
         return Ok(None);

@@ -123,11 +123,13 @@ impl Asking {
 }
 
 impl Place {
+    // Whether this is the place of the address, by host and port; its path does not count.
     fn is_of(&self, address: &Address<'_>) -> bool {
         self.host.as_str() == address.host && self.port == address.port
     }
 }
 
+// Looks a host up. That it has no address is remembered, too, but for a shorter time.
 fn looked_up(rt: &HostRuntime, address: &Address<'_>, now: u64) -> Result<Place, Memory> {
     let found = address.resolve(rt).ok();
     let time = if found.is_some() { KNOWN } else { UNKNOWN };

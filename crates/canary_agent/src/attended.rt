@@ -142,6 +142,7 @@ impl Attended {
         }
     }
 
+    // One look, for `attend`: settles what is pending, looks, and aborts or begins to measure.
     fn try_attend<N: Network, W: Write, F: Write>(
         &mut self,
         rt: &HostRuntime,
@@ -267,6 +268,7 @@ impl Attended {
         self.sightings.are_long(due, now)
     }
 
+    // Aborts the service by its journal, and remembers the run, so that it is aborted once for it.
     fn abort<N: Network, W: Write>(
         &mut self,
         alloc: Global,
@@ -481,6 +483,7 @@ impl Attended {
     }
 }
 
+// The seconds from one measurement of a metric to the next, if the files say so.
 fn interval_of(metric: &Metric) -> Option<u32> {
     metric.interval
 }

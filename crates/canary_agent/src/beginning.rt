@@ -34,6 +34,7 @@ pub(crate) fn shortest_limit(served: &Served, looked: &Looked, run: Number) -> u
     shortest
 }
 
+// The milliseconds that a measurement may take, by its metric and what its provider's query says.
 fn limit_for(metric: &Metric) -> u64 {
     match &metric.source {
         Source::Provider(query) => limit_of(metric, query.seconds),

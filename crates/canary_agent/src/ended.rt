@@ -53,24 +53,28 @@ impl Ended {
 }
 
 impl From<Stop> for Ended {
+    // A stop of the client ends the call as it ends one there.
     fn from(stop: Stop) -> Ended {
         Ended::Stopped(stop)
     }
 }
 
 impl From<Memory> for Ended {
+    // A refused allocation ends the call as `Stop::Memory`.
     fn from(_: Memory) -> Ended {
         Ended::Stopped(Stop::Memory)
     }
 }
 
 impl From<AllocError> for Ended {
+    // The same of an allocation of the standard library.
     fn from(_: AllocError) -> Ended {
         Ended::Stopped(Stop::Memory)
     }
 }
 
 impl<T: Drop> From<AllocFailed<T>> for Ended {
+    // The same if a value found no room, which is dropped.
     fn from(_: AllocFailed<T>) -> Ended {
         Ended::Stopped(Stop::Memory)
     }
@@ -81,6 +85,7 @@ pub(crate) fn worse(one: Outcome, other: Outcome) -> Outcome {
     if rank(one) < rank(other) { other } else { one }
 }
 
+// How bad an outcome is, from 0 on, for `worse`.
 fn rank(outcome: Outcome) -> u8 {
     match outcome {
         Outcome::Done => 0,

@@ -60,6 +60,7 @@ impl Files {
         true
     }
 
+    // Adds the manifests of a folder of this name, or else the file, also if it is not there.
     fn add(&mut self, rt: &HostRuntime, name: &str) -> Result<(), Memory> {
         match fs::metadata(rt, name) {
             Ok(found) if found.is_dir() => self.add_folder(rt, name),
@@ -67,6 +68,7 @@ impl Files {
         }
     }
 
+    // Adds the regular files of manifests in a folder itself, in the order of their paths.
     fn add_folder(&mut self, rt: &HostRuntime, name: &str) -> Result<(), Memory> {
         for file in names_in(rt, name)? {
             if is_regular(rt, file.as_str()) {
@@ -76,6 +78,7 @@ impl Files {
         Ok(())
     }
 
+    // Adds a file as it is now, with zeros in the place of what the system does not say of it.
     fn add_file(&mut self, rt: &HostRuntime, name: String) -> Result<(), Memory> {
         let seen = match fs::metadata(rt, name.as_str()) {
             Ok(found) => Seen {
@@ -101,6 +104,7 @@ impl Files {
 }
 
 impl Seen {
+    // Whether the file was the same at the other look: its name, inode, size and time of change.
     fn is_as(&self, other: &Seen) -> bool {
         self.name.as_str() == other.name.as_str()
             && self.device == other.device
@@ -129,6 +133,7 @@ fn names_in(rt: &HostRuntime, folder: &str) -> Result<Vec<String>, Memory> {
     Ok(names)
 }
 
+// Whether a path leads to a regular file, also by links; false if the system does not say.
 fn is_regular(rt: &HostRuntime, name: &str) -> bool {
     match fs::metadata(rt, name) {
         Ok(found) => found.is_file(),
@@ -136,10 +141,12 @@ fn is_regular(rt: &HostRuntime, name: &str) -> bool {
     }
 }
 
+// Whether a file's name ends in one of `ENDINGS`.
 fn is_manifest(name: &str) -> bool {
     ENDINGS.iter().any(|ending| name.ends_with(*ending))
 }
 
+// The path of a file in a folder, whose own path may end in a slash.
 fn path_of(alloc: Global, folder: &str, name: &str) -> Result<String, Memory> {
     if folder.ends_with('/') {
         return Ok(format!(in alloc; "{folder}{name}")?);

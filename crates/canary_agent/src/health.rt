@@ -32,6 +32,7 @@ fn touch_same(rt: &HostRuntime, name: &str, device: u64, node: u64) -> io::Resul
     file.set_modified(SystemTime::now(rt)?)
 }
 
+// Makes the file, empty and for its owner alone; an error if there is one by now.
 fn make(rt: &HostRuntime, name: &str) -> io::Result<()> {
     let _: File = OpenOptions::new()
         .write(true)

@@ -137,11 +137,13 @@ impl OpenJournal {
     }
 }
 
+// The path of a caller's journal: a file in the folder, with the caller's name.
 fn path_of(alloc: Global, folder: &str, caller: Name) -> Result<String, Stop> {
     let name = caller.as_str();
     Ok(format!(in alloc; "{folder}/{name}")?)
 }
 
+// Renames the journal's file, which then ends in .old; an earlier one of that name is replaced.
 fn rename(rt: &HostRuntime, path: &str) -> Result<(), Stop> {
     let old = format!(in rt.alloc(); "{path}.old")?;
     match fs::rename(rt, path, old.as_str()) {

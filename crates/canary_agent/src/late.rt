@@ -73,6 +73,7 @@ struct Sighting {
 }
 
 impl Sighting {
+    // Whether it is of this measurement: of its run, metric and ordinal.
     fn is_of(&self, due: &Due) -> bool {
         self.run == due.run && self.metric == due.metric && self.ordinal == due.ordinal
     }

@@ -43,6 +43,7 @@ pub(crate) fn show_wished<W: Write>(
     show_command(alloc, &asked, &Value::Null, output, is_terminal)
 }
 
+// The value of a text of JSON, or null if it is not JSON; `Memory`.
 fn value_of(alloc: Global, text: &str) -> Result<Value, Stop> {
     match Value::from_str(alloc, text) {
         Ok(value) => Ok(value),
@@ -51,6 +52,7 @@ fn value_of(alloc: Global, text: &str) -> Result<Value, Stop> {
     }
 }
 
+// Shows the lines of a report or an abort with the reply to it; nothing for another command.
 fn show_command<W: Write>(
     alloc: Global,
     asked: &Value,
@@ -67,6 +69,7 @@ fn show_command<W: Write>(
     }
 }
 
+// Shows a line for each measurement of a report, with what the reply says of it.
 fn show_report<W: Write>(
     alloc: Global,
     report: &Value,
@@ -96,16 +99,19 @@ fn ending_of(reply: &Value, place: usize) -> &str {
     }
 }
 
+// The phase of the measurement at this place, from 0; none if the reply does not have it.
 fn phase_of(reply: &Value, place: usize) -> Option<&str> {
     reply.get("phases")?.as_array()?.get(place)?.as_str()
 }
 
+// The text of a member, or an empty one if the member is missing or is no text.
 fn text_at<'a>(value: &'a Value, member: &str) -> &'a str {
     value.get(member).and_then(Value::as_str).unwrap_or("")
 }
 
 // ---- for people
 
+// The line of a measurement for people: SERVICE METRIC VALUE, and its phase or a refusal's code.
 fn plain_line(
     alloc: Global,
     report: &Value,
@@ -134,6 +140,7 @@ fn value_text(alloc: Global, entry: &Value, units: Units) -> Result<String, Memo
     }
 }
 
+// A number in these units: at a place of a list, or alone if no place is given.
 fn number_text(
     alloc: Global,
     units: Units,
@@ -143,6 +150,7 @@ fn number_text(
     Ok(String::from_str(alloc, units.text(place, number).as_str())?)
 }
 
+// A list in these units, in brackets with commas; an item that is no integer is read as 0.
 fn list_text(alloc: Global, units: Units, list: &[Value]) -> Result<String, Memory> {
     let mut text = String::from_str(alloc, "[")?;
     for (place, item) in list.iter().enumerate() {
@@ -158,6 +166,7 @@ fn list_text(alloc: Global, units: Units, list: &[Value]) -> Result<String, Memo
 
 // ---- for programs
 
+// The line of a measurement for programs: an object, whose members are in order of their names.
 fn json_line(
     alloc: Global,
     report: &Value,
@@ -198,6 +207,7 @@ fn push_member(
     Ok(())
 }
 
+// Appends the phase of a measurement, if the reply has one.
 fn push_phase(alloc: Global, line: &mut String, phase: Option<&str>) -> Result<(), Memory> {
     match phase {
         Some(phase) => push_text(alloc, line, "phase", phase),
@@ -207,6 +217,7 @@ fn push_phase(alloc: Global, line: &mut String, phase: Option<&str>) -> Result<(
 
 // ---- of an abort
 
+// Shows the line of an abort, with what the reply says of it.
 fn show_abort<W: Write>(
     alloc: Global,
     abort: &Value,
@@ -222,6 +233,7 @@ fn show_abort<W: Write>(
     show(output, line.as_str())
 }
 
+// The line of an abort for people: the service, and its status or a refusal's code.
 fn abort_text(alloc: Global, service: &str, reply: &Value) -> Result<String, Memory> {
     let ending = match reply.get("status").and_then(Value::as_str) {
         Some(status) => status,
@@ -231,6 +243,7 @@ fn abort_text(alloc: Global, service: &str, reply: &Value) -> Result<String, Mem
     shown(alloc, line.as_str(), Form::Line)
 }
 
+// The line of an abort for programs: an object of the service and the reply's code and status.
 fn abort_json(alloc: Global, abort: &Value, reply: &Value) -> Result<String, Memory> {
     let mut line = String::from_str(alloc, "{")?;
     push_member(alloc, &mut line, "abort", abort.get("service"))?;
@@ -267,6 +280,7 @@ pub(crate) fn show_ask<W: Write>(
     show(output, line.as_str())
 }
 
+// The line for people of what a provider would be asked, with the metric's name without its ending.
 fn ask_text(
     alloc: Global,
     service: Name,
@@ -280,6 +294,7 @@ fn ask_text(
     shown(alloc, line.as_str(), Form::Line)
 }
 
+// The line for programs of what a provider would be asked: an object with the metric's label.
 fn ask_json(
     alloc: Global,
     service: Name,
@@ -296,6 +311,7 @@ fn ask_json(
     shown(alloc, line.as_str(), Form::Json)
 }
 
+// Appends a member that is a text, as a JSON string.
 fn push_text(alloc: Global, line: &mut String, name: &str, text: &str) -> Result<(), Memory> {
     let text = Value::try_from_str(alloc, text)?;
     push_member(alloc, line, name, Some(&text))

@@ -68,6 +68,7 @@ pub fn look<N: Network>(
     look_at_runs(alloc, network, service, looked, runs.as_slice(), tries)
 }
 
+// The desk's moment in a service's reply; `Query` if it is missing or invalid.
 fn moment_of(service: &Value) -> Result<Moment, Stop> {
     match service.get("moment").and_then(Value::as_u64) {
         Some(seconds) => Moment::new(seconds).ok_or(Stop::Query),
@@ -75,6 +76,7 @@ fn moment_of(service: &Value) -> Result<Moment, Stop> {
     }
 }
 
+// The version in this member of a service's reply; `Query` if it is missing or invalid.
 fn version_of(service: &Value, member: &str) -> Result<Label, Stop> {
     match service.get(member).and_then(Value::as_str) {
         Some(version) => Label::read(version.as_bytes()).ok_or(Stop::Query),
@@ -97,10 +99,12 @@ fn runs_of(alloc: Global, service: &Value) -> Result<Vec<Number>, Stop> {
     Ok(runs)
 }
 
+// The number as a `Number`, or none outside 1 to 1,000,000,000.
 fn number_of(number: u64) -> Option<Number> {
     Number::new(u32::try_from(number).ok()?)
 }
 
+// Asks for each of these runs, and adds to the look what is due there.
 #[tactic(auto, using(crate::proofs::LookLemmas::queries_on))]
 fn look_at_runs<N: Network>(
     alloc: Global,
@@ -120,6 +124,7 @@ fn look_at_runs<N: Network>(
     Ok(looked)
 }
 
+// Asks for a run of the service, and returns the reply's JSON.
 fn run_at<N: Network>(
     alloc: Global,
     network: &mut N,
@@ -148,6 +153,7 @@ impl Looked {
         Ok(())
     }
 
+    // Adds a metric's measurement that is due at the desk's moment; a later one counts for `next`.
     fn add_metric(&mut self, run: Number, metric: &Value, since: u64) -> Result<(), Stop> {
         if since > self.moment.get() {
             self.next = Some(self.next.unwrap_or(since).min(since));

@@ -47,6 +47,7 @@ pub struct Plan {
 }
 
 impl Metric {
+    // Whether a provider or another program measures it.
     fn is_measured(&self) -> bool {
         match &self.source {
             Source::Provider(_) | Source::Lines => true,

@@ -43,6 +43,7 @@ pub(crate) fn plan_in<F: Write>(
     }
 }
 
+// Says that the file at this index cannot be read, with its name.
 fn say_unread<F: Write>(alloc: Global, names: &[Text], index: usize, errors: &mut F) {
     match names.get(index) {
         Some(name) => say_of(alloc, errors, UNREAD, name.as_str()),
@@ -50,6 +51,7 @@ fn say_unread<F: Write>(alloc: Global, names: &[Text], index: usize, errors: &mu
     }
 }
 
+// What is measured by these manifests; none if they are not translated, and `errors` says why.
 fn plan_of<F: Write>(
     alloc: Global,
     manifests: &Manifests,
@@ -82,6 +84,7 @@ fn measured_by<F: Write>(
     Ok(Plan { services })
 }
 
+// The metrics of one service. One whose label is invalid is left out.
 fn metrics_of<F: Write>(
     alloc: Global,
     made: &Converted,
@@ -127,6 +130,7 @@ fn source_of<F: Write>(
     Ok(Source::Nowhere)
 }
 
+// The line that says why a provider is not asked: SERVICE METRIC, its kind, and why.
 fn refusal_line(alloc: Global, planned: &Planned, why: &str) -> Result<String, Memory> {
     let (service, metric) = (planned.service.as_str(), planned.metric.as_str());
     let kind = planned.kind.as_str();
@@ -148,6 +152,7 @@ fn interval_of(
     Ok(None)
 }
 
+// The seconds from one measurement to the next, by the JSON of a template and a metric's label.
 fn interval_in(alloc: Global, template: &str, label: &str) -> Result<Option<u32>, Memory> {
     match Value::from_str(alloc, template) {
         Ok(value) => Ok(interval_at(&value, label)),
@@ -156,6 +161,7 @@ fn interval_in(alloc: Global, template: &str, label: &str) -> Result<Option<u32>
     }
 }
 
+// The same in the parsed template; none if the metric or its interval is missing.
 fn interval_at(template: &Value, label: &str) -> Option<u32> {
     for metric in template.get("spec")?.get("metrics")?.as_array()?.iter() {
         if metric.get("name").and_then(Value::as_str) == Some(label) {

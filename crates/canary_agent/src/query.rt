@@ -124,6 +124,7 @@ fn arguments_in(alloc: Global, late: &str) -> Result<Option<Vec<Argument>>, Memo
     }
 }
 
+// The arguments that an object has by their names; none if it is no object, or one is no version.
 fn arguments_of(alloc: Global, late: &Value) -> Result<Option<Vec<Argument>>, Memory> {
     let mut arguments = Vec::new(alloc);
     let Some(members) = late.as_object() else {

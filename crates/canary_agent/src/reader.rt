@@ -15,7 +15,7 @@ const INPUT: &str = "-";
 const STANDARD_INPUT: RawFd = 0;
 
 // How many bytes are read at a time.
-const PIECE: usize = 16_384;
+const INPUT_PIECE: usize = 16_384;
 
 /// The most bytes of a line.
 pub(crate) const MOST_LINE: usize = 4_096;
@@ -137,7 +137,7 @@ impl Reader {
 
     // The last line, if it has no end; else that no more comes.
     fn rest(&mut self, alloc: Global) -> Result<Told, AllocError> {
-        if self.held.is_empty() {
+        if self.held.is_empty() && !self.is_too_long {
             self.is_ended = true;
             return Ok(Told::End);
         }
@@ -166,6 +166,7 @@ impl Reader {
         }
     }
 
+    // Whether a read does not wait; true without a gate, false if the system does not say.
     fn is_open(&mut self) -> bool {
         match &mut self.gate {
             Some(gate) => gate.is_open().unwrap_or(false),
@@ -176,7 +177,7 @@ impl Reader {
     // Reads some bytes more: none at the end, or if the file cannot be read. No answer if the read
     // was interrupted.
     fn read<R: Read>(&mut self, input: &mut R) -> Result<Option<usize>, AllocError> {
-        let mut piece = [0u8; PIECE];
+        let mut piece = [0u8; INPUT_PIECE];
         let count = match &mut self.origin {
             Origin::Input => input.read(&mut piece),
             Origin::File(file) => file.read(&mut piece),

@@ -14,6 +14,7 @@ use canary_base::error::Memory;
 use canary_base::lists::Listed;
 use canary_base::names::{Label, Name};
 use canary_base::numbers::Number;
+use canary_canonical::plain::MOST_ENTRIES;
 use canary_canonical::writing;
 use canary_client::journals::asked;
 use canary_client::outcome::Stop;
@@ -26,9 +27,6 @@ use canary_records::device::Device;
 use canary_sending::kept::KeptJournal;
 use canary_sending::network::Network;
 use std::alloc::Global;
-
-/// The most entries of a report.
-pub const MOST_ENTRIES: usize = 32;
 
 /// Reports what was taken of a run of a service, while nothing is pending: the report stands on the
 /// device before it is sent, and so does its reply before the call returns. What the plan does not

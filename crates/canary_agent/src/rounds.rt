@@ -123,6 +123,7 @@ impl Rounds {
         Ok(())
     }
 
+    // Attends one service more. If its caller's name would be too long, says so and leaves it out.
     fn add<F: Write>(
         &mut self,
         alloc: Global,
@@ -223,6 +224,7 @@ impl Rounds {
         Ok(())
     }
 
+    // Takes in the value of a line, or says that it is no line for these files.
     fn read_line<F: Write>(
         &mut self,
         alloc: Global,
@@ -362,12 +364,14 @@ impl Known {
     }
 }
 
+// The service as it was attended, with what is measured of it by the new files.
 fn serving(attended: Attended, served: Served) -> Attended {
     let mut attended = attended;
     attended.serve(served);
     attended
 }
 
+// What providers are asked with, while nothing is under way; or how the call ends without it.
 fn asking(rt: &HostRuntime) -> Result<Asking, Ended> {
     match Asking::new(rt) {
         Ok(asking) => Ok(asking),
@@ -375,6 +379,7 @@ fn asking(rt: &HostRuntime) -> Result<Asking, Ended> {
     }
 }
 
+// How the call ends by a fault of what providers are asked with.
 fn ended_by(fault: FetchFault) -> Ended {
     match fault {
         FetchFault::Poll => Ended::Connections,

@@ -57,6 +57,7 @@ pub(crate) struct Taking {
 }
 
 impl Taking {
+    // Whether it measures this metric in this run.
     fn is_of(&self, run: Number, metric: &Label) -> bool {
         self.run == run && self.metric == *metric
     }
@@ -207,6 +208,7 @@ enum Part {
     Left(Taking),
 }
 
+// What came of a measurement, if it is of this run and something came; else the measurement.
 fn part_of(taking: Taking, run: Number) -> Part
     ensures { IsPart run taking result }
 {
@@ -259,10 +261,12 @@ pub(crate) fn limit_of(metric: &Metric, seconds: Option<u64>) -> u64 {
     shortest(interval, given)
 }
 
+// The time in milliseconds, or the greatest number if that is more.
 fn in_milliseconds(seconds: u64) -> u64 {
     seconds.saturating_mul(1_000)
 }
 
+// The shorter of the two times in milliseconds, but 1,000 at least and `LONGEST` at most.
 fn shortest(interval: u64, given: u64) -> u64
     ensures least { 1000 ≤ result }
     ensures most { result ≤ 30000 }

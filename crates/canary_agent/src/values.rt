@@ -58,6 +58,7 @@ pub(crate) fn measured_in(alloc: Global, value: &str) -> Result<Option<Measured>
     }
 }
 
+// What the items between the brackets of a list say; none if one is invalid; or `Memory`.
 fn list_in(alloc: Global, inside: &str) -> Result<Option<Vec<Given>>, Memory> {
     let mut list = Vec::new(alloc);
     for item in inside.split(',') {
@@ -69,6 +70,7 @@ fn list_in(alloc: Global, inside: &str) -> Result<Option<Vec<Given>>, Memory> {
     Ok(Some(list))
 }
 
+// What an item says: null, a decimal, NaN or an infinity. None for another text; or `Memory`.
 fn given_in(alloc: Global, text: &str) -> Result<Option<Given>, Memory> {
     if text == "null" {
         return Ok(Some(Given::Null));
@@ -143,6 +145,7 @@ impl Values {
     }
 }
 
+// What was measured, unless it came before this moment of the call.
 fn measured_since(value: Value, since: u64) -> Option<Measured> {
     let Value {
         measured,

@@ -129,6 +129,7 @@ impl Fault {
 }
 
 impl From<ConditionFault> for Fault {
+    // What the desk's parser finds, at place 0: `Brackets` for syntax, `Length` for a limit.
     fn from(fault: ConditionFault) -> Fault {
         match fault {
             ConditionFault::Memory => Fault::Memory,
@@ -139,12 +140,14 @@ impl From<ConditionFault> for Fault {
 }
 
 impl From<Memory> for Fault {
+    // A refused allocation, as the fault of a translation.
     fn from(_: Memory) -> Fault {
         Fault::Memory
     }
 }
 
 impl<T: Drop> From<AllocFailed<T>> for Fault {
+    // A refused allocation, as the fault of a translation; the value that found no room is dropped.
     fn from(_: AllocFailed<T>) -> Fault {
         Fault::Memory
     }

@@ -8,6 +8,7 @@ use crate::condition::{Function, Item, Place, Test};
 use crate::fault::{Fault, Refusal};
 use crate::{items, lexer};
 use canary_base::error::Memory;
+use canary_condition::outcome;
 use canary_decimal::decimal::ShortDecimal;
 use canary_decimal::shown::Beside;
 use std::alloc::Global;
@@ -16,7 +17,7 @@ use std::alloc::Global;
 pub const LEAST_PLACES: usize = 6;
 
 /// The most values of a list.
-pub const MOST_VALUES: u64 = 16;
+pub const MOST_VALUES: u64 = outcome::MOST_VALUES as u64;
 
 /// Which of the values that were measured are reported.
 #[derive(Clone, Copy, Debug, PartialEq, Eq)]
@@ -251,6 +252,7 @@ impl Form {
 }
 
 impl Shape {
+    // Appends the shape's part of a label: nothing for `One`, else a letter and its number, if any.
     fn suffix(self, out: &mut String) -> Result<(), Memory>
         ensures text { OnOk result
             (string_bytes out.new ≡ string_bytes out.old ++ shape_text self) }
@@ -266,6 +268,7 @@ impl Shape {
     }
 }
 
+// The letter in a label for what is reported beside decimals; empty if nothing is.
 fn beside_text(beside: Beside) -> &'static str
     ensures { result.now ≡ beside_text beside }
 {

@@ -151,6 +151,7 @@ fn front_look(tokens: &[Token]) -> Option<(Look, &[Token])>
     }
 }
 
+// The number as a comparison has it, with the mark whether brackets are round it.
 fn amount_of(bracketed: bool, number: ShortDecimal) -> Amount
     ensures { result ≡ amount_of bracketed number }
 {
@@ -170,6 +171,7 @@ fn front_amount(tokens: &[Token]) -> Option<(Amount, &[Token])>
     }
 }
 
+// The comparison of these parts; `turned` says that the number comes first.
 fn made(turned: bool, look: Look, comparison: Comparison, amount: Amount) -> Test
     ensures { result ≡ made turned look comparison amount }
 {
@@ -334,12 +336,14 @@ fn at_token(alloc: Global, text: &[u8], fault: Fault) -> Fault {
     }
 }
 
+// Whether the group is `Item::Not`, written as a word or as a sign.
 fn is_not(item: Item) -> bool
     ensures { result ≡ is_not item }
 {
     matches!(item, Item::Not)
 }
 
+// Whether the group is a comparison with a number; `Item::NaN` and `Item::Inf` are not.
 fn is_test(item: Item) -> bool
     ensures { result ≡ is_test item }
 {

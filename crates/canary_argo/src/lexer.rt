@@ -30,6 +30,7 @@ pub(crate) const LEAST_TOO_LONG: u64 = 1_000_000_000_000_000;
 // The most digits after the point of a number.
 const MOST_PLACES: usize = 17;
 
+// Whether it is a space, a tab, LF or CR, which may separate tokens.
 fn is_blank(byte: u8) -> bool
     ensures { result ≡ is_blank byte }
 {
@@ -50,6 +51,7 @@ fn unblanked(text: &[u8]) -> &[u8]
     rest
 }
 
+// Whether it is an ASCII letter, an ASCII digit, an underscore or a point.
 fn is_word_byte(byte: u8) -> bool
     ensures { result ≡ is_word_byte byte }
 {
@@ -129,6 +131,7 @@ pub(crate) fn is_held(number: ShortDecimal) -> bool
     number.whole.unsigned_abs() < LEAST_TOO_LONG && number.places <= MOST_PLACES
 }
 
+// The number, if it has few enough digits to be translated.
 fn held(number: Option<ShortDecimal>) -> Option<ShortDecimal>
     ensures { result ≡ held number }
 {
@@ -206,6 +209,7 @@ fn decimal_of(alloc: Global, minus: bool, word: &[u8]) -> Result<Option<ShortDec
     }
 }
 
+// The value of a hexadecimal digit, in upper or lower case; none for another byte.
 fn hex_digit(byte: u8) -> Option<u64>
     ensures value { result ≡ hex_digit byte }
     ensures small { IfSome result (λ digit. digit < 16) }
@@ -295,6 +299,7 @@ fn token_of(number: Option<ShortDecimal>) -> Option<Token>
     Some(Token::Number(number?))
 }
 
+// Whether the word is exactly that keyword, in the same case.
 fn is_same(word: &[u8], keyword: &str) -> bool
     ensures { result ≡ bytes_eq word.now keyword.now }
 {
@@ -330,6 +335,7 @@ fn keyword_token(word: &[u8]) -> Option<Token>
     }
 }
 
+// The symbol that two bytes spell together, if they spell one.
 fn long_symbol(first: u8, second: u8) -> Option<Token>
     ensures { result ≡ long_symbol first second }
 {
@@ -344,6 +350,7 @@ fn long_symbol(first: u8, second: u8) -> Option<Token>
     }
 }
 
+// The symbol that one byte spells alone, if it spells one.
 fn short_symbol(byte: u8) -> Option<Token>
     ensures { result ≡ short_symbol byte }
 {

@@ -4,6 +4,7 @@ use crate::condition::{Function, Item, Place, Token};
 use crate::fault::Refusal;
 use crate::items::after_result;
 
+// Whether the word is exactly that one, in the same case.
 fn is_same(word: &[u8], other: &str) -> bool {
     word == other.as_bytes()
 }
@@ -98,6 +99,7 @@ fn has_default_of_place(tokens: &[Token]) -> bool {
     false
 }
 
+// Whether the first token, a `DefaultWord`, has a place of a list as its first argument.
 fn is_default_of_place(tokens: Option<&[Token]>) -> bool {
     match tokens {
         Some([_, Token::Open, Token::ResultWord, rest @ ..]) => has_place(rest),

@@ -125,12 +125,14 @@ pub(crate) fn guard(test: DeskTest) -> DeskTest
     }
 }
 
+// Whether it is `Less` or `AtMost`, which the numbers for NaN and null always pass.
 fn is_below(comparison: Comparison) -> bool
     ensures { result ≡ is_below comparison }
 {
     matches!(comparison, Comparison::Less | Comparison::AtMost)
 }
 
+// The comparison, with `guard` beside it if `is_guarded`, so that NaN does not pass.
 fn guarded_by(is_guarded: bool, test: DeskTest) -> DeskAtom
     ensures { result ≡ guarded_by is_guarded test }
 {
@@ -156,6 +158,8 @@ fn is_value(place: Place) -> bool
     !matches!(place, Place::Length)
 }
 
+// What the desk asks for a comparison that is `Plain` or `AsFloat`; none if it has no such
+// comparison, or if null is reported of the value, which then needs `Default`.
 fn plain_atom(form: Form, test: Test) -> Option<DeskAtom>
     ensures { result ≡ plain_atom form test }
 {
@@ -221,6 +225,7 @@ fn least_above(number: i64, unit: u64) -> i64
     }
 }
 
+// The constant of `edge_test`: the number if above 0, else the one below, as values are cut off.
 fn edge_of(number: i64) -> i64
     requires { unsigned_abs number ≤ 10 ^ 15 }
     ensures { result ≡ edge_of number }
@@ -228,6 +233,7 @@ fn edge_of(number: i64) -> i64
     if 0 < number { number } else { number - 1 }
 }
 
+// The sign of `edge_test`: a value at the edge reaches the number only if that is above 0.
 fn edge_sign(reaches: bool, number: i64) -> Comparison
     ensures { result ≡ edge_sign reaches number }
 {
@@ -263,18 +269,21 @@ fn edge_test(reaches: bool, place: Place, number: i64) -> Test
     }
 }
 
+// What the desk asks by one comparison; none if it has no such comparison.
 fn one_test(test: Option<DeskTest>) -> Option<DeskAtom>
     ensures { result ≡ one_test test }
 {
     Some(DeskAtom::One(test?))
 }
 
+// What the desk asks by two comparisons that must both hold; none if it lacks either.
 fn both_tests(first: Option<DeskTest>, second: Option<DeskTest>) -> Option<DeskAtom>
     ensures { result ≡ both_tests first second }
 {
     Some(DeskAtom::Both(first?, second?))
 }
 
+// What the desk asks by two comparisons of which one must hold; none if it lacks either.
 fn either_test(first: Option<DeskTest>, second: Option<DeskTest>) -> Option<DeskAtom>
     ensures { result ≡ either_test first second }
 {
@@ -359,6 +368,7 @@ fn at_null(comparison: Comparison, test: DeskTest) -> DeskTest
     }
 }
 
+// Whether it is `NotEqual`, which the number for null passes.
 fn is_not_equal(comparison: Comparison) -> bool
     ensures { result ≡ is_not_equal comparison }
 {
@@ -396,6 +406,7 @@ fn null_by(takes: bool, wanted: bool, test: DeskTest) -> DeskAtom
     }
 }
 
+// Whether the comparison holds with `first` on its left and `second` on its right.
 fn holds(comparison: Comparison, first: i64, second: i64) -> bool
     ensures { result ≡ compares comparison first second }
 {
@@ -409,6 +420,8 @@ fn holds(comparison: Comparison, first: i64, second: i64) -> bool
     }
 }
 
+// What the desk asks with `number` in place of null; none if that or the comparison is missing.
+// Null is wanted exactly if `number` passes the comparison.
 fn with_null(number: Option<i64>, test: Option<DeskTest>) -> Option<DeskAtom>
     ensures { result ≡ with_null number test }
 {
@@ -461,6 +474,7 @@ pub(crate) fn nan_atom(form: Form, place: Place) -> Option<DeskAtom>
     Some(DeskAtom::One(equal_to(operand, NAN)))
 }
 
+// The comparison that holds only at that constant, as for NaN and the infinities.
 fn equal_to(operand: Operand, constant: i64) -> DeskTest
     ensures { result ≡ record { operand = operand; comparison = Equal; constant = constant } }
 {
@@ -483,6 +497,7 @@ pub(crate) fn inf_atom(form: Form, place: Place) -> Option<DeskAtom>
     Some(DeskAtom::Either(infinite, equal_to(operand, MINUS_INFINITE)))
 }
 
+// The desk's comparison of these parts; none without the operand or the constant.
 fn made(comparison: Comparison, operand: Option<Operand>, constant: Option<i64>) -> Option<DeskTest>
     ensures { result ≡ made comparison operand constant }
 {

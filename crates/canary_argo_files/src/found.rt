@@ -20,6 +20,7 @@ pub struct Found {
 }
 
 impl Found {
+    // A copy of the finding for another list, or `Memory`.
     fn copy(&self, alloc: Global) -> Result<Found, Memory> {
         Ok(Found {
             file: self.file,
@@ -30,6 +31,7 @@ impl Found {
         })
     }
 
+    // Adds a further line to its text, with what a terminal would obey escaped; or `Memory`.
     fn add_line(&mut self, alloc: Global, line: &str) -> Result<(), Memory> {
         self.text.push_str("\n")?;
         self.text
@@ -133,6 +135,7 @@ impl Findings {
     }
 }
 
+// Appends the line of a finding: its file, line, column, path if it is not empty, and text.
 fn push_line(
     alloc: Global,
     out: &mut String,
@@ -149,6 +152,7 @@ fn push_line(
     Ok(())
 }
 
+// Appends a finding as an object in JSON, with its file by name; or `Memory`.
 fn push_object(
     alloc: Global,
     out: &mut String,
@@ -172,6 +176,7 @@ pub(crate) fn push_text(alloc: Global, out: &mut String, text: &str) -> Result<(
     Ok(())
 }
 
+// The name of the file at that place among those that were read, empty if there is no such file.
 fn name_of(files: &[ArgoFile], file: usize) -> &str {
     match files.get(file) {
         Some(file) => file.name.as_str(),

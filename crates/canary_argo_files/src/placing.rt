@@ -57,6 +57,7 @@ fn from_line(bytes: &[u8], line: usize) -> &[u8] {
     rest
 }
 
+// A finding at this place of a file, with its path and its text as a terminal shows them.
 fn found(
     alloc: Global,
     file: usize,

@@ -13,8 +13,8 @@ use std::io::{self, ErrorKind, Read};
 /// The name of standard input among files.
 pub const STANDARD_INPUT: &str = "-";
 
-// The most bytes of a file: 16 MiB. One in YAML has 1 MiB at most.
-const MOST_BYTES: usize = 16_777_216;
+/// The most bytes of a file: 16 MiB. One in YAML has 1 MiB at most.
+pub const MOST_BYTES: usize = 16_777_216;
 
 /// A file that was read.
 #[derive(Drop)]
@@ -42,6 +42,7 @@ pub enum ReadFault {
 }
 
 impl From<Memory> for ReadFault {
+    // For `?`: a refused allocation is `ReadFault::Memory`.
     fn from(_: Memory) -> ReadFault {
         ReadFault::Memory
     }
@@ -69,6 +70,7 @@ pub fn read_files<P: Files + AllocGlobal, R: Read>(
     Ok(manifests)
 }
 
+// The bytes of the file of that name; `File` with its index if it is unreadable or too long.
 fn bytes_of<P: Files + AllocGlobal, R: Read>(
     rt: &P,
     name: &str,
@@ -113,6 +115,7 @@ impl Manifests {
         Ok(())
     }
 
+    // Adds each document of a file in YAML as a source, with the line in which it begins.
     fn add_documents(&mut self, file: usize, documents: Vec<Document>) -> Result<(), Memory> {
         for Document { line, value, .. } in documents {
             self.sources.push(source(file, line, value))?;
@@ -121,6 +124,7 @@ impl Manifests {
     }
 }
 
+// A document as canary_convert takes it, with the index of its file in 32 bits.
 fn source(file: usize, line: usize, value: Value) -> Source {
     Source {
         file: u32::try_from(file).unwrap_or(u32::MAX),
@@ -138,6 +142,8 @@ enum Reading {
     Refused(Found),
 }
 
+// Reads the bytes of a file as JSON or, unless they are meant as JSON, as YAML. What is unreadable
+// is a `Refused`, and no error.
 fn documents_of(alloc: Global, bytes: &[u8]) -> Result<Reading, Memory> {
     match Value::from_slice(alloc, bytes) {
         Ok(value) => return Ok(Reading::Json(value)),
@@ -165,6 +171,7 @@ fn refused(alloc: Global, why: Refusal) -> Result<Found, Memory> {
     })
 }
 
+// The line and the column of a refusal, each from 1. `Memory` has no place, and stays an error.
 fn place_of(why: Refusal) -> Result<(usize, usize), Memory> {
     match why {
         Refusal::Memory => Err(Memory),

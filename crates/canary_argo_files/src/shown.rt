@@ -47,6 +47,7 @@ fn push_template(alloc: Global, text: &mut String, made: &Made) -> Result<(), Me
     Ok(())
 }
 
+// Appends the name of a metric of the desk's template, and a line for each of its conditions.
 fn push_metric(alloc: Global, text: &mut String, metric: &Value) -> Result<(), Memory> {
     let name = metric.get("name").and_then(|name| name.as_str());
     write!(text, "  {}\n", name.unwrap_or(""))?;
@@ -54,6 +55,7 @@ fn push_metric(alloc: Global, text: &mut String, metric: &Value) -> Result<(), M
     push_condition(alloc, text, "failure", metric.get("failureCondition"))
 }
 
+// Appends a line for a condition, as that of success or of failure; no line if it is no text.
 fn push_condition(
     alloc: Global,
     text: &mut String,
@@ -107,6 +109,7 @@ fn counted<'a, T: Drop>(translated: &Translated, made: &'a Vec<T>) -> &'a [T] {
     made.as_slice()
 }
 
+// Appends a list of these manifests, each of which is JSON already.
 fn push_manifests(out: &mut String, made: &[Made]) -> Result<(), Memory> {
     out.push_str("[")?;
     for (index, manifest) in made.iter().enumerate() {
@@ -126,6 +129,7 @@ pub fn plan_of(alloc: Global, translated: &Translated) -> Result<String, Memory>
     Ok(out)
 }
 
+// Appends a list in JSON with an object for each metric that an agent measures.
 fn push_plan(alloc: Global, out: &mut String, plan: &[Planned]) -> Result<(), Memory> {
     out.push_str("[")?;
     for (index, planned) in plan.iter().enumerate() {
@@ -138,6 +142,7 @@ fn push_plan(alloc: Global, out: &mut String, plan: &[Planned]) -> Result<(), Me
     Ok(())
 }
 
+// Appends how a metric is measured, as an object; `late` and `provider` are JSON already.
 fn push_entry(alloc: Global, out: &mut String, planned: &Planned) -> Result<(), Memory> {
     out.push_str("{\"kind\":")?;
     push_text(alloc, out, planned.kind.as_str())?;

@@ -132,6 +132,17 @@ fn unfound(kind: ErrorKind) -> BackupFault
     }
 }
 
+/// Why the system refused a file: for want of memory, or for another cause.
+pub(crate) fn file_fault(kind: ErrorKind) -> BackupFault
+    ensures { kind ≡ ErrorKind.OutOfMemory → result ≡ fault.Memory }
+{
+    if kind == ErrorKind::OutOfMemory {
+        BackupFault::Memory
+    } else {
+        BackupFault::File
+    }
+}
+
 // The name as it is where no link is left in its folder; as it is given if there is no such folder.
 fn real_name(rt: &HostRuntime, name: &str) -> Result<String, BackupFault> {
     let (folder, last) = split(name);
@@ -156,6 +167,7 @@ fn is_same(rt: &HostRuntime, used: &str, name: &str, real: &str) -> bool {
     }
 }
 
+// Whether nothing has this name, not even a link; false if the system does not say so.
 fn is_missing(rt: &HostRuntime, name: &str) -> bool {
     match fs::symlink_metadata(rt, name) {
         Ok(_) => false,
@@ -163,6 +175,7 @@ fn is_missing(rt: &HostRuntime, name: &str) -> bool {
     }
 }
 
+// Has the bytes of the file of this name on the disk.
 fn sync(rt: &HostRuntime, name: &str) -> io::Result<()> {
     OpenOptions::new().write(true).open(rt, name)?.sync_all()
 }
@@ -214,8 +227,8 @@ impl Part {
     /// that are given one name at the same time at most one has it.
     ///
     /// # Errors
-    /// `File` if the disk fails, or the database cannot have its names, which is so where the system
-    /// knows no hard links. There is no file of these names then.
+    /// `File` if the disk fails, or the database cannot have its names, which is so where the
+    /// system knows no hard links. There is no file of these names then.
     pub fn name(&self, rt: &HostRuntime) -> Result<(), BackupFault> {
         match self.take_names(rt) {
             Ok(()) => Ok(()),
@@ -223,6 +236,7 @@ impl Part {
         }
     }
 
+    // Gives the log its name and then the database its own; if that fails, the log loses its name.
     fn take_names(&self, rt: &HostRuntime) -> io::Result<()> {
         let files = self.folder.copy();
         if !self.folder.is_there(rt) {
@@ -289,6 +303,7 @@ fn is_copied_at_once(rt: &HostRuntime, from: &Pair, to: &Pair) -> Result<bool, B
     has_header(rt, &from.log, before.as_slice())
 }
 
+// Whether the header of the log is still the one that was read before.
 fn has_header(rt: &HostRuntime, log: &String, before: &[u8]) -> Result<bool, BackupFault> {
     Ok(header(rt, log)?.as_slice() == before)
 }
@@ -306,11 +321,11 @@ fn copy_once(rt: &HostRuntime, from: &Pair, to: &Pair) -> Result<(), BackupFault
 fn copy_file(rt: &HostRuntime, from: &str, to: &str) -> Result<(), BackupFault> {
     match copy_bytes(rt, from, to) {
         Ok(()) => Ok(()),
-        Err(error) if error.kind() == ErrorKind::OutOfMemory => Err(BackupFault::Memory),
-        Err(_) => Err(BackupFault::File),
+        Err(error) => Err(file_fault(error.kind())),
     }
 }
 
+// Copies the bytes of a regular file to a new one, with at most the permissions of the first.
 fn copy_bytes(rt: &HostRuntime, from: &str, to: &str) -> io::Result<()> {
     let mut source = open_regular(rt, from)?;
     let mode = source.metadata()?.mode() & PERMISSION_BITS;
@@ -328,10 +343,11 @@ fn new_file(rt: &HostRuntime, name: &str, mode: u32) -> io::Result<File> {
         .open(rt, name)
 }
 
+// Makes an empty file that its owner alone may read and write, as the copy of a missing log.
 fn make_empty(rt: &HostRuntime, name: &str) -> Result<(), BackupFault> {
     match new_file(rt, name, 0o600) {
         Ok(_) => Ok(()),
-        Err(_) => Err(BackupFault::File),
+        Err(error) => Err(file_fault(error.kind())),
     }
 }
 
@@ -341,11 +357,10 @@ fn header(rt: &HostRuntime, log: &String) -> Result<Vec<u8>, BackupFault> {
     let file = match open_regular(rt, log.as_str()) {
         Ok(file) => file,
         Err(error) if error.kind() == ErrorKind::NotFound => return Ok(bytes),
-        Err(_) => return Err(BackupFault::File),
+        Err(error) => return Err(file_fault(error.kind())),
     };
     match file.take(HEADER_BYTES).read_to_end(&mut bytes) {
         Ok(_) => Ok(bytes),
-        Err(error) if error.kind() == ErrorKind::OutOfMemory => Err(BackupFault::Memory),
-        Err(_) => Err(BackupFault::File),
+        Err(error) => Err(file_fault(error.kind())),
     }
 }

@@ -1,4 +1,5 @@
 //! A file that has its name once it is whole.
+use crate::copying::file_fault;
 use crate::fault::BackupFault;
 use crate::node::{Node, is_own, random, sync_folder};
 use std::fs::{self, File, OpenOptions, Permissions};
@@ -46,8 +47,9 @@ impl Draft {
         let (process, random) = (process::id(rt.process()), random(rt)?);
         let name = format!(in rt.alloc(); "{to}.part-{process}-{random:016x}")?;
         let to = String::from_str(rt.alloc(), to)?;
-        let Ok(file) = make(rt, name.as_str(), mode) else {
-            return Err(BackupFault::File);
+        let file = match make(rt, name.as_str(), mode) {
+            Ok(file) => file,
+            Err(error) => return Err(file_fault(error.kind())),
         };
         let Ok(mode) = shut(&file, mode) else {
             let _ = fs::remove_file(rt, name.as_str());
@@ -80,6 +82,7 @@ impl Draft {
         }
     }
 
+    // Sets the mode, syncs the file and renames it, unless its first name is another file's by now.
     fn take_name(&self, rt: &HostRuntime) -> io::Result<()> {
         self.file
             .set_permissions(Permissions::from_mode(self.mode))?;
@@ -105,6 +108,7 @@ fn may_be_replaced(rt: &HostRuntime, name: &str) -> Result<bool, BackupFault> {
     }
 }
 
+// Whether this name is a link whose next target is in /proc, as the open files of processes are.
 fn leads_to_open_file(rt: &HostRuntime, name: &str) -> Result<bool, BackupFault> {
     match fs::read_link(rt, name) {
         Ok(next) => Ok(next.as_str().starts_with(OPEN_FILES)),

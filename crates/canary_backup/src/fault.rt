@@ -26,6 +26,7 @@ impl From<AllocError> for BackupFault {
 
     ghost from_gives = { λ _ made. made ≡ fault.Memory };
 
+    // A refused allocation is `Memory`.
     fn from(_: AllocError) -> BackupFault {
         BackupFault::Memory
     }

@@ -52,6 +52,7 @@ impl OwnFolder {
         OwnFolder::made(rt, folder)
     }
 
+    // Makes the folder of this name, which has to be this user's alone, and names a database in it.
     fn made(rt: &HostRuntime, name: String) -> Result<OwnFolder, BackupFault> {
         let secret = random(rt)?;
         let database = format!(in rt.alloc(); "{}/{secret:016x}", name.as_str())?;

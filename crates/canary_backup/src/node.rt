@@ -28,6 +28,7 @@ pub(crate) struct Node {
 }
 
 impl Node {
+    /// That of the file with this metadata: its device, and its number there.
     pub(crate) fn of(found: &Metadata) -> Node {
         Node {
             device: found.dev(),

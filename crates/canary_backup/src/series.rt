@@ -34,6 +34,7 @@ pub fn name_at(alloc: Global, moment: &str) -> Result<String, BackupFault>
     checked(name_of(alloc, moment)?)
 }
 
+// The name of a copy with the signs of that text, but its hyphens and colons. It may be invalid.
 fn name_of(alloc: Global, moment: &str) -> Result<String, BackupFault> {
     let mut name = String::from_str(alloc, "desk-")?;
     for letter in moment.chars() {
@@ -74,6 +75,7 @@ fn is_of_shape(shape: &[u8], bytes: &[u8]) -> bool
     fits(*first, *byte) && is_of_shape(shapes, rest)
 }
 
+// Whether the byte is any digit, where the shape has a zero, and else the same byte.
 fn fits(shape: u8, byte: u8) -> bool
     ensures { result ≡ fits shape byte }
 {
@@ -92,6 +94,7 @@ pub fn path_in(alloc: Global, folder: &str, name: &str) -> Result<String, Backup
     Ok(format!(in alloc; "{folder}/{name}")?)
 }
 
+// The path of the log of a copy with this path.
 fn log_of(alloc: Global, path: &str) -> Result<String, BackupFault> {
     Ok(format!(in alloc; "{path}{LOG}")?)
 }
@@ -135,6 +138,7 @@ pub fn prune(
     prune_listed(rt, &desk, folder, copies.as_slice(), keep)
 }
 
+// Removes all but the last `keep` of these copies, which are sorted, and the lone older logs.
 fn prune_listed(
     rt: &HostRuntime,
     desk: &Pair,
@@ -178,11 +182,13 @@ fn copies_until(rt: &HostRuntime, folder: &str, newest: &str) -> Result<Vec<Stri
     Ok(names)
 }
 
+// Adds a copy of this name, since the entry that has it goes.
 fn keep_name(names: &mut Vec<String>, alloc: Global, name: &str) -> Result<(), AllocError> {
     names.push(String::from_str(alloc, name)?)?;
     Ok(())
 }
 
+// Whether the entry is a copy of the moment in the name `newest`, or of an earlier one.
 fn is_copy_until(rt: &HostRuntime, entry: &DirEntry, newest: &str) -> Result<bool, BackupFault> {
     let name = entry.file_name();
     if !is_copy_name(name) || name > newest {
@@ -201,6 +207,7 @@ fn is_copy(rt: &HostRuntime, path: &str) -> Result<bool, BackupFault> {
     )
 }
 
+// Whether a regular file of this user's was found.
 fn is_own_file(found: io::Result<Metadata>) -> bool {
     match found {
         Ok(found) => found.is_file() && is_own(&found),
@@ -208,6 +215,7 @@ fn is_own_file(found: io::Result<Metadata>) -> bool {
     }
 }
 
+// Whether nothing has this name, not even a link; false if the system does not say so.
 fn is_missing(rt: &HostRuntime, name: &str) -> bool {
     match fs::symlink_metadata(rt, name) {
         Ok(_) => false,
@@ -248,6 +256,7 @@ fn remove_databases(
     Ok(are_removed)
 }
 
+// The same as `is_removed`, of the database of this name in the folder.
 fn is_database_removed(
     rt: &HostRuntime,
     desk: &Pair,

@@ -115,6 +115,7 @@ fn with_entry(text: String, alloc: Global, later: bool, entry: &Entry) -> Result
     }
 }
 
+// With a comma after it if `later`, that is, if an item of the list comes before.
 fn with_comma(text: String, later: bool) -> Result<String, AllocError>
     ensures { IfOk result (λ all. string_bytes all ≡ string_bytes text ++ comma_if later) }
 {

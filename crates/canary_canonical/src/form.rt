@@ -39,6 +39,7 @@ impl From<AllocError> for FormFault {
 
     ghost from_gives = { λ _ fault. fault ≡ Memory };
 
+    // A refused allocation of the standard library, as the fault of a reader.
     fn from(_: AllocError) -> FormFault {
         FormFault::Memory
     }
@@ -49,6 +50,7 @@ impl<T: Drop> From<AllocFailed<T>> for FormFault {
 
     ghost from_gives = { λ _ fault. fault ≡ Memory };
 
+    // A refused allocation, as the fault of a reader; the value that found no room is dropped.
     fn from(_: AllocFailed<T>) -> FormFault {
         FormFault::Memory
     }
@@ -59,6 +61,7 @@ impl From<Memory> for FormFault {
 
     ghost from_gives = { λ _ fault. fault ≡ Memory };
 
+    // A refused allocation of the desk's crates, as the fault of a reader.
     fn from(_: Memory) -> FormFault {
         FormFault::Memory
     }

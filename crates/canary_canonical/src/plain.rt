@@ -18,14 +18,14 @@ use canary_plan::report::{Entry, Report};
 use serde_json::Value;
 use std::alloc::Global;
 
-// The greatest number of a run.
-const LAST_RUN: u32 = 1_000_000_000;
+/// The greatest number of a run.
+pub const LAST_RUN: u32 = 1_000_000_000;
 
-// The greatest ordinal of a measurement.
-const LAST_ORDINAL: u32 = 1_000_000_000;
+/// The greatest ordinal of a measurement.
+pub const LAST_ORDINAL: u32 = 1_000_000_000;
 
-// The most entries of a report.
-const MOST_ENTRIES: usize = 32;
+/// The most entries of a report.
+pub const MOST_ENTRIES: usize = 32;
 
 /// The command of that kind, which is the key of a command's only member: Start, Promote,
 /// PromoteFull, Abort, Retry, Tick or Report. Its objects have exactly the members that they are
@@ -60,6 +60,7 @@ pub fn plain_of_kind(alloc: Global, kind: &str, value: &Value) -> Result<Command
     }
 }
 
+// The start that it is: an object of a service and a version alone; none for any other value.
 #[tactic(auto, unfolding(crate::specs::Readings::start_in))]
 fn start_in(value: &Value) -> Option<Command>
     ensures { result ≡ start_in (view value.now) }
@@ -82,6 +83,7 @@ fn named_in(value: &Value) -> Result<Name, FormFault>
     name_at(value, "service").ok_or(FormFault::Unreadable)
 }
 
+// The report that it is: an object of `service`, `run` and `entries` alone.
 #[tactic(auto, unfolding(crate::specs::Readings::report_in))]
 fn report_in(alloc: Global, value: &Value) -> Result<Report, FormFault>
     ensures { IsRead (report_in (view value.now)) result }
@@ -112,6 +114,7 @@ fn report_with(service: Name, run: u32, entries: Listed<Entry>) -> Option<Report
     })
 }
 
+// The entries of a report's list; `Unreadable` if the value is no list.
 fn entries_of(alloc: Global, value: &Value) -> Result<Listed<Entry>, FormFault>
     ensures { IsRead (list_of entry_in (view value.now)) result }
 {
@@ -121,6 +124,7 @@ fn entries_of(alloc: Global, value: &Value) -> Result<Listed<Entry>, FormFault>
     }
 }
 
+// The entries that these values are, in order, or the first fault.
 #[tactic(auto, using(crate::proofs::Items::read_in_turn))]
 fn entries_in(alloc: Global, list: &Vec<Value>) -> Result<Listed<Entry>, FormFault>
     ensures { IsRead (each entry_in (items_view list.now.items)) result }
@@ -133,6 +137,7 @@ fn entries_in(alloc: Global, list: &Vec<Value>) -> Result<Listed<Entry>, FormFau
     Ok(Listed::of(entries))
 }
 
+// The entry that it is: an object of four members, one of which is a result or a failure.
 #[tactic(auto, unfolding(crate::specs::Readings::entry_in))]
 fn entry_in(alloc: Global, value: &Value) -> Result<Entry, FormFault>
     ensures { IsRead (entry_in (view value.now)) result }
@@ -166,6 +171,7 @@ fn entry_of(metric: Label, ordinal: u32, taken: Moment, outcome: Outcome) -> Opt
     })
 }
 
+// The outcome in an entry's object, which has either a result or a failure, not both.
 fn outcome_in(alloc: Global, value: &Value) -> Result<Outcome, FormFault>
     ensures { IsRead (outcome_in (view value.now)) result }
 {
@@ -176,6 +182,7 @@ fn outcome_in(alloc: Global, value: &Value) -> Result<Outcome, FormFault>
     }
 }
 
+// The result that it is: a list of 1 to 16 numbers, or a number alone.
 fn result_in(alloc: Global, value: &Value) -> Result<Measured, FormFault>
     ensures { IsRead (result_in (view value.now)) result }
 {
@@ -191,6 +198,7 @@ fn result_in(alloc: Global, value: &Value) -> Result<Measured, FormFault>
     }
 }
 
+// The numbers of a list result, in order; `result_in` checks how many there are.
 #[tactic(auto, using(crate::proofs::Items::read_in_turn))]
 fn values_in(alloc: Global, list: &Vec<Value>) -> Result<Listed<i64>, FormFault>
     ensures { IsRead (each signed_in (items_view list.now.items)) result }
@@ -203,12 +211,14 @@ fn values_in(alloc: Global, list: &Vec<Value>) -> Result<Listed<i64>, FormFault>
     Ok(Listed::of(values))
 }
 
+// The number that it is, of 64 bits with a sign, without a point or an exponent.
 fn signed_in(value: &Value) -> Result<i64, FormFault>
     ensures { IsRead (signed_in (view value.now)) result }
 {
     value.as_i64().ok_or(FormFault::Unreadable)
 }
 
+// The text of a failure that it is; `Unreadable` outside 1 to 200 bytes.
 fn failure_in(alloc: Global, value: &Value) -> Result<FailureText, FormFault>
     ensures { IsRead (failure_in (view value.now)) result }
 {

@@ -43,6 +43,7 @@ fn command_read(alloc: Global, text: &str) -> Result<Command, FormFault>
     }
 }
 
+// The command that it is: an object of one member, whose key is the command's kind.
 fn command_in(alloc: Global, value: &Value) -> Result<Command, FormFault>
     ensures { IsRead (command_in (view value.now)) result }
 {
@@ -52,6 +53,7 @@ fn command_in(alloc: Global, value: &Value) -> Result<Command, FormFault>
     }
 }
 
+// The command of that kind with these parts; all but two kinds are left to `plain_of_kind`.
 #[tactic(auto, unfolding(crate::specs::Readings::command_of_kind))]
 fn command_of_kind(alloc: Global, kind: &str, value: &Value) -> Result<Command, FormFault>
     ensures { IsRead (command_of_kind kind.now (view value.now)) result }

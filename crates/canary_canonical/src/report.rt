@@ -58,6 +58,7 @@ fn failed_value(alloc: Global, entry: &Entry, text: &FailureText) -> Result<Valu
     })
 }
 
+// The result in JSON: a number, or a list of numbers.
 #[tactic(auto, unfolding(crate::specs::Laws::keeps_outcome))]
 fn result_value(alloc: Global, outcome: Measured) -> Result<Value, AllocError>
     ensures value { IfOk result (λ value. view value ≡ result_data outcome) }
@@ -69,6 +70,7 @@ fn result_value(alloc: Global, outcome: Measured) -> Result<Value, AllocError>
     }
 }
 
+// The numbers of a list result in JSON, in order.
 fn number_values(alloc: Global, numbers: &[i64]) -> Result<Value, AllocError>
     ensures value { IfOk result (λ value. view value ≡ list_data signed_data numbers.now) }
     ensures kept { IfOk result (λ _. IsTrue (list_all is_signed_word numbers.now)) }
@@ -80,6 +82,7 @@ fn number_values(alloc: Global, numbers: &[i64]) -> Result<Value, AllocError>
     Ok(Value::Array(values))
 }
 
+// The number in JSON. Its contract recalls for the prover that it has 64 bits with its sign.
 fn number_value(number: i64) -> Value
     ensures value { view result ≡ signed_data number }
     ensures kept { IsTrue (is_signed_word number) }

@@ -30,6 +30,7 @@ pub fn service_value(alloc: Global, service: &ServiceSpec) -> Result<Value, Allo
     })
 }
 
+// The background analysis in JSON, or null if the service has no such analysis.
 #[tactic(auto, unfolding(crate::specs::Laws::keeps_background))]
 fn background_or_null(alloc: Global, background: &Option<Background>) -> Result<Value, AllocError>
     ensures value { IfOk result (λ value. view value
@@ -42,6 +43,7 @@ fn background_or_null(alloc: Global, background: &Option<Background>) -> Result<
     }
 }
 
+// The background analysis in JSON: the step at which it begins, and its templates' names.
 #[tactic(auto, unfolding(crate::specs::Texts::background_data))]
 fn background_value(alloc: Global, background: &Background) -> Result<Value, AllocError>
     ensures value { IfOk result (λ value. view value ≡ background_data background.now) }
@@ -52,6 +54,7 @@ fn background_value(alloc: Global, background: &Background) -> Result<Value, All
     json!(in alloc; {"startingStep": background.starting_step.get(), "templates": templates})
 }
 
+// The steps in JSON, in order.
 fn step_values(alloc: Global, steps: &[Step]) -> Result<Value, AllocError>
     ensures value { IfOk result (λ value. view value ≡ list_data step_data steps.now) }
     ensures kept { IfOk result (λ _. IsTrue (list_all keeps_step steps.now)) }
@@ -63,6 +66,7 @@ fn step_values(alloc: Global, steps: &[Step]) -> Result<Value, AllocError>
     Ok(Value::Array(values))
 }
 
+// The step in JSON: an object of one member, whose key is the step's kind.
 #[tactic(auto, unfolding(crate::specs::Texts::step_data, crate::specs::Laws::keeps_step))]
 fn step_value(alloc: Global, step: &Step) -> Result<Value, AllocError>
     ensures value { IfOk result (λ value. view value ≡ step_data step.now) }

@@ -38,6 +38,7 @@ pub fn service_in(alloc: Global, value: &Value) -> Result<ServiceSpec, FormFault
     })
 }
 
+// The steps of a service's list; `Unreadable` if the value is no list.
 fn steps_of(alloc: Global, value: &Value) -> Result<Listed<Step>, FormFault>
     ensures { IsRead (list_of step_in (view value.now)) result }
 {
@@ -47,6 +48,7 @@ fn steps_of(alloc: Global, value: &Value) -> Result<Listed<Step>, FormFault>
     }
 }
 
+// The steps that these values are, in order, or the first fault.
 #[tactic(auto, using(crate::proofs::Items::read_in_turn))]
 fn steps_in(alloc: Global, list: &Vec<Value>) -> Result<Listed<Step>, FormFault>
     ensures { IsRead (each step_in (items_view list.now.items)) result }
@@ -59,6 +61,7 @@ fn steps_in(alloc: Global, list: &Vec<Value>) -> Result<Listed<Step>, FormFault>
     Ok(Listed::of(steps))
 }
 
+// The step that it is: an object of one member, whose key is the step's kind.
 #[tactic(auto, unfolding(crate::specs::Readings::step_in))]
 fn step_in(alloc: Global, value: &Value) -> Result<Step, FormFault>
     ensures { IsRead (step_in (view value.now)) result }
@@ -69,6 +72,7 @@ fn step_in(alloc: Global, value: &Value) -> Result<Step, FormFault>
     }
 }
 
+// The step of that kind with this value; `Unreadable` for another kind or an invalid value.
 fn step_of_kind(alloc: Global, kind: &str, value: &Value) -> Result<Step, FormFault>
     ensures { IsRead (step_of_kind kind.now (view value.now)) result }
 {
@@ -86,6 +90,7 @@ fn step_of_kind(alloc: Global, kind: &str, value: &Value) -> Result<Step, FormFa
     }
 }
 
+// The background analysis that it is; none if it is null.
 fn background_or_null(alloc: Global, value: &Value) -> Result<Option<Background>, FormFault>
     ensures { IsRead (null_or background_in (view value.now)) result }
 {
@@ -95,6 +100,7 @@ fn background_or_null(alloc: Global, value: &Value) -> Result<Option<Background>
     Ok(Some(background_in(alloc, value)?))
 }
 
+// The background analysis that it is: its templates' names, and the step at which it begins.
 #[tactic(auto, unfolding(crate::specs::Readings::background_in))]
 fn background_in(alloc: Global, value: &Value) -> Result<Background, FormFault>
     ensures { IsRead (background_in (view value.now)) result }
@@ -108,6 +114,7 @@ fn background_in(alloc: Global, value: &Value) -> Result<Background, FormFault>
     })
 }
 
+// The template names of a list; `Unreadable` if the value is no list.
 fn names_of(alloc: Global, value: &Value) -> Result<Listed<Name>, FormFault>
     ensures { IsRead (list_of name_in (view value.now)) result }
 {
@@ -117,6 +124,7 @@ fn names_of(alloc: Global, value: &Value) -> Result<Listed<Name>, FormFault>
     }
 }
 
+// The names that these values are, in order, or the first fault.
 #[tactic(auto, using(crate::proofs::Items::read_in_turn))]
 fn names_in(alloc: Global, list: &Vec<Value>) -> Result<Listed<Name>, FormFault>
     ensures { IsRead (each name_in (items_view list.now.items)) result }
@@ -129,6 +137,7 @@ fn names_in(alloc: Global, list: &Vec<Value>) -> Result<Listed<Name>, FormFault>
     Ok(Listed::of(names))
 }
 
+// The name that it is; `Unreadable` if it is no name.
 fn name_of(value: &Value) -> Result<Name, FormFault>
     ensures { IsRead (name_in (view value.now)) result }
 {

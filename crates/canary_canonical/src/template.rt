@@ -22,6 +22,7 @@ pub fn template_value(alloc: Global, template: &TemplateSpec) -> Result<Value, A
     json!(in alloc; {"dryRun": dry_run, "metrics": metrics, "name": template.name.as_str()})
 }
 
+// The metrics of a template in JSON, in order.
 fn metric_values(alloc: Global, metrics: &[MetricSpec]) -> Result<Value, AllocError>
     ensures value { IfOk result (λ value. view value ≡ list_data metric_data metrics.now) }
     ensures kept { IfOk result (λ _. IsTrue (list_all keeps_metric metrics.now)) }
@@ -33,6 +34,7 @@ fn metric_values(alloc: Global, metrics: &[MetricSpec]) -> Result<Value, AllocEr
     Ok(Value::Array(values))
 }
 
+// The metric in JSON, which has the member `passAfter` only if that was given.
 fn metric_value(alloc: Global, metric: &MetricSpec) -> Result<Value, AllocError>
     ensures value { IfOk result (λ value. view value ≡ metric_data metric.now) }
     ensures kept { IfOk result (λ _. IsTrue (keeps_metric metric.now)) }
@@ -43,6 +45,7 @@ fn metric_value(alloc: Global, metric: &MetricSpec) -> Result<Value, AllocError>
     }
 }
 
+// The metric in JSON, with this number as its member `passAfter`.
 #[tactic(auto, unfolding(crate::specs::Texts::metric_data_with, crate::specs::Laws::keeps_metric))]
 fn value_with_passes(alloc: Global, metric: &MetricSpec, passes: u32) -> Result<Value, AllocError>
     ensures value { IfOk result (λ value. view value ≡ metric_data_with (Some passes) metric.now) }
@@ -66,6 +69,7 @@ fn value_with_passes(alloc: Global, metric: &MetricSpec, passes: u32) -> Result<
     })
 }
 
+// The metric in JSON, without the member `passAfter`.
 #[tactic(auto, unfolding(crate::specs::Texts::metric_data_with, crate::specs::Laws::keeps_metric))]
 fn value_without_passes(alloc: Global, metric: &MetricSpec) -> Result<Value, AllocError>
     ensures value { IfOk result (λ value. view value ≡ metric_data_with None metric.now) }

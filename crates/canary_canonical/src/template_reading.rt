@@ -15,15 +15,11 @@ use crate::form::{
 use canary_base::durations::Seconds;
 use canary_base::lists::{Listed, Text};
 use canary_base::names::{Label, Name};
+use canary_metric::metric::GREATEST_LIMIT;
+use canary_plan::analysis::MOST_METRICS;
 use canary_plan::template_spec::{DryRunName, MetricSpec, TemplateSpec};
 use serde_json::Value;
 use std::alloc::Global;
-
-// The most metrics of a template.
-const MOST_METRICS: usize = 32;
-
-// The greatest count of a metric, and the greatest of its limits.
-const GREATEST_LIMIT: u32 = 1_000_000;
 
 /// The template that it is.
 ///
@@ -61,6 +57,7 @@ pub fn template_with(
     })
 }
 
+// The metrics of a template's list; `Unreadable` if the value is no list.
 fn metrics_of(alloc: Global, value: &Value) -> Result<Listed<MetricSpec>, FormFault>
     ensures { IsRead (list_of metric_in (view value.now)) result }
 {
@@ -70,6 +67,7 @@ fn metrics_of(alloc: Global, value: &Value) -> Result<Listed<MetricSpec>, FormFa
     }
 }
 
+// The metrics that these values are, in order, or the first fault.
 #[tactic(auto, using(crate::proofs::Items::read_in_turn))]
 fn metrics_in(alloc: Global, list: &Vec<Value>) -> Result<Listed<MetricSpec>, FormFault>
     ensures { IsRead (each metric_in (items_view list.now.items)) result }
@@ -82,6 +80,7 @@ fn metrics_in(alloc: Global, list: &Vec<Value>) -> Result<Listed<MetricSpec>, Fo
     Ok(Listed::of(metrics))
 }
 
+// The metric that it is, within its limits; of its members only `passAfter` may be absent.
 #[tactic(auto, unfolding(crate::specs::Readings::metric_in))]
 fn metric_in(alloc: Global, value: &Value) -> Result<MetricSpec, FormFault>
     ensures { IsRead (metric_in (view value.now)) result }
@@ -213,6 +212,7 @@ fn number_at_if(value: &Value, key: &str) -> Option<Option<u32>>
     }
 }
 
+// The dry-run names of a template's list; `Unreadable` if the value is no list.
 fn dry_run_of(alloc: Global, value: &Value) -> Result<Listed<DryRunName>, FormFault>
     ensures { IsRead (list_of dry_run_name_in (view value.now)) result }
 {
@@ -222,6 +222,7 @@ fn dry_run_of(alloc: Global, value: &Value) -> Result<Listed<DryRunName>, FormFa
     }
 }
 
+// The dry-run names that these values are, in order, or the first fault.
 #[tactic(auto, using(crate::proofs::Items::read_in_turn))]
 fn dry_run_in(alloc: Global, list: &Vec<Value>) -> Result<Listed<DryRunName>, FormFault>
     ensures { IsRead (each dry_run_name_in (items_view list.now.items)) result }

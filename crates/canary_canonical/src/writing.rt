@@ -31,6 +31,7 @@ pub fn text(alloc: Global, command: &Command) -> Result<Text, Memory>
     Ok(Text::of(written(alloc, command)?))
 }
 
+// The canonical text: of templates, services and starts by their value, of others piece by piece.
 #[tactic(auto, unfolding(crate::specs::Laws::keeps_limits), using(crate::proofs::Pieces::written))]
 fn written(alloc: Global, command: &Command) -> Result<String, AllocError>
     ensures value { IfOk result (λ text. string_bytes text ≡ command_text command.now) }
@@ -83,6 +84,7 @@ fn start_text(alloc: Global, service: &Name, version: &Label) -> Result<String, 
     value.to_string(alloc)
 }
 
+// The parts of a start in JSON: the service, and the version to release.
 #[tactic(auto, unfolding(crate::specs::Texts::start_data))]
 fn start_value(alloc: Global, service: &Name, version: &Label) -> Result<Value, AllocError>
     ensures value { IfOk result (λ value. view value ≡ start_data service.now version.now) }

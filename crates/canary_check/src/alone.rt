@@ -151,6 +151,7 @@ fn stand_in(alloc: Global, name: Name) -> Result<Template, Memory>
     }
 }
 
+// The specification of that template: one metric of the same name, and no dry run.
 fn stand_in_spec(alloc: Global, name: Name) -> Result<TemplateSpec, Memory>
     ensures { IfOk result (λ spec. spec ≡ stand_in name) }
 {

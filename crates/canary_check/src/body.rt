@@ -27,6 +27,7 @@ pub(crate) fn tell_body(alloc: Global, lines: &mut Lines, body: &Value) -> Resul
     }
 }
 
+// Adds that a body is no object of one member, and for a bare manifest what to write instead.
 fn tell_no_command(alloc: Global, lines: &mut Lines, body: &Value) -> Result<(), Memory> {
     lines.tell(&Place::root(alloc), "body", BODY)?;
     match member_of(body, "kind") {
@@ -35,6 +36,7 @@ fn tell_no_command(alloc: Global, lines: &mut Lines, body: &Value) -> Result<(),
     }
 }
 
+// Adds what is found in the value of a command of that kind, or that no command has that kind.
 fn tell_command(alloc: Global, lines: &mut Lines, kind: &str, value: &Value) -> Result<(), Memory> {
     match kind {
         "template" => tell_template(alloc, lines, &Place::at(alloc, kind)?, value),
@@ -59,6 +61,7 @@ fn tell_kind(alloc: Global, lines: &mut Lines, kind: &str) -> Result<(), Memory>
     lines.tell(&Place::root(alloc), key, COMMANDS)
 }
 
+// Adds what is found in the registration of a service: its version, and its Rollout.
 fn tell_service(
     alloc: Global,
     lines: &mut Lines,
@@ -81,6 +84,7 @@ fn tell_service(
     }
 }
 
+// Adds what is found in the start of a release: the service's name, and the new version.
 fn tell_start(lines: &mut Lines, place: &Place, value: &Value) -> Result<(), Memory> {
     tell_members(
         lines,

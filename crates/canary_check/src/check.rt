@@ -167,6 +167,7 @@ pub(crate) fn no_json(
     found(alloc, lines, DEPTH, warnings)
 }
 
+// Adds to the last finding what to write instead, if that is known.
 fn tell_instead(lines: &mut Lines, what: Option<&str>) -> Result<(), Memory> {
     match what {
         Some(what) => lines.instead(what),
@@ -174,6 +175,7 @@ fn tell_instead(lines: &mut Lines, what: Option<&str>) -> Result<(), Memory> {
     }
 }
 
+// What is found in a manifest, by its kind; `text` is what it was read from.
 fn check_manifest(alloc: Global, text: &[u8], manifest: &Value) -> Result<Findings, Memory>
     ensures taken { IfOk result
         (λ findings. findings.is_taken ≡ is_manifest_taken text.now (view manifest.now)) }
@@ -220,6 +222,7 @@ pub(crate) fn has_in_spec(manifest: &Value, key: &str) -> bool
     }
 }
 
+// What is found in an AnalysisTemplate. Its members are looked at if its body is not taken.
 fn check_template(alloc: Global, text: &[u8], manifest: &Value) -> Result<Findings, Memory>
     ensures { IfOk result (λ findings.
         findings.is_taken ≡ is_reading_taken (body_reading (template_body text.now))) }
@@ -233,6 +236,7 @@ fn check_template(alloc: Global, text: &[u8], manifest: &Value) -> Result<Findin
     found(alloc, lines, DEPTH, warnings)
 }
 
+// What is warned of an AnalysisTemplate, its length and its metrics, if there is anything.
 fn template_warnings(alloc: Global, text: &[u8], manifest: &Value) -> Result<Option<String>, Memory>
     ensures { IfOk result (λ w. IfSome w (λ lines. 3 < length (string_bytes lines))) }
 {
@@ -242,6 +246,7 @@ fn template_warnings(alloc: Global, text: &[u8], manifest: &Value) -> Result<Opt
     lines.warnings(alloc)
 }
 
+// What is found in a Rollout, by the body that registers it under some version.
 fn check_rollout(alloc: Global, text: &[u8], manifest: &Value) -> Result<Findings, Memory>
     ensures taken { IfOk result (λ findings.
         findings.is_taken ≡ is_reading_taken (body_reading (service_body text.now))) }

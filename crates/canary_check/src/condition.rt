@@ -12,6 +12,7 @@ pub(crate) fn expected(why: Why) -> &'static str {
     }
 }
 
+// What may come in place of a token that does not fit.
 fn expected_next(expected: Expected) -> &'static str {
     match expected {
         Expected::Term => "result, a whole number, ( or !",

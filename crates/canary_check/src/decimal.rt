@@ -48,6 +48,7 @@ pub(crate) fn decimal_at(text: &str, explained: Explained) -> Option<Decimal<'_>
     Some(Decimal { whole, part })
 }
 
+// Whether it is one of 0 to 9: the pattern by which digits are trimmed.
 fn is_digit(letter: char) -> bool {
     letter.is_ascii_digit()
 }
@@ -60,6 +61,7 @@ fn goes_on(text: &str) -> bool {
     }
 }
 
+// Whether the byte may be part of a number: a letter, a digit, an underscore or a point.
 fn is_number_byte(byte: u8) -> bool {
     is_word_byte(byte) || byte == b'.'
 }
@@ -74,6 +76,7 @@ impl<'a> Decimal<'a> {
         }
     }
 
+    // Adds the number as it is in that unit, and that other numbers for that result are in it, too.
     fn tell_in(self, lines: &mut Lines, unit: &'a str, numbers: Numbers) -> Result<(), Memory> {
         let (whole, part, zeros) = self.without_point(numbers.decimals);
         let (others, in_unit) = match numbers.count {
@@ -111,6 +114,7 @@ impl<'a> Decimal<'a> {
     }
 }
 
+// The unit for numbers of 1 to 3 decimals; nothing for any other count.
 fn unit_of(decimals: usize) -> Option<&'static str> {
     match decimals {
         1 => Some("tenths"),
@@ -120,6 +124,7 @@ fn unit_of(decimals: usize) -> Option<&'static str> {
     }
 }
 
+// So many zeros, at the end of a scaled number. A number in a unit needs two at most.
 fn zeros(count: usize) -> &'static str {
     match count {
         0 => "",
@@ -138,6 +143,7 @@ pub(crate) fn numbers_of(metric: &Value) -> Numbers {
     }
 }
 
+// The text under that key of a metric, empty if there is no text.
 fn text_at<'a>(metric: &'a Value, key: &str) -> &'a str {
     member_of(metric, key)
         .and_then(|condition| condition.as_str())

@@ -30,6 +30,7 @@ pub(crate) fn write_excerpt(out: &mut String, text: &[u8], at: usize) -> Result<
     Ok(())
 }
 
+// Appends these bytes, a character for each.
 fn push_shown(out: &mut String, bytes: &[u8]) -> Result<(), Memory> {
     for byte in bytes {
         out.push(shown(*byte))?;
@@ -37,6 +38,7 @@ fn push_shown(out: &mut String, bytes: &[u8]) -> Result<(), Memory> {
     Ok(())
 }
 
+// A space or a visible ASCII character as itself, and any other byte as a question mark.
 fn shown(byte: u8) -> char {
     if byte == b' ' || byte.is_ascii_graphic() {
         char::from(byte)
@@ -45,6 +47,7 @@ fn shown(byte: u8) -> char {
     }
 }
 
+// Appends so many spaces: the margin, or what leads to the caret.
 fn push_spaces(out: &mut String, count: usize) -> Result<(), Memory> {
     for _ in 0..count {
         out.push_str(" ")?;

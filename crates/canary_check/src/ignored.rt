@@ -99,6 +99,7 @@ pub(crate) fn warn_of_ignored(
     }
 }
 
+// Warns of such members in the `trafficRouting` of a canary strategy, if it has one.
 fn warn_of_routing(
     alloc: Global,
     lines: &mut Lines,
@@ -114,6 +115,7 @@ fn warn_of_routing(
     }
 }
 
+// Warns of each of these members that the object has, if what it holds means something.
 fn warn_of_each(
     lines: &mut Lines,
     place: &Place,

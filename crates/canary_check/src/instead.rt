@@ -45,6 +45,7 @@ fn instead_of_no_token(before: &[u8], rest: &[u8]) -> Option<&'static str> {
     }
 }
 
+// Of a sign of arithmetic, half an operator or a comment; nothing of any other byte.
 fn instead_of_sign(before: &[u8], first: u8, behind: &[u8]) -> Option<&'static str> {
     match first {
         b'+' => instead_of_plus(before, behind),
@@ -75,6 +76,7 @@ fn instead_of_word(word: &[u8], behind: &[u8]) -> Option<&'static str> {
     }
 }
 
+// Of a word that Argo's conditions have and the desk's have not, or of one in capitals.
 fn instead_of_name(word: &str) -> Option<&'static str> {
     match word {
         "true" => Some(forms::TRUTH),
@@ -141,10 +143,12 @@ fn behind_test(text: &str) -> Option<&str> {
     }
 }
 
+// Whether the text begins with `||` or with the word `or`.
 fn begins_with_or(text: &str) -> bool {
     text.starts_with("||") || front_word(text.as_bytes()) == "or".as_bytes()
 }
 
+// Whether the text ends with `||`, or with `or` after a space.
 fn ends_in_or(text: &[u8]) -> bool {
     text.ends_with("||".as_bytes()) || text.ends_with(" or".as_bytes())
 }
@@ -184,6 +188,7 @@ fn instead_of_quotes(before: &[u8]) -> &'static str {
     }
 }
 
+// Of an opening brace: two in a row are of an argument that was not filled in.
 fn instead_of_brace(behind: &[u8]) -> Option<&'static str> {
     if begins_with(behind, b'{') {
         Some(forms::UNFILLED)
@@ -220,6 +225,7 @@ fn instead_of_comma(before: &[u8]) -> Option<&'static str> {
     }
 }
 
+// Of a plus: arithmetic after an operand, a sign before digits, and else nothing.
 fn instead_of_plus(before: &[u8], behind: &[u8]) -> Option<&'static str> {
     if ends_operand(before) {
         return Some(forms::ARITHMETIC);
@@ -230,6 +236,7 @@ fn instead_of_plus(before: &[u8], behind: &[u8]) -> Option<&'static str> {
     }
 }
 
+// Of a minus: arithmetic after an operand, a sign before `result` or digits, and else nothing.
 fn instead_of_minus(before: &[u8], behind: &[u8]) -> Option<&'static str> {
     if ends_operand(before) {
         return Some(forms::ARITHMETIC);
@@ -246,6 +253,7 @@ fn instead_of_minus(before: &[u8], behind: &[u8]) -> Option<&'static str> {
     }
 }
 
+// Of a slash: a comment if another one or a star follows, or else a division.
 fn instead_of_slash(before: &[u8], behind: &[u8]) -> Option<&'static str> {
     match first_of(behind) {
         Some(b'/') => Some(forms::COMMENT),
@@ -263,6 +271,7 @@ fn instead_of_percent(before: &[u8], behind: &[u8]) -> Option<&'static str> {
     }
 }
 
+// Of a sign of arithmetic. It is one only after an operand.
 fn instead_of_arithmetic(before: &[u8]) -> Option<&'static str> {
     if ends_operand(before) {
         Some(forms::ARITHMETIC)
@@ -282,6 +291,7 @@ fn instead_of_equal(before: &[u8], behind: &[u8]) -> Option<&'static str> {
 
 // ---- tokens that may not stand there
 
+// Of a token that may not be there, by what was expected in its place.
 fn instead_of_token(expected: Expected, before: &[u8], rest: &[u8]) -> Option<&'static str> {
     match expected {
         Expected::Term => None,
@@ -356,10 +366,12 @@ fn instead_of_more(before: &[u8], rest: &[u8]) -> Option<&'static str> {
 
 // ---- bytes
 
+// The first byte, if there is one.
 fn first_of(text: &[u8]) -> Option<u8> {
     text.first().copied()
 }
 
+// The text without its first byte; an empty one stays empty.
 fn behind_first(text: &[u8]) -> &[u8] {
     match text {
         [_, behind @ ..] => behind,
@@ -367,6 +379,7 @@ fn behind_first(text: &[u8]) -> &[u8] {
     }
 }
 
+// Whether that byte is the first; an empty text has no first one.
 fn begins_with(text: &[u8], byte: u8) -> bool {
     match text {
         [first, ..] => *first == byte,
@@ -374,6 +387,7 @@ fn begins_with(text: &[u8], byte: u8) -> bool {
     }
 }
 
+// Whether that byte is the last; an empty text has no last one.
 fn ends_with(text: &[u8], byte: u8) -> bool {
     match text {
         [.., last] => *last == byte,
@@ -381,6 +395,7 @@ fn ends_with(text: &[u8], byte: u8) -> bool {
     }
 }
 
+/// Whether the byte may be part of a word or a number: a letter, a digit or an underscore.
 pub(crate) fn is_word_byte(byte: u8) -> bool {
     byte.is_ascii_alphanumeric() || byte == b'_'
 }
@@ -408,6 +423,7 @@ fn begins_comparison(text: &[u8]) -> bool {
     }
 }
 
+// Whether the last byte is a digit, so that a number may end there.
 fn ends_in_digit(text: &[u8]) -> bool {
     match text {
         [.., last] => last.is_ascii_digit(),

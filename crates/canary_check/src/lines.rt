@@ -10,7 +10,7 @@ use crate::place::Place;
 use canary_base::error::Memory;
 use std::alloc::Global;
 
-const MOST_FINDINGS: u32 = 100;
+const MOST_FINDINGS_SHOWN: u32 = 100;
 
 // Of warnings without a line, which are none.
 const NO_LINE: &str = "a warning\n";
@@ -175,7 +175,7 @@ impl Lines {
     fn has_room(&mut self) -> bool
         ensures { 0 < self.new.told }
     {
-        if self.told < MOST_FINDINGS {
+        if self.told < MOST_FINDINGS_SHOWN {
             self.told += 1;
             return true;
         }
@@ -183,6 +183,7 @@ impl Lines {
         false
     }
 
+    // Ends a line that has its place: `front` introduces `what`. It counts no finding.
     fn push_end(&mut self, front: &str, what: &str) -> Result<(), Memory>
         ensures { self.new.told ≡ self.old.told }
     {

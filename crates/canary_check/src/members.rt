@@ -36,6 +36,7 @@ pub(crate) fn tell_members(
     }
 }
 
+// The same of these members of an object. A key that is no label is not shown.
 fn tell_foreign(
     lines: &mut Lines,
     place: &Place,
@@ -51,6 +52,7 @@ fn tell_foreign(
     Ok(())
 }
 
+// Whether the key is one of these.
 fn is_known(known: &[&str], key: &str) -> bool {
     known.iter().any(|name| *name == key)
 }

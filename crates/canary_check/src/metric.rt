@@ -58,6 +58,7 @@ fn tell_condition(
     }
 }
 
+// Adds at which byte a text stops being a condition, if it does, and what to write instead.
 fn tell_text(
     alloc: Global,
     lines: &mut Lines,
@@ -117,6 +118,7 @@ fn needs_interval(alloc: Global, metric: &Value) -> Result<bool, Memory> {
     Ok(matches!(refusal, Some(Refusal::IntervalNeeded)))
 }
 
+// Adds which limits of a metric are invalid, and which the desk does not support.
 fn tell_limits(lines: &mut Lines, place: &Place, metric: &Value) -> Result<(), Memory> {
     if member_of(metric, "failureLimit").is_some_and(is_negative) {
         lines.tell(place, "failureLimit", "no limit below 0 (unsupported)")?;
@@ -135,6 +137,7 @@ fn tell_limits(lines: &mut Lines, place: &Place, metric: &Value) -> Result<(), M
     Ok(())
 }
 
+// Adds that the limit under that key is invalid; an absent one is fine.
 fn tell_limit(lines: &mut Lines, place: &Place, metric: &Value, key: &str) -> Result<(), Memory> {
     match limit_at(metric, key, 0) {
         Some(_) => Ok(()),

@@ -51,6 +51,7 @@ impl Place {
         Ok(format!(in alloc; "{path}.{key}")?)
     }
 
+    // The place to which these keys lead, in the same metric.
     fn with_path(&self, alloc: Global, path: String) -> Result<Place, Memory> {
         let whose = String::from_str(alloc, self.whose.as_str())?;
         Ok(Place { path, whose })

@@ -4,17 +4,13 @@ use crate::members::{tell_label, tell_members, tell_name};
 use crate::place::Place;
 use canary_base::error::Memory;
 use canary_canonical::form::{label_at, moment_in, number_at};
+use canary_canonical::plain::MOST_ENTRIES;
+use canary_condition::outcome::{MOST_FAILURE_BYTES, MOST_VALUES};
 use serde_json::Value;
 use std::alloc::Global;
 
 // The greatest number of a run, and the greatest ordinal of a measurement.
 const GREATEST: u32 = 1_000_000_000;
-
-const MOST_ENTRIES: usize = 32;
-
-const MOST_VALUES: usize = 16;
-
-const MOST_FAILURE_BYTES: usize = 200;
 
 const MEMBERS: &str = "no member but service, run and entries";
 
@@ -48,6 +44,7 @@ pub(crate) fn tell_report(
     }
 }
 
+// Adds that no number from 1 to 1,000,000,000 is under that key.
 fn tell_number(lines: &mut Lines, place: &Place, value: &Value, key: &str) -> Result<(), Memory> {
     match number_at(value, key, GREATEST) {
         Some(number) if number > 0 => Ok(()),
@@ -55,6 +52,7 @@ fn tell_number(lines: &mut Lines, place: &Place, value: &Value, key: &str) -> Re
     }
 }
 
+// Adds that there are no entries or too many, and what is found in each.
 fn tell_entries(
     alloc: Global,
     lines: &mut Lines,
@@ -72,6 +70,7 @@ fn tell_entries(
     Ok(())
 }
 
+// Adds what is found in an entry by itself.
 fn tell_entry(lines: &mut Lines, place: &Place, entry: &Value) -> Result<(), Memory> {
     tell_members(
         lines,
@@ -92,6 +91,7 @@ fn tell_entry(lines: &mut Lines, place: &Place, entry: &Value) -> Result<(), Mem
     }
 }
 
+// Adds that a result is invalid, and what to report instead.
 fn tell_result(lines: &mut Lines, place: &Place, measured: &Value) -> Result<(), Memory> {
     if is_result(measured) {
         return Ok(());
@@ -103,6 +103,7 @@ fn tell_result(lines: &mut Lines, place: &Place, measured: &Value) -> Result<(),
     }
 }
 
+// Whether it is an integer of 64 bits with a sign, or a list of 1 to 16 of them.
 fn is_result(measured: &Value) -> bool {
     match measured.as_array() {
         Some(list) => {
@@ -114,6 +115,7 @@ fn is_result(measured: &Value) -> bool {
     }
 }
 
+// What to report in place of an invalid result; nothing of a list or an object.
 fn instead_of_result(measured: &Value) -> Option<&'static str> {
     match measured {
         Value::Number(_) => Some("report whole numbers: a share of 0.95 as 95 hundredths"),
@@ -124,6 +126,7 @@ fn instead_of_result(measured: &Value) -> Option<&'static str> {
     }
 }
 
+// Adds that a failure is no text of 1 to 200 bytes.
 fn tell_failure(lines: &mut Lines, place: &Place, failure: &Value) -> Result<(), Memory> {
     match failure.as_str() {
         Some(text) if !text.is_empty() && text.len() <= MOST_FAILURE_BYTES => Ok(()),
@@ -144,6 +147,7 @@ fn tell_if_repeated(
     Ok(())
 }
 
+// Whether an entry before that index names the same metric; an invalid name is never repeated.
 fn is_repeated(list: &Vec<Value>, index: usize) -> bool {
     let Some(name) = list.get(index).and_then(|entry| label_at(entry, "metric")) else {
         return false;

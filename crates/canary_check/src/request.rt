@@ -79,6 +79,7 @@ fn not_taken(alloc: Global, body: &[u8], warned: Lines) -> Result<Findings, Memo
     }
 }
 
+// The same of a body that is JSON, by its members.
 fn body_not_taken(alloc: Global, body: &Value, warned: Lines) -> Result<Findings, Memory>
     ensures taken { IfOk result (λ findings. findings.is_taken ≡ false) }
     ensures quiet { IfOk result (λ findings.
@@ -102,6 +103,7 @@ fn warned_of(alloc: Global, body: &[u8]) -> Result<Lines, Memory> {
     Ok(lines)
 }
 
+// Warns of the manifest that a body has, of a template or of a service.
 fn warn_of_body(alloc: Global, lines: &mut Lines, body: &Value) -> Result<(), Memory> {
     match only_member(body) {
         Some(("template", manifest)) => {

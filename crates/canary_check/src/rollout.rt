@@ -34,6 +34,7 @@ pub(crate) fn tell_rollout(
     }
 }
 
+// Adds `paused`, if it is true, and a `blueGreen` strategy: the desk supports neither.
 fn tell_unsupported(lines: &mut Lines, place: &Place, spec: &Value) -> Result<(), Memory> {
     if member_of(spec, "paused").is_some_and(is_true) {
         lines.tell(place, "paused", "false or none (true is unsupported)")?;
@@ -45,6 +46,7 @@ fn tell_unsupported(lines: &mut Lines, place: &Place, spec: &Value) -> Result<()
     Ok(())
 }
 
+// Adds what is found in the steps and in the analysis beside them, each of which may be absent.
 fn tell_canary(
     alloc: Global,
     lines: &mut Lines,
@@ -62,6 +64,7 @@ fn tell_canary(
     }
 }
 
+// Adds that the steps are no list, or else what is found in the list.
 fn tell_steps(
     alloc: Global,
     lines: &mut Lines,
@@ -74,6 +77,7 @@ fn tell_steps(
     }
 }
 
+// Adds that there are more than 64 steps, and what is found in each.
 fn tell_listed_steps(
     alloc: Global,
     lines: &mut Lines,

@@ -55,6 +55,7 @@ fn tell_other_members(lines: &mut Lines, place: &Place, step: &Value) -> Result<
     }
 }
 
+// The same of a step with these members; a null one is as if absent.
 fn tell_others(
     lines: &mut Lines,
     place: &Place,
@@ -88,6 +89,7 @@ fn instead_of_member(step: &Value, key: &str) -> &'static str {
     }
 }
 
+// Whether the step has, not null, one of the three members that the desk reads.
 fn has_step_key(step: &Value) -> bool {
     member_of(step, "setWeight").is_some()
         || member_of(step, "pause").is_some()
@@ -118,6 +120,7 @@ fn tell_no_form(lines: &mut Lines, place: &Place, step: &Value) -> Result<(), Me
     }
 }
 
+// Adds why a pause is unreadable: it is no object, or has an invalid duration.
 fn tell_pause(lines: &mut Lines, place: &Place, pause: &Value) -> Result<(), Memory> {
     if pause.is_object() {
         lines.tell(place, "pause.duration", PAUSE)
@@ -126,6 +129,7 @@ fn tell_pause(lines: &mut Lines, place: &Place, pause: &Value) -> Result<(), Mem
     }
 }
 
+// Adds why the desk refuses a step that is readable: its weight, or its templates.
 fn tell_refusal_of_step(
     alloc: Global,
     lines: &mut Lines,
@@ -140,6 +144,7 @@ fn tell_refusal_of_step(
     }
 }
 
+// Adds why the templates under that key are refused: one is named twice, or else their number.
 fn tell_refusal(
     lines: &mut Lines,
     place: &Place,
@@ -188,6 +193,7 @@ fn tell_analysis(
     }
 }
 
+// Adds what is found in each item of an analysis's templates.
 fn tell_templates(
     alloc: Global,
     lines: &mut Lines,
@@ -201,6 +207,7 @@ fn tell_templates(
     Ok(())
 }
 
+// Adds that an item names a template of the cluster, and that its name is missing or invalid.
 fn tell_named_template(lines: &mut Lines, place: &Place, template: &Value) -> Result<(), Memory> {
     if is_of_the_cluster(template) {
         lines.tell(place, "clusterScope", "false or none (true is unsupported)")?;

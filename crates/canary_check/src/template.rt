@@ -54,6 +54,7 @@ pub(crate) fn tell_other_kind(
     }
 }
 
+// Adds the kind that is wanted, and of some other kinds what to do instead.
 fn tell_kind(lines: &mut Lines, place: &Place, kind: &Value, wanted: &str) -> Result<(), Memory> {
     lines.tell(place, "kind", wanted)?;
     match kind.as_str().and_then(instead_of_kind) {
@@ -75,6 +76,7 @@ pub(crate) fn tell_metadata(
     }
 }
 
+// Adds what is found in a template's `spec`: what is unsupported, its metrics, its dry runs.
 fn tell_spec(alloc: Global, lines: &mut Lines, place: &Place, spec: &Value) -> Result<(), Memory> {
     tell_if_filled(lines, place, spec, "templates", TEMPLATES)?;
     tell_if_filled(lines, place, spec, "measurementRetention", RETENTION)?;
@@ -100,6 +102,7 @@ pub(crate) fn tell_if_filled(
     Ok(())
 }
 
+// Adds what is found in each metric, in their number and names, and then in the dry runs.
 fn tell_metrics(
     alloc: Global,
     lines: &mut Lines,
@@ -156,6 +159,7 @@ fn with_name(
     Ok(names)
 }
 
+// Adds that `dryRun` is no list, or which of its items mark no metric; an absent one is fine.
 fn tell_dry_run(
     alloc: Global,
     lines: &mut Lines,
@@ -172,6 +176,7 @@ fn tell_dry_run(
     }
 }
 
+// Adds each item that marks none of these metrics.
 fn tell_marks(
     alloc: Global,
     lines: &mut Lines,
@@ -197,6 +202,7 @@ fn is_mark(alloc: Global, item: &Value, names: &[Label]) -> Result<bool, Memory>
     }
 }
 
+// Whether a template with these metrics may have this name in its dry runs.
 fn is_known(alloc: Global, name: DryRunName, names: &[Label]) -> Result<bool, Memory> {
     let dry_run = Listed::of(vec![in alloc; name]?);
     let refusal = refusal_of_names(alloc, names, dry_run)?;

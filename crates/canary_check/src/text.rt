@@ -112,6 +112,7 @@ fn instead_of_body(value: &Value) -> Option<&'static str> {
     if is_command(key) { Some(REQUEST) } else { None }
 }
 
+// Whether a command has this key.
 fn is_command(key: &str) -> bool {
     match key {
         "template" => true,

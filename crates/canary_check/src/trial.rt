@@ -55,6 +55,7 @@ pub(crate) fn refusal_of_names(
     refusal_of(alloc, Listed::of(metrics), dry_run)
 }
 
+// Why a template of these parts is refused; nothing unless it has 1 to 32 metrics.
 fn refusal_of(
     alloc: Global,
     metrics: Listed<MetricSpec>,
@@ -76,6 +77,7 @@ pub(crate) fn refusal_of_step(alloc: Global, step: Step) -> Result<Option<Refusa
     refusal_of_service(alloc, names.as_slice(), steps, None)
 }
 
+// The names of the templates of an analysis; any other step has none.
 fn names_of(alloc: Global, step: &Step) -> Result<Listed<Name>, Memory> {
     match step {
         Step::Analysis(names) => names.copy(alloc),
@@ -93,6 +95,7 @@ pub(crate) fn refusal_of_background(
     refusal_of_service(alloc, names.as_slice(), steps, Some(background))
 }
 
+// Why a service of these parts is refused if the templates of these names are there.
 fn refusal_of_service(
     alloc: Global,
     names: &[Name],

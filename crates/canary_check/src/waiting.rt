@@ -32,6 +32,7 @@ pub(crate) fn warn_of_command(
     }
 }
 
+// Warns of each weight directly after another, and last if these steps wait for nobody.
 fn warn_of_steps(
     alloc: Global,
     lines: &mut Lines,

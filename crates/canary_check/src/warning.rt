@@ -27,6 +27,7 @@ pub(crate) fn warn_of_template(
     }
 }
 
+// Warns of each metric of the list that has no condition.
 fn warn_of_metrics(
     alloc: Global,
     lines: &mut Lines,
@@ -51,6 +52,7 @@ fn has_no_condition(alloc: Global, metric: &Value) -> Result<bool, Memory> {
     )
 }
 
+// Whether the condition under that key is absent, null or empty; an unreadable one is not.
 fn is_absent(alloc: Global, metric: &Value, key: &str) -> Result<bool, Memory> {
     match condition_at(alloc, metric, key) {
         Ok(condition) => Ok(condition.is_none()),

@@ -66,6 +66,7 @@ fn manifests_of<R: Read, F: Write>(
     }
 }
 
+// Writes to `errors` which file cannot be read. Faults of that are ignored.
 fn tell_unread<F: Write>(rt: &HostRuntime, name: &str, errors: &mut F) {
     let Ok(name) = shown(rt.alloc(), name, Form::Line) else {
         return;
@@ -119,6 +120,7 @@ fn write_file(rt: &HostRuntime, folder: &str, name: &str, line: &str) -> Result<
     Ok(draft.name(rt)?)
 }
 
+// Writes the line and a line feed.
 fn write_line(draft: &mut Draft, line: &str) -> io::Result<()> {
     draft.file().write_all(line.as_bytes())?;
     draft.file().write_all(b"\n")
@@ -148,6 +150,7 @@ fn show_all<W: Write, F: Write>(
     tell_notes(rt, manifests, translated, errors)
 }
 
+// Writes each note to `errors`, with a prefix, as a line of its own. Faults of that are ignored.
 fn tell_notes<F: Write>(
     rt: &HostRuntime,
     manifests: &Manifests,

@@ -8,6 +8,7 @@ ghost use Rattle.canary_cli.specs.Performed.{IsCheckShown, IsNoClient};
 use crate::perform::Outcome;
 use crate::unclear::Unclear;
 use crate::yaml::{self, Reading};
+use canary_argo_files::reading::MOST_BYTES;
 use canary_base::lists::Text;
 use canary_check::check::Findings;
 use canary_programs::fault::Fault;
@@ -18,9 +19,6 @@ use std::fs::{File, Files};
 use std::io::{self, ErrorKind, Read, Write};
 
 const WARNING: &str = "canary: warning: ";
-
-// The most bytes of a file: 16 MiB.
-const MOST_BYTES: usize = 16_777_216;
 
 // Checks the manifest in the file of the name `file`, or the request's body in that of the name
 // `request`, whichever was given: `unclear_of` says if that is not one of them. If it is `strict`,
@@ -234,6 +232,7 @@ fn warn<F: Write>(findings: &Findings, errors: &mut F) {
     }
 }
 
+// Writes one warning with its prefix and a line feed.
 fn warn_of<F: Write>(line: &str, errors: &mut F) -> io::Result<()> {
     errors.write_all(WARNING.as_bytes())?;
     errors.write_all(line.as_bytes())?;

@@ -19,6 +19,7 @@ pub(crate) fn drawing(
     }
 }
 
+// The form for these flags: tables if neither is set, and Prometheus if both are.
 fn form_of(is_json: bool, is_prometheus: bool) -> Form {
     if is_prometheus {
         Form::Prometheus

@@ -330,7 +330,8 @@ fn run_own<R: Read, W: Write, F: Write>(
     }
 }
 
-// Shows what is in the file of a desk's records, or makes it one of this version, or a new one of it.
+// Shows what is in the file of a desk's records, or makes it one of this version, or makes a new
+// one of it.
 fn run_on_records<W: Write, F: Write>(
     rt: &HostRuntime,
     program: &Program,

@@ -47,6 +47,7 @@ impl Place {
         }
     }
 
+    // A place without names, for when there is no memory for them.
     fn nowhere(alloc: Global, is_terminal: bool) -> Place {
         Place {
             address: String::new(alloc),
@@ -56,6 +57,7 @@ impl Place {
         }
     }
 
+    // The address and the files in the words of the program, if there is memory for them.
     fn named(alloc: Global, program: &Program, is_terminal: bool) -> Result<Place, AllocError> {
         Ok(Place {
             address: address_of(alloc, program)?,
@@ -115,6 +117,7 @@ impl Place {
     }
 }
 
+// The address on which `Serve` listens; empty for any other program.
 fn address_of(alloc: Global, program: &Program) -> Result<String, AllocError> {
     match program {
         Program::Serve { listen, .. } => listed(alloc, Some(listen), None),
@@ -122,6 +125,7 @@ fn address_of(alloc: Global, program: &Program) -> Result<String, AllocError> {
     }
 }
 
+// The files that a fault of the program may be about, with a comma between; empty without any.
 fn files_of(alloc: Global, program: &Program) -> Result<String, AllocError> {
     match program {
         Program::Pipe { db, .. } => listed(alloc, db.as_ref(), None),

@@ -38,7 +38,7 @@ pub enum Unclear {
 }
 
 impl Unclear {
-    /// What the user is told.
+    /// What standard error says of it.
     pub fn text(self) -> &'static str {
         match self {
             Unclear::Checked => CHECKED,

@@ -35,6 +35,7 @@ fn is_utf16(bytes: &[u8]) -> bool {
     bytes.starts_with(b"\xfe\xff") || bytes.starts_with(b"\xff\xfe")
 }
 
+// Whether the bytes are one valid value in JSON; or `Memory`.
 fn is_json(alloc: Global, bytes: &[u8]) -> Result<bool, Fault> {
     match Value::from_slice(alloc, bytes) {
         Ok(_) => Ok(true),
@@ -43,6 +44,7 @@ fn is_json(alloc: Global, bytes: &[u8]) -> Result<bool, Fault> {
     }
 }
 
+// The reading that says why the bytes are refused, or `Memory` if that is why.
 fn refused(alloc: Global, why: Refusal) -> Result<Reading, Fault> {
     match why {
         Refusal::Memory => Err(Fault::Memory),

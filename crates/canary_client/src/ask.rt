@@ -74,6 +74,7 @@ fn tell_of<F: Write>(alloc: Global, stop: Stop, journal: &Option<Text>, errors: 
     stop.outcome()
 }
 
+// Checks the words, and asks their command, or each one that manifests of Argo become.
 fn try_ask<W: Write, F: Write>(
     rt: &HostRuntime,
     call: &Call,
@@ -457,6 +458,7 @@ fn outcome_of(kept: &Kept, is_wish: bool) -> Outcome
     }
 }
 
+// How a call ends by a reply: `Done` if its status is 200, else `Refused`.
 fn by_reply(reply: &Reply) -> Outcome
     ensures { result ≡ by_reply reply.now }
 {

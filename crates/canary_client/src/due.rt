@@ -45,6 +45,7 @@ pub fn due<W: Write, F: Write>(
     }
 }
 
+// Checks the words, and looks once, or over and over if the call waits.
 fn try_due<W: Write, F: Write>(
     rt: &HostRuntime,
     desk: &AskedDesk,
@@ -97,6 +98,7 @@ fn look_until<W: Write, F: Write>(
     Err(Stop::TimeOut)
 }
 
+// Fails if a word is an invalid name: all are checked before anything is asked.
 fn are_services(words: &[Text]) -> Result<(), Stop> {
     for word in words {
         service_of(word)?;
@@ -145,6 +147,7 @@ struct Look {
 }
 
 impl Look {
+    // Shows what is sought of these services. If there are several, a missing one is only reported.
     fn at_services<N: Network, W: Write, F: Write>(
         &self,
         network: &mut N,
@@ -163,6 +166,7 @@ impl Look {
         Ok(found)
     }
 
+    // Shows what is sought of a service's open runs; `Query` if the reply is no service's.
     fn at_service<N: Network, W: Write>(
         &self,
         network: &mut N,
@@ -221,6 +225,7 @@ impl Look {
         }
     }
 
+    // The line of a measurement: with its service if `is_named`, and since when if `late` is given.
     fn line(&self, service: Name, run: u64, due: &NextMeasurement<'_>) -> Result<String, Stop> {
         let metric = shown(self.alloc, self.name_of(due.metric), Form::Line)?;
         let (metric, ordinal) = (metric.as_str(), due.ordinal);
@@ -238,6 +243,7 @@ impl Look {
     }
 }
 
+// Says that the desk has no service of this name.
 fn missing<F: Write>(alloc: Global, word: &Text, errors: &mut F) -> Result<(), Stop> {
     let word = word.as_str();
     let sentence = format!(in alloc; "there is no such service: {word}")?;

@@ -58,6 +58,7 @@ fn files_of(alloc: Global, words: &AskedCommand) -> Result<Vec<Text>, Stop> {
     Ok(files)
 }
 
+// Adds a copy of the word, if one is given.
 fn push_given(alloc: Global, files: &mut Vec<Text>, word: &Option<Text>) -> Result<(), Stop> {
     if let Some(word) = word {
         files.push(word.copy(alloc)?)?;
@@ -65,6 +66,7 @@ fn push_given(alloc: Global, files: &mut Vec<Text>, word: &Option<Text>) -> Resu
     Ok(())
 }
 
+// A command for each template of the manifests in these files.
 fn templates<P: Files + AllocGlobal, F: Write>(
     rt: &P,
     files: &[Text],
@@ -125,6 +127,7 @@ fn made_of<P: Files + AllocGlobal, F: Write>(
     Ok(made)
 }
 
+// The command, with a copy of the name of what it registers.
 fn with_name(alloc: Global, made: &Made, asking: Asking) -> Result<Named, Stop> {
     let name = String::from_str(alloc, made.name.as_str())?;
     Ok(Named { name, asking })

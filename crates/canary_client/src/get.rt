@@ -28,6 +28,7 @@ pub fn get<W: Write, F: Write>(
     }
 }
 
+// Sends one query, and shows the body of the reply, whatever its status.
 fn try_get<W: Write>(
     rt: &HostRuntime,
     desk: &AskedDesk,
@@ -48,6 +49,7 @@ fn try_get<W: Write>(
     }
 }
 
+// The path of the query: of the service, its history or one of its runs; `Part` for another part.
 fn path_of(alloc: Global, service: Name, part: &Option<Text>) -> Result<String, Stop> {
     let service = service.as_str();
     let Some(part) = part else {

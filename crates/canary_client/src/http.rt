@@ -8,11 +8,11 @@ use httparse::Status;
 use httparse::spans::{EMPTY_HEADER_SPAN, HeaderSpan, ResponseSpans, parse_response};
 use std::str;
 
-// The most fields of a head.
-const MOST_FIELDS: usize = 64;
+// The most fields of the head of a desk's reply.
+const MOST_DESK_FIELDS: usize = 64;
 
 /// The most bytes of the heads of a reply: the desk's own have fewer than 200.
-pub const MOST_HEAD: usize = 16_384;
+pub const MOST_DESK_HEAD: usize = 16_384;
 
 /// The most bytes of a body: a history has no limit of its own.
 pub const MOST_BODY: usize = 1 << 26;
@@ -46,7 +46,7 @@ pub enum Front {
 /// `Transfer-Encoding`, whether or not a `Content-Length` stands beside it (RFC 9112, section 6.3),
 /// or without exactly one `Content-Length`, of digits alone, that is `MOST_BODY` at most.
 pub fn front_of(bytes: &[u8]) -> Result<Front, Why> {
-    let mut fields = [EMPTY_HEADER_SPAN; MOST_FIELDS];
+    let mut fields = [EMPTY_HEADER_SPAN; MOST_DESK_FIELDS];
     match parse_response(bytes, &mut fields) {
         Ok(Status::Complete(head)) => front_with(bytes, &fields, head),
         Ok(Status::Partial) => Ok(Front::Part),
@@ -75,6 +75,7 @@ fn front_with(bytes: &[u8], fields: &[HeaderSpan], head: ResponseSpans) -> Resul
     }
 }
 
+// Whether one of these fields is Transfer-Encoding, with which a reply is no desk's.
 fn has_encoding(bytes: &[u8], fields: &[HeaderSpan]) -> bool
     requires { All (IsHeaderWithin (length bytes.now)) fields.now }
 {

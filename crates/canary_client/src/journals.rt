@@ -12,6 +12,7 @@ ghost use Rattle.canary_client.specs.Beginning.{IsSaid, IsOpenedOrBegun, IsSettl
 use crate::outcome::Stop;
 use canary_base::lists::Text;
 use canary_base::names::Name;
+use canary_base::numbers::LAST_NUMBER;
 use canary_journal::entry::{Entry, Wish};
 use canary_journal::meaning::{Meaning, meaning_of};
 use canary_records::device::Device;
@@ -21,9 +22,6 @@ use canary_sending::kept::{KeptJournal, Opened, begin, open};
 use canary_sending::network::{Heard, Network, Why, request};
 use canary_sending::settle::{rest, settle};
 use std::alloc::Global;
-
-// The last number: a request under it is ahead of any caller that has sent fewer.
-const LAST: u32 = 1_000_000_000;
 
 // A command that would change nothing if it were settled.
 const PROBE: &str = "{\"tick\":{\"service\":\"probe\"}}";
@@ -118,6 +116,7 @@ fn is_unknown<N: Network>(
     }
 }
 
+// The journal, if it is this caller's; else `OtherCaller`.
 fn of_caller<D: Device + Drop>(kept: KeptJournal<D>, caller: Name) -> Result<KeptJournal<D>, Stop>
     ensures same { IfOk result (λ same. same ≡ kept) }
     ensures caller { IfOk result (λ _. kept.journal.caller ≡ caller) }
@@ -128,6 +127,7 @@ fn of_caller<D: Device + Drop>(kept: KeptJournal<D>, caller: Name) -> Result<Kep
     Ok(kept)
 }
 
+// Begins the journal, with as many settled requests of the caller as the desk says.
 fn begun<N: Network, D: Device + Drop>(
     alloc: Global,
     network: &mut N,
@@ -147,6 +147,7 @@ fn begun<N: Network, D: Device + Drop>(
     begun_at(alloc, store, caller, settled)
 }
 
+// Begins the journal of a caller of whom the desk has settled so many requests.
 fn begun_at<D: Device + Drop>(
     alloc: Global,
     store: Store<D>,
@@ -176,7 +177,7 @@ fn settled_before<N: Network>(
     ensures sends { GoesOn N.was_sent N.was_told N.was_unanswered network.old network.new
         (λ m. m ≡ probe_text caller) }
 {
-    let message = request(alloc, caller, LAST, PROBE)?;
+    let message = request(alloc, caller, LAST_NUMBER, PROBE)?;
     for tried in 0..tries {
         let why = match network.exchange(alloc, message.as_str()) {
             Ok(heard) => match settled_of(alloc, &heard)? {
@@ -199,7 +200,9 @@ fn settled_of(alloc: Global, heard: &Heard) -> Result<Option<u32>, Stop>
     ensures most { IfOk result (λ settled. IfSome settled (λ count. count ≤ 1000000000)) }
 {
     match meaning_of(alloc, heard.status, heard.body.as_str())? {
-        Meaning::Ahead(expected) if expected >= 1 && expected - 1 <= LAST => Ok(Some(expected - 1)),
+        Meaning::Ahead(expected) if expected >= 1 && expected - 1 <= LAST_NUMBER => {
+            Ok(Some(expected - 1))
+        }
         _ => Ok(None),
     }
 }

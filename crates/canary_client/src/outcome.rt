@@ -216,6 +216,7 @@ impl Stop {
         }
     }
 
+    // The sentence of a stop that ends as `Words`; that of `Command` lists the commands.
     fn of_words(self) -> &'static str {
         match self {
             Stop::Address => "the desk's address is not HOST:PORT (--desk or CANARY_DESK)",
@@ -260,6 +261,7 @@ impl Stop {
         }
     }
 
+    // The sentence of a stop that ends as `Refused` or `Pending`.
     fn of_desk(self) -> &'static str {
         match self {
             Stop::NoService => "there is no such service",
@@ -281,6 +283,7 @@ impl Stop {
         }
     }
 
+    // The sentence of a stop that ends as `Contradiction`.
     fn of_contradiction(self) -> &'static str {
         match self {
             Stop::Reused => {
@@ -316,6 +319,7 @@ impl Stop {
         }
     }
 
+    // The sentence of a stop that ends as `Local`.
     fn of_this_machine(self) -> &'static str {
         match self {
             Stop::InUse => "another client has this journal open",
@@ -397,24 +401,28 @@ pub fn show<W: Write>(output: &mut W, line: &str) -> Result<(), Stop>
 }
 
 impl From<Memory> for Stop {
+    // A refused allocation is `Stop::Memory`.
     fn from(_: Memory) -> Stop {
         Stop::Memory
     }
 }
 
 impl<T: Drop> From<AllocFailed<T>> for Stop {
+    // The same if a value found no room, which is dropped.
     fn from(_: AllocFailed<T>) -> Stop {
         Stop::Memory
     }
 }
 
 impl From<AllocError> for Stop {
+    // The same of an allocation of the standard library.
     fn from(_: AllocError) -> Stop {
         Stop::Memory
     }
 }
 
 impl From<KeepFault> for Stop {
+    // A fault of the journal. A refusal without a stop of its own is `Refused`.
     fn from(fault: KeepFault) -> Stop {
         match fault {
             KeepFault::Memory => Stop::Memory,
@@ -430,6 +438,7 @@ impl From<KeepFault> for Stop {
 }
 
 impl From<Unsettled> for Stop {
+    // Why a request is not settled. A fault of the journal has its own stop.
     fn from(unsettled: Unsettled) -> Stop {
         match unsettled {
             Unsettled::Pending => Stop::Unanswered,

@@ -100,6 +100,7 @@ fn may_name(text: &str) -> bool {
     }
 }
 
+// Whether a byte may be in a host: a letter, a digit, or a mark of a name or of an IPv6 number.
 fn is_host_byte(byte: &u8) -> bool {
     byte.is_ascii_alphanumeric() || b"-._:[]%".contains(byte)
 }

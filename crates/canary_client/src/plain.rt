@@ -68,12 +68,14 @@ fn service_line(alloc: Global, value: &Value) -> Result<Option<String>, Memory> 
     Ok(Some(line))
 }
 
+// The name and the status in a service's reply; none if one is missing.
 fn texts_of(value: &Value) -> Option<(&str, &str)> {
     let service = value.get("service").and_then(Value::as_str)?;
     let status = value.get("status").and_then(Value::as_str)?;
     Some((service, status))
 }
 
+// The step and the weight in a service's reply; none if one is missing.
 fn numbers_of(value: &Value) -> Option<(u64, u64)> {
     let step = value.get("step").and_then(Value::as_u64)?;
     let weight = value.get("weight").and_then(Value::as_u64)?;

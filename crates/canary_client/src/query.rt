@@ -55,6 +55,7 @@ fn why_again(alloc: Global, heard: &Heard) -> Result<Option<Why>, Stop> {
     }
 }
 
+// Why a query is sent again after this status and code; none if the desk answered it with them.
 fn why_with(status: u16, code: &str) -> Option<Why>
     ensures { result ≡ why_again status code.now }
 {

@@ -29,6 +29,7 @@ pub fn run_line(alloc: Global, run: &Value) -> Result<Option<String>, AllocError
     Ok(Some(line))
 }
 
+// The service, the number and the verdict in a run's reply; none if one is missing.
 fn parts_of(run: &Value) -> Option<(&str, u64, &str)> {
     let service = run.get("service").and_then(Value::as_str)?;
     let number = run.get("run").and_then(Value::as_u64)?;
@@ -36,10 +37,12 @@ fn parts_of(run: &Value) -> Option<(&str, u64, &str)> {
     Some((service, number, verdict))
 }
 
+// The sum and the measurements of one metric more, for `fold`.
 fn with_measurements(sum: u64, metric: &Value) -> u64 {
     sum.saturating_add(count(metric, "measurements"))
 }
 
+// The number in this member of a metric, or 0 if it has no such number.
 fn count(metric: &Value, member: &str) -> u64 {
     metric.get(member).and_then(Value::as_u64).unwrap_or(0)
 }

@@ -84,6 +84,7 @@ impl Counts {
         refused: 0,
     };
 
+    // Counts one row more that had this end.
     fn count(&mut self, end: RowEnd) {
         let counted = match end {
             RowEnd::Recorded => &mut self.recorded,
@@ -104,6 +105,7 @@ impl Counts {
         }
     }
 
+    // Says on `errors` how many rows had which end; nothing if memory is refused.
     fn tell<F: Write>(&self, alloc: Global, errors: &mut F) {
         let (recorded, repeated, refused) = (self.recorded, self.repeated, self.refused);
         let told = format!(in alloc;
@@ -115,6 +117,7 @@ impl Counts {
     }
 }
 
+// Opens the file, unless it is the input, and sends its rows.
 fn try_send<R: Read, W: Write>(
     rt: &HostRuntime,
     desk: &AskedDesk,
@@ -134,6 +137,7 @@ fn try_send<R: Read, W: Write>(
     send_file(rt.alloc(), &mut network, &mut file, place, output, counts)
 }
 
+// Sends the rows of a file. The first record is the header; without a record there is no row.
 fn send_file<N: Network, R: Read, W: Write>(
     alloc: Global,
     network: &mut N,
@@ -165,6 +169,7 @@ fn send_file<N: Network, R: Read, W: Write>(
     )
 }
 
+// A reader of records, the header among them, of any number of fields.
 fn reader_of<S: Read>(alloc: Global, source: S) -> Reader<S> {
     ReaderBuilder::new()
         .has_headers(false)
@@ -209,6 +214,7 @@ fn send_rows<N: Network, S: Read + Limited, W: Write>(
     Ok(())
 }
 
+// Sends a row until it is answered, and shows its line. One that is no request is not sent.
 fn send_row<N: Network, W: Write>(
     alloc: Global,
     network: &mut N,
@@ -310,6 +316,7 @@ fn agreed(alloc: Global, heard: &Heard) -> Result<(), Stop> {
     }
 }
 
+// Shows the line of a row: its number from 1 on, a status, and a body with its marks escaped.
 fn show_line<W: Write>(
     alloc: Global,
     number: u64,

@@ -133,6 +133,7 @@ impl Why {
     }
 }
 
+// Why a service is as it is, by the last line that says so; `Plain` without a line.
 fn by_line(last: Option<Line>) -> Why
     ensures { result ≡ why_of_line last }
 {
@@ -142,6 +143,7 @@ fn by_line(last: Option<Line>) -> Why
     }
 }
 
+// What the event of such a line says of why; its moment is when a pause begins.
 fn by_event(moment: u64, event: LineEvent) -> Why
     requires { moment ≤ 253370764799 }
     ensures { result ≡ why_by moment event }
@@ -284,6 +286,7 @@ fn standing_line(text: &str) -> Option<Line> {
     None
 }
 
+// Whether an event says where the service is: at a step, after an attempt, or just created.
 fn is_standing(event: &LineEvent) -> bool
     ensures { result ≡ is_standing event.now }
 {

@@ -1,6 +1,6 @@
 //! The way to a desk over TCP: one connection for each message.
 use crate::clock::{Span, pause_after};
-use crate::http::{Front, Head, MOST_HEAD, front_of};
+use crate::http::{Front, Head, MOST_DESK_HEAD, front_of};
 use crate::outcome::say;
 use crate::place::Place;
 use canary_base::lists::Text;
@@ -12,7 +12,7 @@ use std::thread;
 use std::time::Duration;
 
 // How many bytes are read at a time.
-const PIECE: usize = 16_384;
+const REPLY_PIECE: usize = 16_384;
 
 /// The way to the desk at this address. No clause ties it to a network: that it sends each message
 /// once at most, and that a reply on a connection is the desk's answer to the message on it, is for
@@ -79,10 +79,12 @@ struct Exchange<'a> {
 }
 
 impl<'a> Exchange<'a> {
+    // The time that is left of the exchange; `Lost` if it is over.
     fn left(&self) -> Result<Duration, Why> {
         self.span.cut(self.rt, self.limit).ok_or(Why::Lost)
     }
 
+    // Writes all bytes of a message; `Lost` if the connection or the time ends before.
     fn send(&mut self, message: &[u8]) -> Result<(), Why> {
         let mut rest = message;
         for _ in 0..u64::MAX {
@@ -105,7 +107,7 @@ impl<'a> Exchange<'a> {
         if self.stream.set_read_timeout(Some(left)).is_err() {
             return Err(Why::Lost);
         }
-        let mut piece = [0u8; PIECE];
+        let mut piece = [0u8; REPLY_PIECE];
         let count = passed(self.stream.read(&mut piece))?;
         match held.extend_from_slice(piece.get(..count).unwrap_or(&[])) {
             Ok(()) => Ok(()),
@@ -138,7 +140,7 @@ impl<'a> Exchange<'a> {
                     return Ok(head);
                 }
                 Front::Interim(end) => *held = behind(alloc, held.as_slice(), end)?,
-                Front::Part if held.len() > MOST_HEAD => return Err(Why::Foreign),
+                Front::Part if held.len() > MOST_DESK_HEAD => return Err(Why::Foreign),
                 Front::Part => self.read_more(held)?,
             }
         }
@@ -182,6 +184,7 @@ impl<'a> Network for Tcp<'a> {
 
     ghost was_unanswered = { λ t m why. Unit {0} };
 
+    // Sends a message on a connection of its own, and reads the reply, all within one time limit.
     fn exchange(&mut self, alloc: Global, message: &str) -> Result<Heard, Why> {
         let Some(mut exchange) = self.connect() else {
             return Err(Why::Unreachable);
@@ -190,6 +193,7 @@ impl<'a> Network for Tcp<'a> {
         exchange.hear(alloc)
     }
 
+    // Says why a message is sent again, and waits; does neither if the call has no time left.
     fn pause(&mut self, tried: u32, why: Why) {
         if let Some(pause) = self.cut(Duration::from_millis(pause_after(tried))) {
             say(&mut self.rt.stderr(), text_of(why));

@@ -45,6 +45,7 @@ pub fn watch<W: Write, F: Write>(
     }
 }
 
+// Checks the words, and looks at the service until the call ends.
 fn try_watch<W: Write, F: Write>(
     rt: &HostRuntime,
     desk: &AskedDesk,
@@ -107,6 +108,7 @@ struct Looking<'a> {
 }
 
 impl Looking<'_> {
+    // Looks at the service once, and shows its line if that is new; none if it changed meanwhile.
     fn look<W: Write>(&mut self, alloc: Global, output: &mut W) -> Result<Option<Standing>, Stop> {
         let path = self.path.as_str();
         self.seen
@@ -124,6 +126,7 @@ fn until_of(manner: &Manner) -> Result<&str, Stop> {
     }
 }
 
+// Whether a word is one of `WORDS`.
 fn is_word(word: &str) -> bool {
     WORDS.iter().any(|known| *known == word)
 }
@@ -166,6 +169,7 @@ struct Seen {
 }
 
 impl Seen {
+    // Nothing was seen yet, so the first look shows a line.
     fn nothing(alloc: Global, is_json: bool) -> Seen {
         Seen {
             is_json,
@@ -283,6 +287,7 @@ fn put(
     }
 }
 
+// The number in JSON, or null without one.
 fn number_or_null(number: Option<u64>) -> Value {
     match number {
         Some(number) => Value::from(number),

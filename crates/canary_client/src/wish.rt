@@ -8,6 +8,7 @@ use crate::place::service_of;
 use crate::report::{Measured, report_body};
 use canary_base::lists::Text;
 use canary_base::names::{Label, Name};
+use canary_canonical::plain::LAST_RUN;
 use canary_canonical::writing;
 use canary_manifest::command::{WireFault, command_from_json};
 use canary_plan::command::Command;
@@ -20,9 +21,6 @@ use std::io::{ErrorKind, Read};
 
 // The most bytes of a manifest's file; the body of a request has fewer.
 const MOST_BYTES: u64 = 65_536;
-
-// The greatest number of a run.
-const LAST_RUN: u32 = 1_000_000_000;
 
 /// What words ask for.
 #[derive(Drop)]
@@ -89,6 +87,7 @@ fn plain(words: &AskedCommand) -> Result<Command, Stop> {
     of_service(words.kind.as_str(), &words.first)
 }
 
+// The command of this kind, if it has a service alone; `Stop::Command` for another kind.
 fn of_service(kind: &str, service: &Option<Text>) -> Result<Command, Stop> {
     match kind {
         "promote" => Ok(Command::Promote {
@@ -110,6 +109,7 @@ fn of_service(kind: &str, service: &Option<Text>) -> Result<Command, Stop> {
     }
 }
 
+// The service that a word names; `Stop::Command` if the word is missing.
 fn name_of(word: &Option<Text>) -> Result<Name, Stop> {
     match word {
         Some(word) => service_of(word),
@@ -131,6 +131,7 @@ pub(crate) fn version_of(word: &Option<Text>) -> Result<Label, Stop> {
     }
 }
 
+// The metric that a word names; `Stop::Command` if it is missing, `BadMetric` if it is invalid.
 fn metric_of(word: &Option<Text>) -> Result<Label, Stop> {
     let Some(word) = word else {
         return Err(Stop::Command);
@@ -141,12 +142,14 @@ fn metric_of(word: &Option<Text>) -> Result<Label, Stop> {
     }
 }
 
+// What asks for this command: its canonical text is both the intent and the body.
 fn of_command(alloc: Global, command: &Command) -> Result<Asking, Stop> {
     let intent = writing::text(alloc, command)?;
     let body = intent.copy(alloc)?;
     Ok(Asking::Command { intent, body })
 }
 
+// What asks for a template. Its words are the manifest's file alone.
 fn template<P: Files + AllocGlobal>(rt: &P, words: &AskedCommand) -> Result<Asking, Stop> {
     let Some(file) = &words.first else {
         return Err(Stop::Command);
@@ -166,6 +169,7 @@ pub(crate) fn template_asking(alloc: Global, manifest: &str) -> Result<Asking, S
     of_body(alloc, format!(in alloc; "{{\"template\":{manifest}}}")?)
 }
 
+// What asks for a service. Its words are the manifest's file and a version.
 fn service<P: Files + AllocGlobal>(rt: &P, words: &AskedCommand) -> Result<Asking, Stop> {
     let Some(file) = &words.first else {
         return Err(Stop::Command);
@@ -253,6 +257,7 @@ pub fn has_intent(alloc: Global, body: &str, intent: &str) -> Result<bool, Stop>
     }
 }
 
+// What asks for a report. Its outcome is checked before the desk is asked for the ordinal.
 fn report(alloc: Global, words: &AskedCommand) -> Result<Asking, Stop> {
     let service = name_of(&words.first)?;
     let Some(run) = run_of(&words.second) else {
@@ -270,6 +275,7 @@ fn report(alloc: Global, words: &AskedCommand) -> Result<Asking, Stop> {
     Ok(Asking::Report { intent, measured })
 }
 
+// The number of the run that a word spells; none if the word is missing or spells none.
 fn run_of(word: &Option<Text>) -> Option<u32> {
     match word {
         Some(word) => word.as_str().parse::<u32>().ok().filter(is_run),
@@ -277,6 +283,7 @@ fn run_of(word: &Option<Text>) -> Option<u32> {
     }
 }
 
+// Whether a run may have this number: 1 to `LAST_RUN`.
 fn is_run(number: &u32) -> bool {
     (1..=LAST_RUN).contains(number)
 }
@@ -303,6 +310,7 @@ fn is_result(text: &str) -> bool {
     })
 }
 
+// The member of a failure, whose text is written as a JSON string.
 fn failure_of(alloc: Global, text: &str) -> Result<Text, Stop> {
     let text = serde_json::Value::try_from_str(alloc, text)?.to_string(alloc)?;
     let text = text.as_str();
@@ -320,6 +328,7 @@ fn is_taken(alloc: Global, measured: &Measured, is_failure: bool) -> Result<(), 
     }
 }
 
+// Whether it is a report of exactly one measurement.
 fn has_one_entry(command: &Command) -> bool {
     match command {
         Command::Report(report) => report.entries.as_slice().len() == 1,
@@ -327,6 +336,7 @@ fn has_one_entry(command: &Command) -> bool {
     }
 }
 
+// What a report means: its words, without the ordinal and the moment, which come later.
 fn intent_of(alloc: Global, measured: &Measured) -> Result<Text, Stop>
     ensures { IfOk result (λ intent. intent ≡ report_intent measured.now.service measured.now.run
         measured.now.metric measured.now.outcome) }

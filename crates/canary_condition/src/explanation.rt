@@ -107,6 +107,7 @@ fn course_after(course: Course, opened: usize, at: u32, token: Token) -> Course
     }
 }
 
+// The explanation that at this byte something else was expected.
 fn syntax(at: u32, expected: Expected) -> Explained
     ensures { result ≡ syntax at expected }
 {

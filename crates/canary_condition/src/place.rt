@@ -102,6 +102,7 @@ fn ended(side: Side, opened: usize, token: Token) -> Option<Place>
     }
 }
 
+// The place after a token at `Place::Result`: `OpenItem`, or what follows an operand.
 fn after_result(side: Side, opened: usize, token: Token) -> Option<Place>
     ensures { result ≡ after_result side opened token }
 {
@@ -111,6 +112,7 @@ fn after_result(side: Side, opened: usize, token: Token) -> Option<Place>
     }
 }
 
+// The place after a token at `Place::Item`, which must be digits.
 fn after_item(side: Side, token: Token) -> Option<Place>
     ensures { result ≡ after_item side token }
 {
@@ -120,6 +122,7 @@ fn after_item(side: Side, token: Token) -> Option<Place>
     }
 }
 
+// The place after a token at `Place::Index`, which must be the bracket that closes it.
 fn after_index(side: Side, token: Token) -> Option<Place>
     ensures { result ≡ after_index side token }
 {

@@ -139,6 +139,7 @@ fn make<D: Disk + Drop>(alloc: Global, files: Files<D>, seed: u64) -> Result<(),
     }
 }
 
+// Why a database could not be made: memory, a full disk, or else `IO`.
 fn made_error(error: sqlite_store::OpenError) -> Error
     ensures named { IsTrue (is_open_error result) }
 {
@@ -149,6 +150,7 @@ fn made_error(error: sqlite_store::OpenError) -> Error
     }
 }
 
+// The page size of a file that is made. `NEW_PAGE` is a valid one.
 fn new_size() -> PageSize {
     PageSize::new(NEW_PAGE).unwrap()
 }

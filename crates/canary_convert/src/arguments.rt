@@ -80,6 +80,7 @@ pub(crate) fn given_to<'a>(case: &Case<'a>, name: &str) -> Given<'a> {
     }
 }
 
+// What the Rollout's analysis gives that argument; `Nothing` also if no Rollout uses the template.
 fn given_by_analysis<'a>(case: &Case<'a>, name: &str) -> Given<'a> {
     let Some((_, analysis)) = case.used_by else {
         return Given::Nothing;
@@ -100,6 +101,7 @@ fn named<'a>(arguments: Option<&'a Vec<Value>>, name: &str) -> Option<&'a Value>
     None
 }
 
+// What this argument gives: its `value`, or else what its `valueFrom` leads to.
 fn given_by<'a>(case: &Case<'a>, argument: &'a Value) -> Given<'a> {
     if let Some(value) = member(argument, "value") {
         return plain(value);
@@ -119,6 +121,7 @@ fn given_by<'a>(case: &Case<'a>, argument: &'a Value) -> Given<'a> {
     }
 }
 
+// This value, or `Nested` if it is a text with a place of its own: places are filled in once.
 fn plain(value: &Value) -> Given<'_> {
     if has_place(value.as_str().unwrap_or("")) {
         return Given::Nested;
@@ -181,6 +184,7 @@ pub(crate) fn tell_arguments(
     Ok(())
 }
 
+// Adds that an argument has an invalid name, a list or an object as its value, or no such source.
 fn tell_argument(
     alloc: Global,
     work: &mut Work,
@@ -202,6 +206,7 @@ fn tell_argument(
     }
 }
 
+// Whether a `valueFrom` is a field, a secret or the hash of a pod template, with all it needs.
 fn is_source(source: &Value) -> bool {
     if let Some(field) = member(source, "fieldRef") {
         return !text_at(field, "fieldPath").is_empty();
@@ -233,6 +238,7 @@ pub(crate) fn push_late(
     Ok(())
 }
 
+// Appends the argument as a member, if it is late, with its source as the value.
 fn push_if_late(alloc: Global, given: Given, name: &str, out: &mut String) -> Result<(), Memory> {
     match given {
         Given::Late(source) => {

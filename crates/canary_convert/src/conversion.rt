@@ -94,6 +94,7 @@ pub fn convert(alloc: Global, sources: &[Source]) -> Result<Converted, Memory>
     Ok(outcome_of(alloc, work))
 }
 
+// Converts the documents of these sources, or reports that there are more than 1,000.
 fn convert_sources(alloc: Global, work: &mut Work, sources: &[Source]) -> Result<(), Memory> {
     let documents = documents_of(alloc, sources)?;
     if documents.len() > MOST_DOCUMENTS {
@@ -102,6 +103,7 @@ fn convert_sources(alloc: Global, work: &mut Work, sources: &[Source]) -> Result
     convert_documents(alloc, work, documents.as_slice())
 }
 
+// Checks each document, converts the Rollouts, and then the templates that no Rollout names.
 fn convert_documents(alloc: Global, work: &mut Work, documents: &[Document]) -> Result<(), Memory> {
     for (index, document) in documents.iter().enumerate() {
         look_at(alloc, work, documents, index, document)?;
@@ -184,6 +186,7 @@ fn look_at(
     tell_template(alloc, work, document)
 }
 
+// What to write in place of a document of that kind, if the kind is refused.
 fn instead_of(kind: &str) -> Option<&'static str> {
     for refused in &REFUSED {
         if refused.kind == kind {
@@ -193,6 +196,7 @@ fn instead_of(kind: &str) -> Option<&'static str> {
     None
 }
 
+// Adds that a document has an invalid name, or that of another one of its kind before it.
 fn look_at_name(
     alloc: Global,
     work: &mut Work,

@@ -126,6 +126,7 @@ fn push_argument(
     }
 }
 
+// Adds what an argument lacks, at the text that has a place of it.
 fn tell_lack(
     alloc: Global,
     work: &mut Work,
@@ -136,6 +137,7 @@ fn tell_lack(
     work.tell(alloc, place, &["{{args.", name, "}} ", lack])
 }
 
+// Appends a value: a text as it is in `Plain`, else escaped without quotes; any other as JSON.
 fn push_given(alloc: Global, mode: Mode, value: &Value, out: &mut String) -> Result<(), Memory> {
     match value.as_str() {
         Some(text) if matches!(mode, Mode::Plain) => Ok(out.push_str(text)?),
@@ -144,6 +146,7 @@ fn push_given(alloc: Global, mode: Mode, value: &Value, out: &mut String) -> Res
     }
 }
 
+// Appends a place of that argument again, for the agent to fill in.
 fn push_place(name: &str, out: &mut String) -> Result<(), Memory> {
     out.push_str("{{args.")?;
     out.push_str(name)?;

@@ -55,6 +55,7 @@ impl Findings {
         self.add(finding)
     }
 
+    // Adds a finding, unless the same is there already; from the 101st on it is counted only.
     fn add(&mut self, finding: Finding) -> Result<(), Memory> {
         if self.has(&finding) {
             return Ok(());
@@ -67,6 +68,7 @@ impl Findings {
         Ok(())
     }
 
+    // Whether the same finding is there already, at the same place.
     fn has(&self, finding: &Finding) -> bool {
         for known in &self.list {
             if known.is_same(finding) {
@@ -78,6 +80,7 @@ impl Findings {
 }
 
 impl Finding {
+    // Fills in its path and its text, of parts that follow one another.
     fn write(&mut self, place: Place, parts: &[&str]) -> Result<(), Memory> {
         place.write(&mut self.path)?;
         for part in parts {
@@ -86,6 +89,7 @@ impl Finding {
         Ok(())
     }
 
+    // Whether both say the same of one place; the byte does not count.
     fn is_same(&self, other: &Finding) -> bool {
         self.source == other.source
             && self.path.as_str() == other.path.as_str()

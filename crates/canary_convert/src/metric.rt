@@ -122,6 +122,7 @@ fn only_key(value: &Value) -> &str {
     only.unwrap_or("")
 }
 
+// Whether the metric has a condition, of success or of failure, that is not empty.
 fn has_condition(metric: &Value) -> bool {
     !text_at(metric, SUCCESS).is_empty() || !text_at(metric, FAILURE).is_empty()
 }
@@ -135,6 +136,7 @@ fn name_of(alloc: Global, work: &mut Work, spot: &Spot) -> Result<Option<Label>,
     read_name(alloc, work, spot, name.as_str())
 }
 
+// The label of that name. If it is invalid, or ends as a translated one, that is reported.
 fn read_name(
     alloc: Global,
     work: &mut Work,
@@ -182,6 +184,7 @@ fn without_shape(end: &str) -> &str {
     end.strip_suffix("f").unwrap_or(end)
 }
 
+// Whether the text is digits alone, and has one at least.
 fn are_digits(text: &str) -> bool {
     for byte in text.as_bytes() {
         if !byte.is_ascii_digit() {
@@ -235,6 +238,7 @@ pub(crate) fn call(alloc: Global, work: &mut Work, spot: &Spot) -> Result<Option
     }
 }
 
+// The name with the suffix of its form. If both together are too long, that is reported.
 fn labelled(
     alloc: Global,
     work: &mut Work,
@@ -287,6 +291,7 @@ fn form_of(
     form_of_conditions(alloc, work, spot, kind, &conditions)
 }
 
+// Fills in both conditions; false if one cannot be filled in, which is reported.
 fn fill_conditions(
     alloc: Global,
     work: &mut Work,
@@ -298,6 +303,7 @@ fn fill_conditions(
     Ok(success && failure)
 }
 
+// The form that both conditions together need; without any, that of the provider's kind.
 fn form_of_conditions(
     alloc: Global,
     work: &mut Work,
@@ -328,6 +334,7 @@ fn unconditional_form(kind: &str) -> Form {
     })
 }
 
+// The form that fits these needs. If there is no such form, that is reported.
 fn form_of_needs(
     alloc: Global,
     work: &mut Work,
@@ -343,6 +350,7 @@ fn form_of_needs(
     }
 }
 
+// The needs, with those of this condition, unless it is empty. A fault of it is reported.
 fn with_condition(
     alloc: Global,
     work: &mut Work,
@@ -382,6 +390,7 @@ fn tell_fault(
     }
 }
 
+// Adds why a condition is not translated, with its text, which the manifest does not show so.
 fn tell_filled(
     alloc: Global,
     work: &mut Work,
@@ -415,6 +424,7 @@ pub(crate) fn push_metric(
     Ok(())
 }
 
+// Appends the conditions: translated; for a job, that its result is 1; or else the desk's own.
 fn push_conditions(
     alloc: Global,
     work: &mut Work,
@@ -452,6 +462,7 @@ fn push_translated(
     push_translation(alloc, work, spot, key, form, text.as_str(), out)
 }
 
+// Appends the translation of a condition, unless it is empty, and notes if NaN fails by it.
 fn push_translation(
     alloc: Global,
     work: &mut Work,
@@ -546,6 +557,7 @@ pub(crate) fn plan_metric(
     work.plan(alloc, spot.place, planned)
 }
 
+// Fills in all of a plan but the template: its names, its provider, and what is late.
 fn write_planned(
     alloc: Global,
     work: &mut Work,

@@ -85,6 +85,7 @@ impl Place {
     }
 }
 
+// Appends an index in square brackets, if there is one.
 fn push_index(out: &mut String, index: Option<usize>) -> Result<(), Memory> {
     if let Some(index) = index {
         write!(out, "[{index}]")?;

@@ -59,6 +59,7 @@ pub(crate) fn convert_rollout(
     Ok(())
 }
 
+// Appends the desk's Rollout in JSON; `paused` stays, for the check of the manifest to look at.
 fn push_rollout(
     alloc: Global,
     work: &mut Work,
@@ -76,6 +77,7 @@ fn push_rollout(
     Ok(())
 }
 
+// Appends the strategy, with its canary if it has one; `blueGreen` stays, for that check, too.
 fn push_strategy(
     alloc: Global,
     work: &mut Work,
@@ -99,6 +101,7 @@ fn push_strategy(
     Ok(())
 }
 
+// Appends the steps and the analysis beside them; the desk reads no other member of a canary.
 fn push_canary(
     alloc: Global,
     work: &mut Work,
@@ -127,6 +130,7 @@ fn push_canary(
     Ok(())
 }
 
+// Appends the list of steps, each at its index.
 fn push_steps(
     alloc: Global,
     work: &mut Work,
@@ -143,6 +147,7 @@ fn push_steps(
     Ok(())
 }
 
+// Appends a step as it is, but for its analysis. If it is no object, that is reported.
 fn push_step(
     alloc: Global,
     work: &mut Work,
@@ -172,6 +177,7 @@ fn push_step(
     Ok(())
 }
 
+// Appends an analysis of the desk's templates, without arguments: those are filled in there.
 fn push_analysis(
     alloc: Global,
     work: &mut Work,
@@ -195,6 +201,7 @@ fn push_analysis(
     Ok(())
 }
 
+// Appends each item whose template is among the documents, and adds the desk's template for it.
 fn push_templates(
     alloc: Global,
     work: &mut Work,
@@ -246,6 +253,7 @@ fn template_of<'a>(
     }
 }
 
+// Whether an item of an analysis names a template of the cluster: its `clusterScope` is true.
 fn is_of_the_cluster(named: &Value) -> bool {
     match member(named, "clusterScope") {
         Some(scope) => scope.as_bool().unwrap_or(false),

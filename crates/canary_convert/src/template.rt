@@ -46,6 +46,7 @@ pub(crate) fn tell_template(
     }
 }
 
+// Adds each metric that is no object, or has the name of one before it.
 fn tell_metrics(
     alloc: Global,
     work: &mut Work,
@@ -86,6 +87,7 @@ pub(crate) fn convert_template(alloc: Global, work: &mut Work, case: &Case) -> R
     work.add_template(alloc, case.template.place(), made)
 }
 
+// Writes the name of the desk's template, and reports an invalid one.
 fn write_name(alloc: Global, work: &mut Work, case: &Case, out: &mut String) -> Result<(), Memory> {
     push_made_name(case, out)?;
     look_at_name(alloc, work, case, out.as_str())
@@ -117,6 +119,7 @@ pub(crate) fn push_made_name(case: &Case, out: &mut String) -> Result<(), Memory
     Ok(())
 }
 
+// Whether a member of a metric that the desk reads has a place to be filled in.
 fn has_desk_places(template: &Document) -> bool {
     let Some(metrics) = template.list("metrics") else {
         return false;
@@ -142,6 +145,7 @@ pub(crate) fn is_ready(case: &Case) -> bool {
     true
 }
 
+// Writes the desk's template in JSON; `templates` stay, for the check of the manifest to look at.
 fn write_template(
     alloc: Global,
     work: &mut Work,
@@ -174,6 +178,7 @@ fn spot_of<'a>(case: &Case<'a>, index: usize, metric: &'a Value) -> Spot<'a> {
     }
 }
 
+// Appends each metric as the desk reads it.
 fn push_metrics<'a>(
     alloc: Global,
     work: &mut Work,
@@ -187,6 +192,7 @@ fn push_metrics<'a>(
     Ok(())
 }
 
+// Adds how each metric is measured, for the desk's template of that name, if a Rollout uses it.
 fn plan_metrics(alloc: Global, work: &mut Work, case: &Case, name: &str) -> Result<(), Memory> {
     let Some(metrics) = case.template.list("metrics") else {
         return Ok(());
@@ -202,6 +208,7 @@ fn plan_metrics(alloc: Global, work: &mut Work, case: &Case, name: &str) -> Resu
 
 // ---- dry runs
 
+// Appends `dryRun`, if the template has it, with the names of its metrics at the desk.
 fn push_dry_run<'a>(
     alloc: Global,
     work: &mut Work,
@@ -227,6 +234,7 @@ fn push_dry_run<'a>(
     Ok(())
 }
 
+// Appends a mark of all metrics, or of that one. If there is no such metric, that is reported.
 fn push_mark<'a>(
     alloc: Global,
     work: &mut Work,
@@ -248,6 +256,7 @@ fn push_mark<'a>(
     }
 }
 
+// Appends a mark of the metric at that index, by its name at the desk, if it has one.
 fn push_marked_metric<'a>(
     alloc: Global,
     work: &mut Work,
@@ -265,6 +274,7 @@ fn push_marked_metric<'a>(
     }
 }
 
+// Appends an item of `dryRun` with that name.
 fn push_marked(alloc: Global, name: &str, out: &mut String) -> Result<(), Memory> {
     push_comma(out)?;
     out.push_str("{\"metricName\":")?;

@@ -110,11 +110,13 @@ impl Planned {
         }
     }
 
+    // Whether both are of one service, and have one label there.
     fn is_of(&self, other: &Planned) -> bool {
         self.service.as_str() == other.service.as_str()
             && self.label.as_str() == other.label.as_str()
     }
 
+    // Whether both are one metric of the manifest, with one provider and the same late arguments.
     fn is_asked_as(&self, other: &Planned) -> bool {
         self.metric.as_str() == other.metric.as_str()
             && self.provider.as_str() == other.provider.as_str()

@@ -8,7 +8,7 @@ use std::thread;
 use std::time::Duration;
 
 // How often a copy is begun whose name, that of its second, is taken.
-const MOST_TRIES: u32 = 100;
+const MOST_NAMES_TRIED: u32 = 100;
 
 /// Copies a desk's file of SQLite, with its log, to `copy` and `copy`-wal, also while a desk serves
 /// it. The copy has its names once it is whole, was opened and has a desk's tables, of this version
@@ -73,7 +73,7 @@ fn backup_next(rt: &HostRuntime, file: &str, folder: &str, keep: Option<u64>) ->
     if !is_folder(rt, folder) {
         return Err(Fault::File);
     }
-    for _ in 0..MOST_TRIES {
+    for _ in 0..MOST_NAMES_TRIED {
         if is_backed_up(rt, file, folder, keep)? {
             return Ok(());
         }

@@ -51,6 +51,7 @@ fn log_to_make(rt: &HostRuntime, file: &str) -> Result<Option<String>, Fault> {
     }
 }
 
+// The name of the log, if no such file is there: opening makes it then.
 fn if_missing(rt: &HostRuntime, log: String) -> Option<String> {
     if is_missing(rt, log.as_str()) {
         Some(log)
@@ -59,6 +60,7 @@ fn if_missing(rt: &HostRuntime, log: String) -> Option<String> {
     }
 }
 
+// Why the file could not be opened. A rollback journal beside it is `Storage`.
 fn unopened(error: OpenError) -> Fault {
     match error {
         OpenError::Busy => Fault::InUse,

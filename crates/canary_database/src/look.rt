@@ -70,6 +70,7 @@ fn look_at_copy<W: Write, F: Write>(
     looked
 }
 
+// The same of a copy. A function of its own, so that the caller removes the copy after any fault.
 fn look_at_own_copy<W: Write, F: Write>(
     rt: &HostRuntime,
     copy: &OwnCopy,
@@ -82,6 +83,7 @@ fn look_at_own_copy<W: Write, F: Write>(
     look_at_opened(rt, book, sight, output, errors, is_terminal)
 }
 
+// The same of the book in a file that was opened, by a function for any type of store.
 fn look_at_opened<W: Write, F: Write>(
     rt: &HostRuntime,
     book: FileBook,
@@ -93,6 +95,7 @@ fn look_at_opened<W: Write, F: Write>(
     look_at_tables(rt, book, sight, output, errors, is_terminal)
 }
 
+// The same of a book over any store: the text of a status, or a page and no text.
 fn look_at_tables<S: Alter + Drop, W: Write, F: Write>(
     rt: &HostRuntime,
     book: TableBook<S>,
@@ -116,6 +119,7 @@ fn look_at_tables<S: Alter + Drop, W: Write, F: Write>(
     }
 }
 
+// The text of the status of all services, by their names, at that moment.
 fn status_of<S: Alter + Drop>(
     rt: &HostRuntime,
     book: &mut TableBook<S>,
@@ -126,6 +130,7 @@ fn status_of<S: Alter + Drop>(
     text_of_book(rt.alloc(), book, names.as_slice(), now, drawing.form)
 }
 
+// Draws the page of all services, by their names, and then their files.
 fn page_of<S: Alter + Drop, W: Write, P: Progress>(
     rt: &HostRuntime,
     book: &mut TableBook<S>,

@@ -22,6 +22,7 @@ enum Stands {
     Nothing,
 }
 
+// What has this name, where all links lead; `Nothing` also if the system does not say.
 fn found_at<P: Files>(files: &P, name: &str) -> Stands {
     match fs::metadata(files, name) {
         Ok(found) if found.is_file() => Stands::File(found.len()),

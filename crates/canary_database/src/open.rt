@@ -144,10 +144,12 @@ fn if_read(read: io::Result<bool>) -> Result<bool, Fault>
     }
 }
 
+// Whether the file has bytes that begin no database, and no log; an error if it is unreadable.
 fn is_other<P: Files + AllocGlobal>(rt: &P, file: &str) -> io::Result<bool> {
     Ok(begins_otherwise(rt, file)? && lacks_log(rt, file)?)
 }
 
+// Whether the file has no bytes, and no log; an error if it is unreadable.
 fn is_unwritten<P: Files + AllocGlobal>(rt: &P, file: &str) -> io::Result<bool> {
     Ok(first_bytes(rt, file)?.is_empty() && lacks_log(rt, file)?)
 }

@@ -46,6 +46,7 @@ pub fn page<W: Write, F: Write>(
     Ok(())
 }
 
+// Draws one page, with its files. The folder and the desk's file are looked for anew each time.
 fn page_once<W: Write, F: Write>(
     rt: &HostRuntime,
     file: &str,
@@ -65,6 +66,7 @@ fn page_once<W: Write, F: Write>(
     draw_to(rt, file, &desk, out, sight, output, errors, is_terminal)
 }
 
+// The folder for files in JSON, with the desk's own files, if one is asked for.
 fn shelf_of<'a>(json: Option<&'a str>, desk: &'a Pair) -> Option<Shelf<'a>> {
     match json {
         Some(folder) => Some(Shelf { folder, desk }),
@@ -72,6 +74,7 @@ fn shelf_of<'a>(json: Option<&'a str>, desk: &'a Pair) -> Option<Shelf<'a>> {
     }
 }
 
+// Draws on `output`, or into the file `out`, which must not be one of the desk's own.
 fn draw_to<W: Write, F: Write>(
     rt: &HostRuntime,
     file: &str,
@@ -97,6 +100,7 @@ fn draw_to<W: Write, F: Write>(
     drawn
 }
 
+// What a flush came to: any error of it is `Write`.
 fn flushed(flushed: io::Result<()>) -> Result<(), Fault> {
     match flushed {
         Ok(()) => Ok(()),

@@ -80,6 +80,7 @@ impl<'a, F: Write> Shown<'a, F> {
         Shown::of(rt, errors, is_terminal, Unit::Services, None)
     }
 
+    // Counts this unit from 0. Without a terminal, no line comes in the first `QUIET_SECONDS`.
     fn of(
         rt: &'a HostRuntime,
         errors: &'a mut F,
@@ -136,6 +137,7 @@ impl<'a, F: Write> Shown<'a, F> {
         }
     }
 
+    // Draws the line of a terminal anew, or writes one below the others if the pause is over.
     fn show(&mut self) {
         if self.is_terminal {
             self.draw();
@@ -171,6 +173,7 @@ impl<'a, F: Write> Shown<'a, F> {
         format!(in alloc; "{before}canary: {text}{behind}")
     }
 
+    // How much is done of what. Megabytes that are read are rounded down, and all of them up.
     fn text(&self, alloc: Global) -> Result<String, AllocError> {
         let (done, whole) = (self.done, self.whole.unwrap_or(self.done));
         let text = match (self.unit, self.whole) {
@@ -197,20 +200,24 @@ impl<'a, F: Write> Shown<'a, F> {
 }
 
 impl<F: Write> judging::Progress for Shown<'_, F> {
+    // Counts from 0 again, up to so many rows.
     fn begin(&mut self, rows: u64) {
         self.begin_whole(rows);
     }
 
+    // Counts so many rows more.
     fn judged(&mut self, rows: u64) {
         self.more(rows);
     }
 }
 
 impl<F: Write> drawing::Progress for Shown<'_, F> {
+    // Counts from 0 again, up to so many services.
     fn begin(&mut self, services: u64) {
         self.begin_whole(services);
     }
 
+    // Counts one service more.
     fn drawn(&mut self) {
         self.more(1);
     }
@@ -226,6 +233,7 @@ pub struct Counted<'a, R, F: Write> {
 impl<R: Read, F: Write> Read for Counted<'_, R, F> {
     ghost remaining = { λ c. R.remaining c.source };
 
+    // Reads from the source, and counts the bytes that it gave.
     fn read(&mut self, buf: &mut [u8]) -> io::Result<usize> {
         let count = self.source.read(buf)?;
         self.shown.more(count as u64);

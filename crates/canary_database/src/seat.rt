@@ -24,6 +24,7 @@ impl Identity {
         }
     }
 
+    // That of the file with this metadata.
     fn in_metadata(found: &Metadata) -> Identity {
         Identity {
             device: found.dev(),
@@ -68,6 +69,7 @@ impl<'a> Seat<'a> {
         self.is_lost_by(fs::metadata(files, self.path))
     }
 
+    // The same, by what was found at the path. An error counts if it says that nothing is there.
     fn is_lost_by(&self, found: io::Result<Metadata>) -> bool {
         match found {
             Ok(found) => Identity::in_metadata(&found) != self.identity || found.nlink() != 1,

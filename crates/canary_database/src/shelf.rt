@@ -71,6 +71,7 @@ pub(crate) fn fill<B: Book, P: Progress>(
     put_list(rt, book, names, now, shelf)
 }
 
+// Writes SERVICE.json of one service, under its name once it is complete.
 fn put_service<B: Book>(
     rt: &HostRuntime,
     book: &mut B,
@@ -84,6 +85,7 @@ fn put_service<B: Book>(
     end_draft(rt, &draft, written)
 }
 
+// Writes the list of these services, under its name once it is complete.
 fn put_list<B: Book>(
     rt: &HostRuntime,
     book: &mut B,

@@ -34,6 +34,7 @@ pub fn status<W: Write, F: Write>(
     Ok(())
 }
 
+// Draws the status once. The file is closed before anything is written to `output`.
 fn status_once<W: Write, F: Write>(
     rt: &HostRuntime,
     file: &str,

@@ -67,7 +67,8 @@ pub fn succeed<W: Write, F: Write>(
     }
 }
 
-// Looks whether there is a file `old` that can be a desk's, and whether one can have the name `new`.
+// Looks whether there is a file `old` that can be a desk's, and whether one can have the name
+// `new`.
 fn look_at_both(rt: &HostRuntime, old: &str, new: &str) -> Result<(), Fault> {
     find(rt, old)?;
     if new == ":memory:" || new.starts_with("file:") || has_other_bytes(rt, old)? {
@@ -102,6 +103,7 @@ fn unopened(error: Error) -> Fault {
     }
 }
 
+// Makes the new desk from an open connection, which is closed once the new file has its name.
 fn make_of<S: Alter + Drop, F: Write>(
     rt: &HostRuntime,
     conn: Connection<S>,
@@ -137,6 +139,7 @@ fn template_names<S: Alter>(alloc: Global, conn: &mut Connection<S>) -> Result<V
     }
 }
 
+// The names of revisions 1, which each template has once, sorted; or `Memory`.
 fn first_names(alloc: Global, keys: &[RevisionKey]) -> Result<Vec<Name>, Memory> {
     let mut names = Vec::new(alloc);
     for key in keys {
@@ -194,6 +197,7 @@ fn filled<A: Book, B: Book + Drop>(
     (done, new)
 }
 
+// The moment of all requests of the new desk: the present one by the machine's clock.
 fn now(rt: &HostRuntime) -> Moment {
     WallClock::new(rt).tell()
 }

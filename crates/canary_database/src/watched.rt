@@ -61,36 +61,43 @@ impl<P: Files, B: Book + Drop> Book for Watched<'_, P, B> {
       is_sure = false;
     } };
 
+    // How many requests of the caller are settled; `Storage` once the file was found lost.
     fn settled(&mut self, caller: &Name) -> Result<u32, BookFault> {
         let found = self.book.settled(caller);
         self.unless_lost(found)
     }
 
+    // The receipt under that number of the caller; `Storage` once the file was found lost.
     fn receipt(&mut self, caller: &Name, number: Number) -> Result<Option<Receipt>, BookFault> {
         let found = self.book.receipt(caller, number);
         self.unless_lost(found)
     }
 
+    // The newest revisions of these templates; `Storage` once the file was found lost.
     fn templates(&mut self, names: &[Name]) -> Result<Templates, BookFault> {
         let found = self.book.templates(names);
         self.unless_lost(found)
     }
 
+    // The service, if there is one; `Storage` once the file was found lost.
     fn service(&mut self, name: &Name) -> Result<Option<Service>, BookFault> {
         let found = self.book.service(name);
         self.unless_lost(found)
     }
 
+    // The lines of the service, oldest first; `Storage` once the file was found lost.
     fn history(&mut self, name: &Name) -> Result<Listed<Line>, BookFault> {
         let found = self.book.history(name);
         self.unless_lost(found)
     }
 
+    // The run of that number, if there is one; `Storage` once the file was found lost.
     fn run(&mut self, name: &Name, number: Number) -> Result<Option<RunRecord>, BookFault> {
         let found = self.book.run(name, number);
         self.unless_lost(found)
     }
 
+    // At most so many measurements of the service; `Storage` once the file was found lost.
     fn measurements(
         &mut self,
         name: &Name,
@@ -112,6 +119,7 @@ impl<P: Files, B: Book + Drop> Book for Watched<'_, P, B> {
 }
 
 impl<P: Files, B: Book + Drop> Placed for Watched<'_, P, B> {
+    // Looks where the path leads, unless the file was found lost before: it stays lost.
     fn is_in_place(&mut self) -> bool {
         self.is_lost = self.is_lost || self.seat.is_lost(self.files);
         !self.is_lost

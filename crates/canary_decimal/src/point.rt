@@ -43,6 +43,7 @@ fn fraction(part: u64, places: usize) -> ArrayString<MOST_PLACES>
     text
 }
 
+// The ASCII digit of a number below 10.
 fn digit(number: u64) -> char
     requires { number < 10 }
     ensures { result ≡ 48 + number }

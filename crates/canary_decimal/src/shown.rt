@@ -170,6 +170,7 @@ fn word_of(beside: Beside, number: i64) -> Option<Word>
     }
 }
 
+// NaN if the number is `NAN`, else the other word.
 fn nan_or(number: i64, other: Option<Word>) -> Option<Word>
     ensures { result ≡ nan_or number other }
 {
@@ -180,6 +181,7 @@ fn nan_or(number: i64, other: Option<Word>) -> Option<Word>
     }
 }
 
+// An infinity if the number is `MINUS_INFINITE` or `INFINITE`, else the other word.
 fn infinite_or(number: i64, other: Option<Word>) -> Option<Word>
     ensures { result ≡ infinite_or number other }
 {
@@ -192,6 +194,7 @@ fn infinite_or(number: i64, other: Option<Word>) -> Option<Word>
     }
 }
 
+// Null if the number is `NULL`, else none.
 fn null_of(number: i64) -> Option<Word>
     ensures { result ≡ null_of number }
 {
@@ -202,6 +205,7 @@ fn null_of(number: i64) -> Option<Word>
     }
 }
 
+// What people read in place of a number that is this word: 4 bytes at most.
 fn name(word: Word) -> &'static str
     ensures text { result.now ≡ word_text word }
     ensures short { length result.now ≤ 4 }
@@ -214,6 +218,7 @@ fn name(word: Word) -> &'static str
     }
 }
 
+// The same as `name`, as a string of the type that `with_point` returns.
 fn written(word: Word) -> ArrayString<MOST_BYTES>
     ensures { result.bytes ≡ word_text word }
 {
@@ -293,6 +298,7 @@ fn with_beside(places: usize, rest: &[u8]) -> Option<Units>
     }
 }
 
+// The units of these places and of what is reported beside, if the rest is a shape.
 fn with_shape(places: usize, beside: Beside, shape: &[u8]) -> Option<Units>
     ensures { result ≡ with_shape places beside shape.now }
 {
@@ -316,6 +322,7 @@ fn shape_of(shape: &[u8]) -> Option<bool>
     }
 }
 
+// Whether values with the shape of this letter begin with a length; none if it is no shape.
 fn by_letter(letter: u8, rest: &[u8]) -> Option<bool>
     ensures { result ≡ by_letter letter rest.now }
 {

@@ -10,6 +10,7 @@ use std::io::IsTerminal;
 use std::process::ExitCode;
 use streams::fill_closed;
 
+// Does what the words ask for, or gives up if a closed standard stream cannot be filled.
 fn main(rt: HostRuntime) -> ExitCode {
     // Before anything is opened.
     let is_filled = fill_closed(&rt).is_ok();

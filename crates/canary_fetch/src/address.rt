@@ -191,6 +191,7 @@ fn is_name(text: &str) -> bool
     !text.is_empty() && are_name_bytes(text.as_bytes())
 }
 
+// Whether each byte may be in a host's name or its number of IPv4; true of no bytes.
 fn are_name_bytes(bytes: &[u8]) -> bool
     ensures { result ≡ list_all is_name_byte bytes.now }
 {
@@ -204,18 +205,21 @@ fn is_number(text: &str) -> bool
     !text.is_empty() && are_number_bytes(text.as_bytes())
 }
 
+// Whether each byte may be in a number of IPv6; true of no bytes.
 fn are_number_bytes(bytes: &[u8]) -> bool
     ensures { result ≡ list_all is_number_byte bytes.now }
 {
     bytes.iter().all(|byte| is_number_byte(*byte))
 }
 
+// Whether a byte is a letter or a digit of ASCII, '-', '.' or '_'.
 fn is_name_byte(byte: u8) -> bool
     ensures { result ≡ is_name_byte byte }
 {
     byte.is_ascii_alphanumeric() || byte == b'-' || byte == b'.' || byte == b'_'
 }
 
+// Whether a byte is a digit of base 16, ':' or '.'.
 fn is_number_byte(byte: u8) -> bool
     ensures { result ≡ is_number_byte byte }
 {

@@ -14,8 +14,8 @@ use httparse::{Error, Status};
 // The most fields of a head.
 const MOST_FIELDS: usize = 64;
 
-// The most bytes of a head.
-const MOST_HEAD: usize = 16_384;
+// The most bytes of the head of a reply.
+const MOST_REPLY_HEAD: usize = 16_384;
 
 /// The most bytes of a body.
 pub(crate) const MOST_BODY: usize = 1_048_576;
@@ -67,7 +67,7 @@ fn front_of_part(bytes: &[u8]) -> Result<Front, Fault>
     ensures ok { IfOk result (IsFront bytes.now) }
     ensures err { OnErr result (NeverReplies bytes.now) }
 {
-    if bytes.len() > MOST_HEAD {
+    if bytes.len() > MOST_REPLY_HEAD {
         return Err(Fault::TooLong);
     }
     Ok(Front::Part)
@@ -81,7 +81,7 @@ fn front_with(bytes: &[u8], fields: &[HeaderSpan], head: ResponseSpans) -> Resul
     ensures ok { IfOk result (IsFront bytes.now) }
     ensures err { OnErr result (NeverReplies bytes.now) }
 {
-    if head.len > MOST_HEAD {
+    if head.len > MOST_REPLY_HEAD {
         return Err(Fault::TooLong);
     }
     if is_interim(head.code) {

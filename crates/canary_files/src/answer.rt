@@ -39,6 +39,7 @@ pub(crate) enum Told {
 }
 
 impl Told {
+    // The status in the line: 400 of a refusal, 503 if memory ran out, or that of the answer.
     fn status(&self) -> u16
         ensures { result ≡ told_status self.now }
     {
@@ -49,6 +50,7 @@ impl Told {
         }
     }
 
+    // The body in the line, in JSON: the register's answer, or a code alone if it was not asked.
     fn body(&self) -> &str
         ensures { result.now ≡ told_body self.now }
     {
@@ -60,6 +62,7 @@ impl Told {
     }
 }
 
+// The body of a refused row: an object in JSON with its code alone.
 fn refusal_body(refusal: Refusal) -> &'static str
     ensures { result.now ≡ code_alone (refusal_code refusal) }
 {

@@ -32,6 +32,7 @@ pub struct Bounded<R> {
 impl<R: Read> Read for Bounded<R> {
     ghost remaining = { λ b. R.remaining b.source };
 
+    // Reads from the source, and counts what came. It fails once the most bytes were read.
     fn read(&mut self, buf: &mut [u8]) -> io::Result<usize>
         ensures bound { ReadsAtMost result buf.new }
         ensures bytes { ReadConsumes (R.remaining self.old.source) (R.remaining self.new.source)
@@ -54,6 +55,7 @@ impl<R: Read> Limited for Bounded<R> {
 
     ghost spare = { left_of };
 
+    // Whether the most bytes were read, so that the next read fails.
     fn is_spent(&self) -> bool {
         self.left == 0
     }

@@ -27,7 +27,7 @@ use thiserror::Error;
 pub const MOST_ROWS: u64 = 1_000_000_000;
 
 // How many measurements are read and written at once.
-const PAGE: u32 = 32_768;
+const ROWS_AT_ONCE: u32 = 32_768;
 
 /// Why a service's measurements were not all exported.
 #[derive(Clone, Copy, Debug, PartialEq, Eq, Error)]
@@ -54,6 +54,7 @@ impl From<Memory> for ExportFault {
 
     ghost from_gives = { λ _ made. made ≡ fault.Memory };
 
+    // For `?`: a refused allocation is `ExportFault::Memory`.
     fn from(_: Memory) -> ExportFault {
         ExportFault::Memory
     }
@@ -64,6 +65,7 @@ impl From<BookFault> for ExportFault {
 
     ghost from_gives = { λ fault made. made ≡ fault_of fault };
 
+    // For `?`: a fault of the book is the one of the same name here.
     fn from(fault: BookFault) -> ExportFault {
         match fault {
             BookFault::Memory => ExportFault::Memory,
@@ -140,6 +142,7 @@ fn find_service<B: Book>(book: &mut B, service: &Name) -> Result<(), ExportFault
     }
 }
 
+// Writes the first record, which names the columns.
 fn write_header<W: Write>(alloc: Global, out: &mut W) -> Result<(), ExportFault>
     ensures writes { Puts (W.contents out.old) (W.contents out.new) (record_text header) result }
     ensures why { IfErr result (TellsPage 0) }
@@ -213,10 +216,11 @@ fn write_page<W: Write, B: Book>(
     ensures sure { (B.state book.new).is_honest
         → IfErr result (IsExportFault (B.state book.old).is_sure) }
 {
-    let page = book.measurements(&source.service, from, PAGE)?;
+    let page = book.measurements(&source.service, from, ROWS_AT_ONCE)?;
     write_measurements(alloc, book, source, latest, from, page.as_slice(), out)
 }
 
+// Writes the rows of these measurements, after so many others. How many rows there are then.
 fn write_measurements<W: Write, B: Book>(
     alloc: Global,
     book: &mut B,
@@ -279,6 +283,7 @@ fn rows_text<B: Book>(
     Ok(records.into_text()?)
 }
 
+// The records with the row of one more measurement, for which its metric's name is looked up.
 fn with_row<B: Book>(
     alloc: Global,
     book: &mut B,

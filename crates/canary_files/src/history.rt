@@ -21,6 +21,7 @@ pub fn history_text(lines: &[Line], text: &mut String) -> Result<(), Memory>
     Ok(())
 }
 
+// The text of these lines, made apart: if memory runs out, the caller's text is as before.
 fn lines_text(alloc: Global, lines: &[Line]) -> Result<String, Memory>
     ensures { IfOk result (λ text. string_bytes text ≡ history_text lines.now) }
 {
@@ -31,6 +32,7 @@ fn lines_text(alloc: Global, lines: &[Line]) -> Result<String, Memory>
     Ok(text)
 }
 
+// The text with one more line: its moment, a space and its words, ended with LF.
 fn with_line(text: String, line: &Line) -> Result<String, Memory>
     ensures { IfOk result (λ more. string_bytes more
         ≡ string_bytes text ++ (line_text line.now ++ 10 ∷ [])) }

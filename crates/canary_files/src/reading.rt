@@ -43,6 +43,7 @@ pub(crate) fn has_begun<S>(file: &FileReader<S>) -> bool
     file.taken > 0
 }
 
+// A reader that takes the header as a record, and records of any number of fields.
 fn reader_of<S: Read>(alloc: Global, source: S) -> Reader<S>
     ensures stands { StandsBehind S.remaining (S.remaining source) result [] }
     ensures source { reader_source result ≡ source }

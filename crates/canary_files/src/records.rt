@@ -90,6 +90,7 @@ impl Records {
     }
 }
 
+// The first record of a file: the names of its nine columns.
 #[tactic(auto, unfolding(crate::specs::Rows::header))]
 fn header(alloc: Global) -> Result<ByteRecord, Memory>
     ensures fields { IfOk result (λ fields. fields_of fields ≡ header) }
@@ -107,6 +108,7 @@ fn header(alloc: Global) -> Result<ByteRecord, Memory>
     Ok(fields)
 }
 
+// The record of a measurement, with the number that its request is to have.
 fn row(
     alloc: Global,
     caller: &Name,
@@ -152,6 +154,7 @@ fn push_outcome(alloc: Global, fields: &mut ByteRecord, outcome: &Outcome) -> Re
     Ok(())
 }
 
+// The field of a result: its text, or no byte if it is a failure.
 fn result_words(alloc: Global, outcome: &Outcome) -> Result<String, Memory>
     ensures { IfOk result (λ words. string_bytes words ≡ result_field outcome.now) }
 {
@@ -162,6 +165,7 @@ fn result_words(alloc: Global, outcome: &Outcome) -> Result<String, Memory>
     Ok(words)
 }
 
+// The field of a failure: its text, or no byte if it is a result.
 fn failure_words(outcome: &Outcome) -> &str
     ensures { result.now ≡ failure_field outcome.now }
 {

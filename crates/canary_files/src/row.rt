@@ -15,6 +15,7 @@ use canary_base::moments::Moment;
 use canary_base::names::{Label, Name};
 use canary_base::numbers::Number;
 use canary_canonical::form::FormFault;
+use canary_canonical::plain::{LAST_ORDINAL, LAST_RUN};
 use canary_condition::outcome::{FailureText, Outcome, Value};
 use canary_plan::report::{Entry, Report};
 use csv::ByteRecord;
@@ -23,9 +24,6 @@ use std::str;
 
 // How many fields a row has.
 const FIELDS: usize = 9;
-
-// The greatest ordinal, and the greatest number of a run.
-const LAST: u32 = 1_000_000_000;
 
 /// Why a row is refused before the register is asked.
 #[derive(Clone, Copy, Debug, PartialEq, Eq)]
@@ -89,6 +87,7 @@ fn field(fields: &ByteRecord, place: usize) -> &[u8]
     fields.get(place).unwrap_or(&[])
 }
 
+// The report of one entry that a row asks for; `Unreadable` if a field of it is invalid.
 #[tactic(auto, unfolding(crate::specs::Rows::report_of))]
 fn report_of(alloc: Global, fields: &ByteRecord) -> Result<Report, FormFault>
     ensures { IsRead (report_of (fields_of fields.now)) result }
@@ -99,6 +98,7 @@ fn report_of(alloc: Global, fields: &ByteRecord) -> Result<Report, FormFault>
     report_with(service, run, entries).ok_or(FormFault::Unreadable)
 }
 
+// The list of the one entry of a row.
 fn entries_in(alloc: Global, fields: &ByteRecord) -> Result<Listed<Entry>, FormFault>
     ensures { IsRead (entries_in (fields_of fields.now)) result }
 {
@@ -113,7 +113,7 @@ fn report_with(service: Name, run: u32, entries: Listed<Entry>) -> Option<Report
     ensures { result ≡ report_with service run entries }
 {
     let count = entries.as_slice().len();
-    let is_within = 1 <= run && run <= LAST && 1 <= count && count <= 32;
+    let is_within = 1 <= run && run <= LAST_RUN && 1 <= count && count <= 32;
     if !is_within {
         return None;
     }
@@ -124,6 +124,7 @@ fn report_with(service: Name, run: u32, entries: Listed<Entry>) -> Option<Report
     })
 }
 
+// The entry in the last five fields of a row; `Unreadable` if one of them is invalid.
 fn entry_in(alloc: Global, fields: &ByteRecord) -> Result<Entry, FormFault>
     ensures { IsRead (entry_in (fields_of fields.now)) result }
 {
@@ -138,7 +139,7 @@ fn entry_in(alloc: Global, fields: &ByteRecord) -> Result<Entry, FormFault>
 fn entry_of(metric: Label, ordinal: u32, taken: Moment, outcome: Outcome) -> Option<Entry>
     ensures { result ≡ entry_of metric ordinal taken outcome }
 {
-    let is_within = 1 <= ordinal && ordinal <= LAST;
+    let is_within = 1 <= ordinal && ordinal <= LAST_ORDINAL;
     if !is_within {
         return None;
     }
@@ -164,6 +165,7 @@ fn outcome_in(alloc: Global, brought: &[u8], failed: &[u8]) -> Result<Outcome, F
     Err(FormFault::Unreadable)
 }
 
+// The failure that these bytes are; `Unreadable` unless they are text of 1 to 200 bytes.
 fn failure_in(alloc: Global, bytes: &[u8]) -> Result<Outcome, FormFault>
     ensures { IsRead (failure_in bytes.now) result }
 {
@@ -173,18 +175,21 @@ fn failure_in(alloc: Global, bytes: &[u8]) -> Result<Outcome, FormFault>
     Ok(Outcome::Failure(failure))
 }
 
+// The number of a request, 1 to 1,000,000,000, in decimal.
 fn number_in(bytes: &[u8]) -> Option<Number>
     ensures { result ≡ number_in bytes.now }
 {
     Number::new(word_in(bytes)?)
 }
 
+// The moment that these bytes spell, in seconds from 1970, in decimal.
 fn moment_in(bytes: &[u8]) -> Option<Moment>
     ensures { result ≡ moment_in bytes.now }
 {
     Moment::new(whole_in(bytes)?)
 }
 
+// The number of 32 bits that these bytes spell in decimal, without leading zeros.
 fn word_in(bytes: &[u8]) -> Option<u32>
     ensures { result ≡ word_in bytes.now }
 {
@@ -201,6 +206,7 @@ fn whole_in(bytes: &[u8]) -> Option<u64>
     }
 }
 
+// The result that these bytes spell, in the form in which it is stored: a number or a list.
 fn result_in(bytes: &[u8]) -> Option<Value>
     ensures { result ≡ result_in bytes.now }
 {
@@ -227,6 +233,7 @@ pub fn is_header(fields: &ByteRecord) -> bool
     fields.len() == FIELDS && says_who(fields) && says_where(fields) && says_what(fields)
 }
 
+// Whether the first three fields are the names of their columns: who asks, and of which service.
 #[tactic(auto, unfolding(crate::specs::Rows::says_who))]
 fn says_who(fields: &ByteRecord) -> bool
     ensures { result ≡ says_who (fields_of fields.now) }
@@ -234,6 +241,7 @@ fn says_who(fields: &ByteRecord) -> bool
     is_at(fields, 0, "caller") && is_at(fields, 1, "number") && is_at(fields, 2, "service")
 }
 
+// Whether the next three fields are the names of their columns: run, metric and ordinal.
 #[tactic(auto, unfolding(crate::specs::Rows::says_where))]
 fn says_where(fields: &ByteRecord) -> bool
     ensures { result ≡ says_where (fields_of fields.now) }
@@ -241,6 +249,7 @@ fn says_where(fields: &ByteRecord) -> bool
     is_at(fields, 3, "run") && is_at(fields, 4, "metric") && is_at(fields, 5, "ordinal")
 }
 
+// Whether the last three fields are the names of their columns: when, and what was measured.
 #[tactic(auto, unfolding(crate::specs::Rows::says_what))]
 fn says_what(fields: &ByteRecord) -> bool
     ensures { result ≡ says_what (fields_of fields.now) }
@@ -248,6 +257,7 @@ fn says_what(fields: &ByteRecord) -> bool
     is_at(fields, 6, "taken") && is_at(fields, 7, "result") && is_at(fields, 8, "failure")
 }
 
+// Whether the field at that place, from 0, is that text.
 fn is_at(fields: &ByteRecord, place: usize, text: &str) -> bool
     ensures { result ≡ is_at (fields_of fields.now) place text.now }
 {

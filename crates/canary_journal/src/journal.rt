@@ -12,11 +12,9 @@ use crate::entry::{Asked, Entry, Kept, Place, Refusal, Reply, Wish};
 use canary_base::error::Memory;
 use canary_base::lists::Text;
 use canary_base::names::Name;
+use canary_base::numbers::LAST_NUMBER;
 use std::alloc::Global;
 use std::marker::Model;
-
-// The greatest number of a request.
-const LAST: u32 = 1_000_000_000;
 
 /// What a caller asked of a desk since the journal began, in order. Contracts see it as a
 /// `JournalValue` of specs/Journals.
@@ -51,7 +49,7 @@ impl Journal {
     pub fn begun(alloc: Global, caller: Name, settled: u32) -> Option<Journal>
         ensures { SomeIff result (settled ≤ 1000000000) (begun caller settled) }
     {
-        if settled > LAST {
+        if settled > LAST_NUMBER {
             return None;
         }
         Some(Journal {
@@ -109,6 +107,7 @@ impl Journal {
         }
     }
 
+    // Why a wish may not be asked next under this number; none if it may.
     fn asked_refusal(&self, number: u32, wish: &Wish) -> Option<Refusal>
         ensures { result ≡ asked_refusal self.now number wish.now }
     {
@@ -116,7 +115,7 @@ impl Journal {
             Some(Refusal::Pending)
         } else if number != self.number() {
             Some(Refusal::Number)
-        } else if number > LAST {
+        } else if number > LAST_NUMBER {
             Some(Refusal::Spent)
         } else if is_used(self.kept.as_slice(), &wish.key) {
             Some(Refusal::KeyUsed)
@@ -125,6 +124,7 @@ impl Journal {
         }
     }
 
+    // Why no other body may be asked in the place of what is pending; none if one may.
     fn instead_refusal(&self, number: u32) -> Option<Refusal>
         ensures { result ≡ instead_refusal self.now number }
     {
@@ -136,6 +136,7 @@ impl Journal {
         }
     }
 
+    // Why a reply may not settle the number; none if it may. A late one needs a replaced wish.
     fn settled_refusal(&self, number: u32, reply: &Reply) -> Option<Refusal>
         ensures { result ≡ settled_refusal self.now number reply.now }
     {
@@ -171,6 +172,7 @@ impl Journal {
         }
     }
 
+    // Makes the wish pending, with no other body in its place.
     fn ask(&mut self, wish: Wish)
         requires { number_of self.old ≤ 1000000000 }
         ensures { self.new ≡ asks self.old wish }
@@ -181,6 +183,7 @@ impl Journal {
         });
     }
 
+    // Asks another body in the place of what is pending; changes nothing if nothing is.
     #[tactic(auto, using(crate::proofs::JournalLemmas::count_replaced))]
     fn replace(&mut self, body: Text)
         ensures { self.new ≡ asks_instead self.old body }
@@ -229,6 +232,7 @@ fn replaced(pending: Option<Asked>, body: Text) -> Option<Asked>
     }
 }
 
+// Whether the wish has a key, and that is this one.
 fn has_key(key: &str, wish: &Wish) -> bool
     ensures { result ≡ has_key key.now wish.now }
 {
@@ -238,6 +242,7 @@ fn has_key(key: &str, wish: &Wish) -> bool
     }
 }
 
+// Whether a settled wish has this key; false if there is no key.
 fn is_used(kept: &[Kept], key: &Option<Text>) -> bool
     ensures { result ≡ is_used kept.now key.now }
 {
@@ -247,18 +252,21 @@ fn is_used(kept: &[Kept], key: &Option<Text>) -> bool
     }
 }
 
+// Whether one of the settled wishes has this key.
 fn is_kept_under(kept: &[Kept], key: &str) -> bool
     ensures { result ≡ list_any (is_kept_under key.now) kept.now }
 {
     kept.iter().any(|kept| has_key(key, &kept.asked.wish))
 }
 
+// The place of the first settled wish with this key, from 0, or none.
 fn place_under(kept: &[Kept], key: &str) -> Option<usize>
     ensures { result ≡ position (is_kept_under key.now) kept.now }
 {
     kept.iter().position(|kept| has_key(key, &kept.asked.wish))
 }
 
+// Where a wish without a key is: pending if the pending one has no key and its intent, else new.
 fn place_without(pending: &Option<Asked>, intent: &str) -> Place
     ensures { result ≡ place_without pending.now intent.now }
 {
@@ -271,6 +279,7 @@ fn place_without(pending: &Option<Asked>, intent: &str) -> Place
     }
 }
 
+// Where a wish is whose key no settled one has: pending, new, or `KeyUsed` if its intent differs.
 fn place_pending(pending: &Option<Asked>, intent: &str, key: &str) -> Place
     ensures { result ≡ place_pending pending.now intent.now key.now }
 {
@@ -282,6 +291,7 @@ fn place_pending(pending: &Option<Asked>, intent: &str, key: &str) -> Place
     }
 }
 
+// Where a wish is whose key is that of this place: there, or `KeyUsed` if its intent differs.
 fn settled_place(kept: &[Kept], place: usize, intent: &str) -> Place
     ensures { result ≡ settled_place kept.now place intent.now }
 {

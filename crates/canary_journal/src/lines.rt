@@ -32,6 +32,7 @@ pub fn line(alloc: Global, entry: &Entry) -> Result<Text, Memory>
     Ok(Text::of(written(alloc, entry)?))
 }
 
+// The line as a string, with what the prover needs to know that it reads back as the entry.
 fn written(alloc: Global, entry: &Entry) -> Result<String, AllocError>
     ensures value { IfOk result (λ line. string_bytes line ≡ line_of entry.now) }
     ensures read { IfOk result (λ line. read (string_bytes line) ≡ Some (entry_data entry.now)) }
@@ -68,6 +69,7 @@ fn only(alloc: Global, key: &str, value: Value) -> Result<Value, AllocError>
     json!(in alloc; {key: value})
 }
 
+// The text in JSON, or null without one.
 fn text_or_null(alloc: Global, text: &Option<Text>) -> Result<Value, AllocError>
     ensures { IfOk result (λ value. view value ≡ data_or_null string text.now) }
 {
@@ -77,6 +79,7 @@ fn text_or_null(alloc: Global, text: &Option<Text>) -> Result<Value, AllocError>
     }
 }
 
+// The members of `Begun`: the caller, and how many requests were settled.
 fn begun_value(alloc: Global, caller: &Name, settled: u32) -> Result<Value, AllocError>
     ensures value { IfOk result (λ value. view value ≡ begun_data caller.now settled) }
     ensures name { IfOk result (λ _. IsTrue (is_name caller.now)) }
@@ -85,6 +88,7 @@ fn begun_value(alloc: Global, caller: &Name, settled: u32) -> Result<Value, Allo
     json!(in alloc; {"caller": caller.as_str(), "settled": settled})
 }
 
+// The members of `Asked`: the number, and those of the wish.
 fn asked_value(alloc: Global, number: u32, wish: &Wish) -> Result<Value, AllocError>
     ensures value { IfOk result (λ value. view value ≡ asked_data number wish.now) }
     ensures kept { IfOk result (λ _. IsTrue (is_word number)) }
@@ -94,6 +98,7 @@ fn asked_value(alloc: Global, number: u32, wish: &Wish) -> Result<Value, AllocEr
     Ok(Value::Object(members))
 }
 
+// Puts the members of `Asked` into an object, in ascending order of their keys.
 fn put_asked(
     alloc: Global,
     members: &mut Map<String, Value>,
@@ -113,6 +118,7 @@ fn put_asked(
     put(members, alloc, "number", Value::from(number))
 }
 
+// Puts a text into an object, under this key.
 fn put_text(
     alloc: Global,
     members: &mut Map<String, Value>,
@@ -126,6 +132,7 @@ fn put_text(
     put(members, alloc, key, text)
 }
 
+// Puts a text into an object, under this key, or null without one.
 fn put_text_or_null(
     alloc: Global,
     members: &mut Map<String, Value>,
@@ -139,6 +146,7 @@ fn put_text_or_null(
     put(members, alloc, key, text)
 }
 
+// The members of `Instead`: the number and the body.
 fn instead_value(alloc: Global, number: u32, body: &Text) -> Result<Value, AllocError>
     ensures value { IfOk result (λ value. view value ≡ instead_data number body.now) }
     ensures kept { IfOk result (λ _. IsTrue (is_word number)) }
@@ -146,6 +154,7 @@ fn instead_value(alloc: Global, number: u32, body: &Text) -> Result<Value, Alloc
     json!(in alloc; {"body": body.as_str(), "number": number})
 }
 
+// The members of `Settled`: the number, and those of the reply.
 fn settled_value(alloc: Global, number: u32, reply: &Reply) -> Result<Value, AllocError>
     ensures value { IfOk result (λ value. view value ≡ settled_data number reply.now) }
     ensures kept { IfOk result (λ _. IsTrue (is_word number)) }
@@ -164,6 +173,7 @@ fn settled_value(alloc: Global, number: u32, reply: &Reply) -> Result<Value, All
     Ok(Value::Object(members))
 }
 
+// Puts the members of `Settled` into an object, in ascending order of their keys.
 fn put_settled(
     alloc: Global,
     members: &mut Map<String, Value>,
@@ -214,6 +224,7 @@ fn spelt(alloc: Global, text: &str) -> Result<Entry, FormFault>
     }
 }
 
+// The entry in a JSON value: an object of one member, whose key is the kind of the entry.
 fn entry_in_value(alloc: Global, value: &Value) -> Result<Entry, FormFault>
     ensures { IsRead (by_key entry_of_kind (view value.now)) result }
 {
@@ -223,6 +234,7 @@ fn entry_in_value(alloc: Global, value: &Value) -> Result<Entry, FormFault>
     }
 }
 
+// The entry of this kind with the members of this value; `Unreadable` for another kind.
 #[tactic(auto, unfolding(crate::specs::Lines::entry_of_kind))]
 fn entry_of_kind(alloc: Global, kind: &str, value: &Value) -> Result<Entry, FormFault>
     ensures { IsRead (entry_of_kind kind.now (view value.now)) result }
@@ -236,6 +248,7 @@ fn entry_of_kind(alloc: Global, kind: &str, value: &Value) -> Result<Entry, Form
     }
 }
 
+// The `Begun` with these members; none if one is missing or invalid.
 fn begun_in(value: &Value) -> Option<Entry>
     ensures { result ≡ begun_in (view value.now) }
 {
@@ -244,6 +257,7 @@ fn begun_in(value: &Value) -> Option<Entry>
     Some(Entry::Begun { caller, settled })
 }
 
+// The `Asked` with these members; `Unreadable` if one is missing or invalid.
 fn asked_in(alloc: Global, value: &Value) -> Result<Entry, FormFault>
     ensures { IsRead (asked_in (view value.now)) result }
 {
@@ -252,6 +266,7 @@ fn asked_in(alloc: Global, value: &Value) -> Result<Entry, FormFault>
     Ok(Entry::Asked { number, wish })
 }
 
+// The `Instead` with these members; `Unreadable` if one is missing or invalid.
 fn instead_in(alloc: Global, value: &Value) -> Result<Entry, FormFault>
     ensures { IsRead (instead_in (view value.now)) result }
 {
@@ -260,6 +275,7 @@ fn instead_in(alloc: Global, value: &Value) -> Result<Entry, FormFault>
     Ok(Entry::Instead { number, body })
 }
 
+// The `Settled` with these members; `Unreadable` if one is missing or invalid.
 fn settled_in(alloc: Global, value: &Value) -> Result<Entry, FormFault>
     ensures { IsRead (settled_in (view value.now)) result }
 {
@@ -268,6 +284,7 @@ fn settled_in(alloc: Global, value: &Value) -> Result<Entry, FormFault>
     Ok(Entry::Settled { number, reply })
 }
 
+// The wish among the members of `Asked`.
 fn wish_in(alloc: Global, value: &Value) -> Result<Wish, FormFault>
     ensures { IsRead (wish_in (view value.now)) result }
 {
@@ -277,6 +294,7 @@ fn wish_in(alloc: Global, value: &Value) -> Result<Wish, FormFault>
     Ok(Wish { intent, key, body })
 }
 
+// The reply among the members of `Settled`.
 fn reply_in(alloc: Global, value: &Value) -> Result<Reply, FormFault>
     ensures { IsRead (reply_in (view value.now)) result }
 {
@@ -296,6 +314,7 @@ fn reply_in(alloc: Global, value: &Value) -> Result<Reply, FormFault>
     })
 }
 
+// The number as a status; none if it is no number from 0 to 65,535.
 fn status_in(value: &Value) -> Option<u16>
     ensures { result ≡ number_up_to 65535 (view value.now) }
 {
@@ -313,6 +332,7 @@ fn text_at(alloc: Global, value: &Value, key: &str) -> Result<Text, FormFault>
     text_in(alloc, value)
 }
 
+// The key of a wish, none if it is null; `Unreadable` if the member is missing or no text.
 fn key_at(alloc: Global, value: &Value) -> Result<Option<Text>, FormFault>
     ensures { IsRead (at (codes "key") (null_or as_str) (view value.now)) result }
 {

@@ -40,6 +40,7 @@ pub fn meaning_of(alloc: Global, status: u16, body: &str) -> Result<Meaning, Mem
     }
 }
 
+// What a reply with this status and this body means; without a code it is `Foreign`.
 fn meaning_in(status: u16, value: &Value) -> Meaning
     ensures { result ≡ meaning_in status (Some (view value.now)) }
 {
@@ -49,6 +50,7 @@ fn meaning_in(status: u16, value: &Value) -> Meaning
     }
 }
 
+// What a status and a code mean together. With `expected` the desk names the next number.
 fn meaning_with(status: u16, code: &str, expected: Option<u32>) -> Meaning
     ensures { result ≡ meaning_with status code.now expected }
 {
@@ -84,6 +86,7 @@ fn is_pair(status: u16, own: u16, has_code: bool) -> bool
     status == own && has_code
 }
 
+// Whether the code is this one. The contract has it as a list of one.
 fn is_code(code: &str, own: &str) -> bool
     ensures { result ≡ is_among (own.now ∷ []) code.now }
 {
@@ -100,6 +103,7 @@ fn is_of_fault(code: &str) -> bool
     matches!(code, "no-memory" | "storage")
 }
 
+// `Ahead` with the number that the desk expects; `Foreign` if the reply names no such number.
 fn ahead(expected: Option<u32>) -> Meaning
     ensures { result ≡ ahead expected }
 {

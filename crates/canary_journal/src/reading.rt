@@ -44,6 +44,7 @@ pub fn journal_of(alloc: Global, texts: &[Text]) -> Result<Journal, FormFault>
     }
 }
 
+// The journal that the first line begins; `Unreadable` if it begins none.
 fn begun(alloc: Global, text: &str) -> Result<Journal, FormFault>
     ensures { IsRead (option_and_then begun_by (entry_in text.now)) result }
 {
@@ -51,6 +52,7 @@ fn begun(alloc: Global, text: &str) -> Result<Journal, FormFault>
     begun_by(alloc, &entry).ok_or(FormFault::Unreadable)
 }
 
+// The journal that an entry begins; none if it is no `Begun`, or its count is too great.
 fn begun_by(alloc: Global, entry: &Entry) -> Option<Journal>
     ensures { result ≡ begun_by entry.now }
 {
@@ -71,6 +73,7 @@ fn go_on(alloc: Global, before: Journal, texts: &[Text]) -> Result<Journal, Form
     Ok(journal)
 }
 
+// The journal with this line more; `Unreadable` if it is no entry, or may not come next.
 fn with_line(alloc: Global, before: Journal, text: &str) -> Result<Journal, FormFault>
     ensures { IsRead (with_line before text.now) result }
 {

@@ -81,6 +81,7 @@ impl Attendant {
             && (self.has_room() || self.clients.idlest(self.now).is_some())
     }
 
+    // Whether there are fewer clients than the limit.
     fn has_room(&self) -> bool {
         u64::try_from(self.clients.count()).unwrap_or(u64::MAX) < self.limits.clients
     }

@@ -73,6 +73,7 @@ struct Input<'a> {
 }
 
 impl Read for Input<'_> {
+    // Reads in its turn, and else fails with `WouldBlock`. It notes whether bytes may be left.
     fn read(&mut self, buf: &mut [u8]) -> io::Result<usize> {
         if !self.is_open {
             return Err(ErrorKind::WouldBlock.into());
@@ -95,6 +96,7 @@ struct Output<'a> {
 }
 
 impl Write for Output<'_> {
+    // Writes to the client, or fails with `WouldBlock` while its replies are held back.
     fn write(&mut self, buf: &[u8]) -> io::Result<usize> {
         if !self.is_open {
             return Err(ErrorKind::WouldBlock.into());
@@ -103,6 +105,7 @@ impl Write for Output<'_> {
         stream.write(buf)
     }
 
+    // Does nothing: there is no buffer here.
     fn flush(&mut self) -> io::Result<()> {
         Ok(())
     }

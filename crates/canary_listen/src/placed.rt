@@ -13,6 +13,7 @@ pub trait Placed: Book {
 }
 
 impl Placed for MemoryBook {
+    // Always true: nobody can take records in memory away.
     fn is_in_place(&mut self) -> bool {
         true
     }

@@ -25,6 +25,7 @@ impl<'a, R: time::Clock> Slice<'a, R> {
 }
 
 impl<R: time::Clock> Pace for Slice<'_, R> {
+    // Whether less than `most` has passed since the begin; false if the clock cannot be read.
     fn goes_on(&mut self) -> bool {
         let Some(begin) = self.begin else {
             return false;
@@ -35,6 +36,7 @@ impl<R: time::Clock> Pace for Slice<'_, R> {
         }
     }
 
+    // What was said of queries when the turn began.
     fn answers_queries(&self) -> bool {
         self.answers_queries
     }

@@ -68,6 +68,7 @@ impl<'a, F: Write> Unblocked<'a, F> {
 }
 
 impl<F: Write> Write for Unblocked<'_, F> {
+    // Writes at most `MOST_BYTES`, or fails with `WouldBlock` if that would wait.
     fn write(&mut self, buf: &[u8]) -> io::Result<usize> {
         let is_open = match &mut self.gate {
             Some(gate) => gate.is_open()?,
@@ -79,6 +80,7 @@ impl<F: Write> Write for Unblocked<'_, F> {
         self.errors.write(&buf[..buf.len().min(MOST_BYTES)])
     }
 
+    // Flushes the writer, without a look at the gate.
     fn flush(&mut self) -> io::Result<()> {
         self.errors.flush()
     }

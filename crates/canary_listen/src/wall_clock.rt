@@ -45,6 +45,7 @@ impl<R: time::Clock> Clock for WallClock<'_, R> {
     // Nothing is known of the moments that are to come.
     ghost tells = { λ _ _. ⊥ };
 
+    // The present moment, or the last one again if the machine's clock cannot be read.
     fn now(&mut self) -> Moment {
         self.tell()
     }

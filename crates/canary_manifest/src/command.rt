@@ -45,6 +45,7 @@ impl From<FormFault> for WireFault {
 
     ghost from_gives = { λ form fault. fault ≡ wire_fault form };
 
+    // For `?`: a fault of a form, which is never `Unsupported`, is the one of the same name here.
     fn from(fault: FormFault) -> WireFault {
         match fault {
             FormFault::Unreadable => WireFault::Unreadable,
@@ -80,6 +81,7 @@ pub fn command_from_json(alloc: Global, bytes: &[u8]) -> Result<Command, WireFau
     }
 }
 
+// The command that is the only member of this object; `Unreadable` if there is no such member.
 fn command_in(alloc: Global, value: &Value) -> Result<Command, WireFault>
     ensures { IsReading (command_reading (view value.now)) result }
 {
@@ -89,6 +91,7 @@ fn command_in(alloc: Global, value: &Value) -> Result<Command, WireFault>
     }
 }
 
+// The command of that kind; all but templates and services are read in their canonical form.
 #[tactic(auto, unfolding(crate::specs::Commands::reading_of_kind))]
 fn command_of_kind(alloc: Global, kind: &str, value: &Value) -> Result<Command, WireFault>
     ensures { IsReading (reading_of_kind kind.now (view value.now)) result }
@@ -120,6 +123,7 @@ fn service_command(alloc: Global, value: &Value) -> Result<Command, WireFault>
     Ok(Command::Service(service_of(alloc, value)?))
 }
 
+// Whether the manifest in a registration asks for what the desk does not do.
 fn is_unsupported_service(value: &Value) -> bool
     ensures { result ≡ has (codes "manifest") is_unsupported_rollout (view value.now) }
 {

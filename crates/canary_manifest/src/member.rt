@@ -19,11 +19,9 @@ ghost use Rattle.canary_manifest.specs.Members.{is_negative_text, is_negative};
 use canary_base::durations::Seconds;
 use canary_base::lists::Text;
 use canary_canonical::form::{FormFault, number_up_to};
+use canary_metric::metric::GREATEST_LIMIT;
 use serde_json::Value;
 use std::alloc::Global;
-
-// The greatest count of a metric, and the greatest of its limits.
-const GREATEST_LIMIT: u32 = 1_000_000;
 
 // The longest pause, in seconds.
 const LONGEST_PAUSE: u32 = 31_536_000;
@@ -114,6 +112,7 @@ pub fn condition_at(alloc: Global, value: &Value, key: &str) -> Result<Option<Te
     }
 }
 
+// The text of a condition, or `None` if it is empty; `Unreadable` if it is no text.
 fn condition_in(alloc: Global, value: &Value) -> Result<Option<Text>, FormFault>
     ensures { IsRead (condition_in (view value.now)) result }
 {
@@ -135,6 +134,7 @@ pub fn duration_at(value: &Value, key: &str) -> Option<Option<Seconds>>
     }
 }
 
+// The duration that a text spells: `Some(None)` if the text is empty, `None` if it is invalid.
 fn duration_in(value: &Value) -> Option<Option<Seconds>>
     ensures { result ≡ duration_in (view value.now) }
 {
@@ -203,12 +203,14 @@ fn is_negative_text(text: &[u8]) -> bool
     }
 }
 
+// Whether each byte is a digit; so it is if there are no bytes.
 fn are_digits(text: &[u8]) -> bool
     ensures { result ≡ list_all is_ascii_digit text.now }
 {
     text.iter().all(|digit| digit.is_ascii_digit())
 }
 
+// Whether each byte is the digit 0; so it is if there are no bytes.
 fn are_zeros(text: &[u8]) -> bool
     ensures { result ≡ list_all (λ d. d == 48) text.now }
 {

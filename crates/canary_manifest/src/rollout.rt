@@ -60,6 +60,7 @@ pub fn canary_of(manifest: &Value) -> Option<&Value>
     member_of(strategy, "canary")
 }
 
+// The steps of a canary strategy, none if they are absent; `Unreadable` if it is no object.
 fn canary_steps(alloc: Global, canary: &Value) -> Result<Listed<Step>, FormFault>
     ensures { IsRead (canary_steps (view canary.now)) result }
 {
@@ -72,6 +73,7 @@ fn canary_steps(alloc: Global, canary: &Value) -> Result<Listed<Step>, FormFault
     }
 }
 
+// The steps of a list; `Unreadable` if it is no list.
 fn steps_of(alloc: Global, steps: &Value) -> Result<Listed<Step>, FormFault>
     ensures { IsRead (list_of step_in (view steps.now)) result }
 {
@@ -81,6 +83,7 @@ fn steps_of(alloc: Global, steps: &Value) -> Result<Listed<Step>, FormFault>
     }
 }
 
+// The step that each item is, in order, or the first fault.
 #[tactic(auto, using(crate::proofs::Items::read_in_turn))]
 fn steps_in(alloc: Global, list: &Vec<Value>) -> Result<Listed<Step>, FormFault>
     ensures { IsRead (each step_in (items_view list.now.items)) result }
@@ -144,6 +147,7 @@ fn templates_in(alloc: Global, analysis: &Value) -> Result<Listed<Name>, FormFau
     }
 }
 
+// The name in each item, in order; `Unreadable` if one has no valid name.
 #[tactic(auto, using(crate::proofs::Items::read_in_turn))]
 fn template_names(alloc: Global, list: &Vec<Value>) -> Result<Listed<Name>, FormFault>
     ensures { IsRead (each (in_member (codes "templateName") name_in)
@@ -164,6 +168,7 @@ pub fn template_name(template: &Value) -> Option<Name>
     name_in(member_of(template, "templateName")?)
 }
 
+// The analysis beside the steps, if there is one; `Unreadable` if the canary is no object.
 fn canary_background(alloc: Global, canary: &Value) -> Result<Option<Background>, FormFault>
     ensures { IsRead (canary_background (view canary.now)) result }
 {
@@ -214,6 +219,7 @@ pub(crate) fn is_unsupported_rollout(manifest: &Value) -> bool
         || member_of(manifest, "spec").is_some_and(is_unsupported_spec)
 }
 
+// Whether a `spec` is paused, or its strategy asks for what the desk does not do.
 fn is_unsupported_spec(spec: &Value) -> bool
     ensures { result ≡ is_unsupported_spec (view spec.now) }
 {
@@ -221,6 +227,7 @@ fn is_unsupported_spec(spec: &Value) -> bool
         || member_of(spec, "strategy").is_some_and(is_unsupported_strategy)
 }
 
+// Whether a strategy has `blueGreen`, or a canary that asks for what the desk does not do.
 fn is_unsupported_strategy(strategy: &Value) -> bool
     ensures { result ≡ is_unsupported_strategy (view strategy.now) }
 {
@@ -228,6 +235,7 @@ fn is_unsupported_strategy(strategy: &Value) -> bool
         || member_of(strategy, "canary").is_some_and(is_unsupported_canary)
 }
 
+// Whether a step, or the analysis beside them, asks for what the desk does not do.
 fn is_unsupported_canary(canary: &Value) -> bool
     ensures { result ≡ is_unsupported_canary (view canary.now) }
 {
@@ -235,6 +243,7 @@ fn is_unsupported_canary(canary: &Value) -> bool
         || member_of(canary, "analysis").is_some_and(is_unsupported_analysis)
 }
 
+// Whether one step of a list is unsupported; what is no list has no step.
 fn has_unsupported_step(steps: &Value) -> bool
     ensures { result ≡ some_item is_unsupported_step (view steps.now) }
 {
@@ -244,6 +253,7 @@ fn has_unsupported_step(steps: &Value) -> bool
     }
 }
 
+// Whether one of these steps asks for what the desk does not do.
 #[tactic(auto, using(crate::proofs::Items::tested_in_turn))]
 fn is_any_step_unsupported(list: &Vec<Value>) -> bool
     ensures { result ≡ any_item is_unsupported_step (items_view list.now.items) }
@@ -256,6 +266,7 @@ fn is_any_step_unsupported(list: &Vec<Value>) -> bool
     false
 }
 
+// Whether a step is of another kind than the desk's, or its analysis is unsupported.
 #[tactic(auto, unfolding(crate::specs::Rollouts::is_unsupported_step))]
 fn is_unsupported_step(step: &Value) -> bool
     ensures { result ≡ is_unsupported_step (view step.now) }
@@ -263,6 +274,7 @@ fn is_unsupported_step(step: &Value) -> bool
     has_other_member(step) || member_of(step, "analysis").is_some_and(is_unsupported_analysis)
 }
 
+// Whether a step has a member, not null, that no step of the desk has.
 fn has_other_member(step: &Value) -> bool
     ensures { result ≡ has_other_member (view step.now) }
 {
@@ -272,6 +284,7 @@ fn has_other_member(step: &Value) -> bool
     }
 }
 
+// Whether one of these members is not null and has a key that no step of the desk has.
 fn is_any_other(members: &Map<String, Value>) -> bool
     ensures { result ≡ any_other (members_view members.now.entries) }
 {
@@ -290,6 +303,7 @@ pub fn is_step_key(key: &str) -> bool
     key == "setWeight" || key == "pause" || key == "analysis"
 }
 
+// Whether an analysis has a dry run, measurement retention or a template of the cluster.
 fn is_unsupported_analysis(analysis: &Value) -> bool
     ensures { result ≡ is_unsupported_analysis (view analysis.now) }
 {
@@ -298,6 +312,7 @@ fn is_unsupported_analysis(analysis: &Value) -> bool
         || member_of(analysis, "templates").is_some_and(has_cluster_template)
 }
 
+// Whether one item of a list is a template of the cluster; what is no list has no item.
 fn has_cluster_template(templates: &Value) -> bool
     ensures { result ≡ some_item (has (codes "clusterScope") is_true) (view templates.now) }
 {
@@ -307,6 +322,7 @@ fn has_cluster_template(templates: &Value) -> bool
     }
 }
 
+// Whether one of these items is a template of the cluster.
 #[tactic(auto, using(crate::proofs::Items::tested_in_turn))]
 fn is_any_of_the_cluster(list: &Vec<Value>) -> bool
     ensures { result ≡ any_item (has (codes "clusterScope") is_true) (items_view list.now.items) }

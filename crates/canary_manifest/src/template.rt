@@ -50,6 +50,7 @@ pub(crate) fn template_of(alloc: Global, manifest: &Value) -> Result<TemplateSpe
     template_with(name, metrics, dry_run).ok_or(FormFault::Unreadable)
 }
 
+// The metrics of a list; `Unreadable` if it is no list.
 fn metrics_of(alloc: Global, value: &Value) -> Result<Listed<MetricSpec>, FormFault>
     ensures { IsRead (list_of metric_of (view value.now)) result }
 {
@@ -59,6 +60,7 @@ fn metrics_of(alloc: Global, value: &Value) -> Result<Listed<MetricSpec>, FormFa
     }
 }
 
+// The metric that each item is, in order, or the first fault.
 #[tactic(auto, using(crate::proofs::Items::read_in_turn))]
 fn metrics_in(alloc: Global, list: &Vec<Value>) -> Result<Listed<MetricSpec>, FormFault>
     ensures { IsRead (each metric_of (items_view list.now.items)) result }
@@ -140,6 +142,7 @@ fn dry_run_at(alloc: Global, spec: &Value) -> Result<Listed<DryRunName>, FormFau
     }
 }
 
+// The names in a list of dry runs; `Unreadable` if it is no list.
 fn dry_run_of(alloc: Global, value: &Value) -> Result<Listed<DryRunName>, FormFault>
     ensures { IsRead (list_of dry_run_name (view value.now)) result }
 {
@@ -149,6 +152,7 @@ fn dry_run_of(alloc: Global, value: &Value) -> Result<Listed<DryRunName>, FormFa
     }
 }
 
+// The name in each item, in order, or the first fault.
 #[tactic(auto, using(crate::proofs::Items::read_in_turn))]
 fn dry_run_in(alloc: Global, list: &Vec<Value>) -> Result<Listed<DryRunName>, FormFault>
     ensures { IsRead (each dry_run_name (items_view list.now.items)) result }
@@ -183,6 +187,7 @@ pub(crate) fn is_unsupported_template(manifest: &Value) -> bool
         || member_of(manifest, "spec").is_some_and(is_unsupported_analysis_spec)
 }
 
+// Whether a `spec` has templates, measurement retention or an unsupported metric.
 fn is_unsupported_analysis_spec(spec: &Value) -> bool
     ensures { result ≡ is_unsupported_analysis_spec (view spec.now) }
 {
@@ -191,6 +196,7 @@ fn is_unsupported_analysis_spec(spec: &Value) -> bool
         || member_of(spec, "metrics").is_some_and(has_unsupported_metric)
 }
 
+// Whether one metric of a list is unsupported; what is no list has no metric.
 fn has_unsupported_metric(metrics: &Value) -> bool
     ensures { result ≡ some_item is_unsupported_metric (view metrics.now) }
 {
@@ -200,6 +206,7 @@ fn has_unsupported_metric(metrics: &Value) -> bool
     }
 }
 
+// Whether one of these metrics asks for what the desk does not do.
 #[tactic(auto, using(crate::proofs::Items::tested_in_turn))]
 fn is_any_metric_unsupported(list: &Vec<Value>) -> bool
     ensures { result ≡ any_item is_unsupported_metric (items_view list.now.items) }
@@ -212,6 +219,7 @@ fn is_any_metric_unsupported(list: &Vec<Value>) -> bool
     false
 }
 
+// Whether a metric has a `consecutiveSuccessLimit`, or a `failureLimit` below 0.
 fn is_unsupported_metric(metric: &Value) -> bool
     ensures { result ≡ is_unsupported_metric (view metric.now) }
 {

@@ -240,12 +240,14 @@ fn put(bytes: &mut Vec<u8>, piece: Piece<'_>) -> Result<(), Memory>
     }
 }
 
+// Appends the tag that has the page loaded anew after so many seconds.
 fn put_refresh(bytes: &mut Vec<u8>, seconds: u64) -> Result<(), Memory>
     ensures { OnOk result (bytes.new.items ≡ bytes.old.items ++ bytes_of (Piece.Refresh seconds)) }
 {
     put_three(bytes, REFRESH, Buffer::new().format(seconds), "\">")
 }
 
+// Appends the attribute that leads to the element of that `id` on the page itself.
 fn put_link(bytes: &mut Vec<u8>, id: &str) -> Result<(), Memory>
     ensures { OnOk result
         (bytes.new.items ≡ bytes.old.items ++ codes " href=\"#" ++ escaped id.now ++ codes "\"") }
@@ -263,6 +265,7 @@ fn put_own(bytes: &mut Vec<u8>, text: &str) -> Result<(), Memory>
     Ok(())
 }
 
+// Appends two texts of the page's own, one after the other.
 fn put_two(bytes: &mut Vec<u8>, first: &str, second: &str) -> Result<(), Memory>
     ensures { OnOk result (bytes.new.items ≡ bytes.old.items ++ first.now ++ second.now) }
 {
@@ -270,6 +273,7 @@ fn put_two(bytes: &mut Vec<u8>, first: &str, second: &str) -> Result<(), Memory>
     put_own(bytes, second)
 }
 
+// Appends three texts of the page's own, one after another.
 fn put_three(bytes: &mut Vec<u8>, first: &str, second: &str, third: &str) -> Result<(), Memory>
     ensures { OnOk result
         (bytes.new.items ≡ bytes.old.items ++ first.now ++ second.now ++ third.now) }
@@ -295,6 +299,7 @@ fn put_escaped(bytes: &mut Vec<u8>, text: &[u8]) -> Result<(), Memory>
     Ok(())
 }
 
+// Appends how a page has a byte of a text: a reference, U+FFFD for a control, or the byte itself.
 fn put_escaped_byte(bytes: &mut Vec<u8>, byte: u8) -> Result<(), Memory>
     ensures { OnOk result (bytes.new.items ≡ bytes.old.items ++ escaped_byte byte) }
 {
@@ -319,12 +324,14 @@ fn put_escaped_byte(bytes: &mut Vec<u8>, byte: u8) -> Result<(), Memory>
     put_byte(bytes, byte)
 }
 
+// Whether the byte is a control, which no text of HTML may have: below the space, or DEL.
 fn is_control(byte: u8) -> bool
     ensures { result ≡ is_control byte }
 {
     byte <= 31 || byte == 127
 }
 
+// Appends a byte as it is.
 fn put_byte(bytes: &mut Vec<u8>, byte: u8) -> Result<(), Memory>
     ensures { OnOk result (bytes.new.items ≡ bytes.old.items ++ byte ∷ []) }
 {

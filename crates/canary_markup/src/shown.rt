@@ -50,6 +50,7 @@ fn put(text: &mut String, character: char, form: Form) -> Result<(), Memory>
     }
 }
 
+// Appends a mark as `\u` and four hexadecimal digits; no mark has more.
 fn put_escape(text: &mut String, code: u32) -> Result<(), Memory>
     ensures { OnOk result (string_bytes text.new
         ≡ string_bytes text.old ++ encode_utf8_all (escape code)) }
@@ -63,6 +64,7 @@ fn put_escape(text: &mut String, code: u32) -> Result<(), Memory>
     Ok(())
 }
 
+// The character of a hexadecimal digit, 0 to 9 or a to f.
 fn hex_digit(digit: u32) -> char
     requires { digit < 16 }
     ensures { result ≡ hex_digit digit }
@@ -87,6 +89,7 @@ fn is_mark(character: char) -> bool
         || is_between(code, 0x2066, 0x2069)
 }
 
+// Whether the code is in that range, with both its ends.
 fn is_between(code: u32, first: u32, last: u32) -> bool
     ensures { result ≡ is_between code first last }
 {

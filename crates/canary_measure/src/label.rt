@@ -62,6 +62,7 @@ fn front_len(units: Units) -> usize
     }
 }
 
+// The bytes of the letter for what is reported beside decimals: 0 if there is nothing, else 1.
 fn letter_len(beside: Beside) -> usize
     ensures value { result ≡ length (beside_text beside) }
     ensures few { result ≤ 1 }
@@ -90,6 +91,7 @@ fn shape_of(text: &[u8]) -> Option<Shape>
     }
 }
 
+// The shape that a letter and the rest spell: f and no rest, p or l and a count; else none.
 fn by_letter(letter: u8, rest: &[u8]) -> Option<Shape>
     ensures { result ≡ by_letter letter rest.now }
 {
@@ -137,6 +139,7 @@ fn count_of(digits: &[u8]) -> Option<u64>
     }
 }
 
+// The value of an ASCII digit, or none.
 fn digit_of(digit: u8) -> Option<u64>
     ensures { result ≡ digit_in digit }
 {
@@ -147,6 +150,7 @@ fn digit_of(digit: u8) -> Option<u64>
     }
 }
 
+// The number from 10 to 16 with this second digit, or none.
 fn teen_of(digit: u8) -> Option<u64>
     ensures { result ≡ teen_in digit }
 {

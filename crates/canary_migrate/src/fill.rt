@@ -47,6 +47,7 @@ pub(crate) fn make_tables<S: Alter>(tx: &mut Transaction<'_, S>) -> Result<(), S
     }
 }
 
+// The same, with the error of SQLite if it fails, and else with the result of `set_schema`.
 fn make<S: Alter>(tx: &mut Transaction<'_, S>) -> Result<usize, Error>
     ensures same_reference { tx.new.conn.ghost_name ≡ tx.old.conn.ghost_name }
     ensures made { HasCleanDisk (state S.Store tx.new.conn.now)
@@ -112,6 +113,7 @@ fn revisions_of(alloc: Global, templates: &[TemplateRow]) -> Result<Listed<Revis
     Ok(rows)
 }
 
+// Revision 1 of the template, with a copy of its text; or `Memory`.
 fn first_revision(alloc: Global, template: &TemplateRow) -> Result<RevisionRow, Memory>
     ensures { IfOk result (λ row. row ≡ first_revision template.now) }
 {
@@ -170,6 +172,7 @@ fn go_on<S: Alter>(
     insert(tx, revisions, bindings, counted)
 }
 
+// Inserts the revisions, then the bindings, then the tallies, up to the first error.
 fn insert<S: Alter>(
     tx: &mut Transaction<'_, S>,
     revisions: &[RevisionRow],

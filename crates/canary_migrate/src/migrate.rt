@@ -144,6 +144,7 @@ fn rewrite<S: Alter, G: Progress>(
     )
 }
 
+// Writes and judges in one transaction, which is committed only if neither failed.
 fn transact<S: Alter, G: Progress>(
     conn: &mut Connection<S>,
     alloc: Global,

@@ -53,6 +53,7 @@ fn names_at(alloc: Global, made: &ServiceSpec, step: Option<u32>) -> Result<List
     }
 }
 
+// The templates that the background names; no names if there is no background.
 fn background_names(alloc: Global, made: &ServiceSpec) -> Result<Listed<Name>, Memory>
     ensures { IfOk result (λ names. names ≡ names_at made.now None) }
 {
@@ -62,6 +63,7 @@ fn background_names(alloc: Global, made: &ServiceSpec) -> Result<Listed<Name>, M
     }
 }
 
+// Rows that bind the run, or attempt 0, to revision 1 of each of these templates; or `Memory`.
 fn bindings_to(
     alloc: Global,
     service: Name,
@@ -75,6 +77,7 @@ fn bindings_to(
     rows_of(alloc, service, run, revisions.as_slice())
 }
 
+// Revision 1 of the template of each name, in order; or `Memory`.
 fn first_of_each(alloc: Global, names: &[Name]) -> Result<Listed<Revision>, Memory>
     ensures { IfOk result (λ revisions. revisions ≡ map first_of names.now) }
 {
@@ -88,6 +91,7 @@ fn first_of_each(alloc: Global, names: &[Name]) -> Result<Listed<Revision>, Memo
     Ok(revisions)
 }
 
+// A row of the run, or of attempt 0, for each of these revisions, in order; or `Memory`.
 fn rows_of(
     alloc: Global,
     service: Name,

@@ -62,6 +62,7 @@ fn plain(alloc: Global, rows: Listed<TemplateRow>) -> Result<Listed<TemplateRow>
     }
 }
 
+// Whether `is_plain_text` holds of the text of each row; or `Memory`.
 fn are_plain(alloc: Global, rows: &[TemplateRow]) -> Result<bool, Memory>
     ensures { IfOk result (λ are. are ≡ list_all is_plain_row rows.now) }
 {
@@ -84,6 +85,7 @@ fn is_plain_text(alloc: Global, text: &str) -> Result<bool, Memory>
     }
 }
 
+// Whether no metric of the template has a `pass_after`.
 fn is_plain(spec: &TemplateSpec) -> bool
     ensures { result ≡ is_plain spec.now }
 {

@@ -46,6 +46,7 @@ pub(crate) fn with_passes<Q: Reader>(
     Ok(found)
 }
 
+// The tally with the passes that the measurements of its metric come to.
 fn tally<Q: Reader>(conn: &mut Q, alloc: Global, row: &FirstTally) -> Result<TallyRow, ReadFault>
     requires ready { Q.IsReady conn.old }
     ensures mode { Q.IsReady conn.new }
@@ -89,6 +90,7 @@ fn passes_with(passes: u32, row: &MeasurementRow) -> Result<u32, ReadFault>
     }
 }
 
+// The tally with these passes; `Broken` if no measurements can have such counts.
 fn counted(row: &FirstTally, passes: u32) -> Result<TallyRow, ReadFault>
     ensures found { IfOk result (λ tally. tally ≡ counted_with row.now passes) }
     ensures broken { result ≡ Err ReadFault.Broken → ¬ IsTallyWithin (counted_with row.now passes) }

@@ -45,6 +45,7 @@ fn is_current(conn: &mut Connection<FileStore<File>>) -> Result<bool, TableFault
     }
 }
 
+// Closes a file that was migrated, and answers true, or why that failed.
 fn closed(conn: Connection<FileStore<File>>) -> Result<bool, TableFault> {
     match conn.close() {
         Ok(()) => Ok(true),

@@ -76,6 +76,7 @@ impl From<Memory> for BookFault {
 
     ghost from_gives = { λ _ made. made ≡ fault.Memory };
 
+    // A refused allocation, as the fault of a book.
     fn from(_: Memory) -> BookFault {
         BookFault::Memory
     }

@@ -33,6 +33,7 @@ impl Model for Receipts {
 }
 
 impl Receipts {
+    // The receipts of a caller that has only this one, which is for number 1; or `Memory`.
     fn of_one(alloc: Global, receipt: Receipt) -> Result<Receipts, Memory>
         ensures { IfOk result (λ receipts. receipts ≡ receipt ∷ []) }
     {
@@ -41,12 +42,14 @@ impl Receipts {
         Ok(Receipts { receipts })
     }
 
+    // The receipts, the one for number 1 first.
     fn as_slice(&self) -> &[Receipt]
         ensures { result.now ≡ self.now }
     {
         self.receipts.as_slice()
     }
 
+    // Adds the receipt for the next number, or `Memory`; the receipts are then as before.
     fn push(&mut self, receipt: Receipt) -> Result<(), Memory>
         ensures ok { OnOk result (self.new ≡ self.old ++ receipt ∷ []) }
         ensures err { OnErr result (self.new ≡ self.old) }
@@ -55,6 +58,7 @@ impl Receipts {
         Ok(())
     }
 
+    // Removes the receipt for the last number, if there is one.
     fn pop(&mut self)
         ensures last { (before : List Receipt) (last : Receipt)
             → self.old ≡ before ++ last ∷ [] → self.new ≡ before }

@@ -55,6 +55,7 @@ impl Clock for StepClock {
 
     ghost tells = { λ c moment_at. TellsSteps c.0 c.1 moment_at };
 
+    // The coming moment; the clock moves on by its step, to the greatest moment at most.
     fn now(&mut self) -> Moment {
         let now = self.at;
         self.at = later(now, self.step);

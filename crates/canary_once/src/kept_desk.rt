@@ -79,6 +79,7 @@ impl KeptDesk {
     }
 }
 
+// The name of a template, under which its revisions are stored.
 fn name_of(template: &Template) -> Name
     ensures { result ≡ template.now.spec.name }
 {

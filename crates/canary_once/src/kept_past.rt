@@ -99,12 +99,14 @@ fn close(runs: &mut Vec<KeptRun>, closed: ClosedRun)
     }
 }
 
+// How many of the effects open a run: `reserve` takes room for so many runs.
 fn openings(effects: &[Effect]) -> usize
     ensures { result ≡ length (filter is_opening effects.now) }
 {
     effects.iter().filter(|effect| is_opening(effect)).count()
 }
 
+// How many of the effects record a measurement: `reserve` takes room for so many.
 fn measurements(effects: &[Effect]) -> usize
     ensures { result ≡ length (filter is_measurement effects.now) }
 {
@@ -114,24 +116,28 @@ fn measurements(effects: &[Effect]) -> usize
         .count()
 }
 
+// How many of the effects add a line to the history: `reserve` takes room for so many.
 fn lines(effects: &[Effect]) -> usize
     ensures { result ≡ length (filter is_line effects.now) }
 {
     effects.iter().filter(|effect| is_line(effect)).count()
 }
 
+// Whether the effect opens a run, which adds one to `runs`.
 fn is_opening(effect: &Effect) -> bool
     ensures { result ≡ is_opening effect.now }
 {
     matches!(effect, Effect::Opened(_))
 }
 
+// Whether the effect records a measurement, which adds one to `measurements`.
 fn is_measurement(effect: &Effect) -> bool
     ensures { result ≡ is_measurement effect.now }
 {
     matches!(effect, Effect::Measured(_))
 }
 
+// Whether the effect adds a line to `history`.
 fn is_line(effect: &Effect) -> bool
     ensures { result ≡ is_line effect.now }
 {

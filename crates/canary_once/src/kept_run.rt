@@ -75,6 +75,7 @@ impl KeptRun {
     }
 }
 
+// The open run of that number, which has its tallies; none if no such run is open.
 fn open_run(number: u32, open_runs: &[OpenRun]) -> Option<&OpenRun>
     ensures { option_copied result ≡ find (has_number number) open_runs.now }
 {

@@ -74,10 +74,12 @@ impl Book for MemoryBook {
       is_sure = true;
     } };
 
+    // Counts the caller's receipts, of which each settled request has one; it cannot fail.
     fn settled(&mut self, caller: &Name) -> Result<u32, BookFault> {
         Ok(self.callers.count(caller))
     }
 
+    // A copy of the receipt under that number, if there is one, or `Memory`.
     fn receipt(&mut self, caller: &Name, number: Number) -> Result<Option<Receipt>, BookFault> {
         match self.callers.receipt(caller, number) {
             Some(receipt) => Ok(Some(receipt.copy(self.alloc)?)),
@@ -85,10 +87,12 @@ impl Book for MemoryBook {
         }
     }
 
+    // Copies of the newest revisions of the templates with these names, or `Memory`.
     fn templates(&mut self, names: &[Name]) -> Result<Templates, BookFault> {
         Ok(templates_named(self.alloc, self.desk.templates(), names)?)
     }
 
+    // A copy of the service as it is stored, not passed to any moment, or `Memory`.
     fn service(&mut self, name: &Name) -> Result<Option<Service>, BookFault> {
         match self.desk.services().service(*name) {
             Some(service) => Ok(Some(service.copy(self.alloc)?)),
@@ -96,14 +100,17 @@ impl Book for MemoryBook {
         }
     }
 
+    // A copy of the service's history as it is stored, or `Memory`; empty for an unknown service.
     fn history(&mut self, name: &Name) -> Result<Listed<Line>, BookFault> {
         Ok(copy_lines(self.alloc, self.desk.services().history(*name))?)
     }
 
+    // The record of that run, if there is one, or `Memory`.
     fn run(&mut self, name: &Name, number: Number) -> Result<Option<RunRecord>, BookFault> {
         Ok(self.desk.services().run(self.alloc, *name, number.get())?)
     }
 
+    // A copy of a `page` of the service's measurements, or `Memory`; empty for an unknown service.
     fn measurements(
         &mut self,
         name: &Name,
@@ -114,6 +121,7 @@ impl Book for MemoryBook {
         Ok(copy_measurements(self.alloc, page(all, from, most))?)
     }
 
+    // Settles by `settle`, after it recalls for the prover the laws of the desk that this needs.
     fn commit(&mut self, settlement: Settlement) -> Result<(), BookFault> {
         desk_laws::in_order();
         desk_laws::sound();
@@ -166,6 +174,7 @@ fn templates_named(alloc: Global, known: &Revisions, names: &[Name]) -> Result<T
     Ok(found)
 }
 
+// A copy of the lines, in order, or `Memory`.
 fn copy_lines(alloc: Global, lines: &[Line]) -> Result<Listed<Line>, Memory>
     ensures { IfOk result (λ copies. copies ≡ lines.now) }
 {
@@ -182,6 +191,7 @@ fn page(all: &[Recorded], from: u64, most: u32) -> &[Recorded]
     &rest[..count]
 }
 
+// A copy of the measurements, in order, or `Memory`.
 fn copy_measurements(alloc: Global, all: &[Recorded]) -> Result<Listed<Recorded>, Memory>
     ensures { IfOk result (λ copies. copies ≡ all.now) }
 {

@@ -44,6 +44,7 @@ pub fn post<B: Book>(
     }
 }
 
+// The reply to a request: new at the caller's next number, a repeat below it, and ahead above it.
 fn reply<B: Book>(
     alloc: Global,
     book: &mut B,
@@ -148,12 +149,14 @@ fn repeat(alloc: Global, receipt: Option<Receipt>, command: &Command) -> Result<
     }
 }
 
+// The conflict for a number that is settled, but not with the same command.
 fn refuse_reused(alloc: Global) -> Result<Reply, Memory>
     ensures { IfOk result (λ reply. reply ≡ reused_reply) }
 {
     Reply::of_code(alloc, ReplyStatus::Conflict, "reused")
 }
 
+// The conflict for a number above the caller's next one, which is `expected`.
 fn refuse_ahead(alloc: Global, expected: u64) -> Result<Reply, Memory>
     ensures { IfOk result (λ reply. reply ≡ ahead_reply expected) }
 {

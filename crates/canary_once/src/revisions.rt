@@ -32,6 +32,7 @@ impl Model for RevisionList {
 }
 
 impl RevisionList {
+    // The revisions of a template that has only this one, number 1; or `Memory`.
     fn of_one(alloc: Global, template: Template) -> Result<RevisionList, Memory>
         ensures { IfOk result (λ revisions. revisions ≡ template ∷ []) }
     {
@@ -47,6 +48,7 @@ impl RevisionList {
         self.revisions.as_slice().last()
     }
 
+    // Adds the revision with the next number, or `Memory`; the revisions are then as before.
     fn push(&mut self, template: Template) -> Result<(), Memory>
         ensures ok { OnOk result (self.new ≡ self.old ++ template ∷ []) }
         ensures err { OnErr result (self.new ≡ self.old) }

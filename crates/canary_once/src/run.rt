@@ -46,6 +46,7 @@ pub fn run<B: Book>(alloc: Global, book: &mut B, events: &[Event]) -> Result<Vec
     Ok(answers)
 }
 
+// The answer to one event: by `post` if it is a request, by `view` if it is a query.
 fn answer<B: Book>(alloc: Global, book: &mut B, event: &Event) -> Answer
     ensures { IsAnsweredBy (B.state book.old) (B.state book.new) event.now result }
 {

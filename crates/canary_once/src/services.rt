@@ -118,6 +118,7 @@ impl Services {
         Ok(())
     }
 
+    // The service of that name with its past, if there is one.
     fn kept(&self, name: Name) -> Option<&KeptService>
         ensures { option_copied result ≡ map.get self.now name }
     {

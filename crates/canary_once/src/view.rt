@@ -30,6 +30,7 @@ pub fn view<B: Book>(alloc: Global, book: &mut B, moment: Moment, query: &Query)
     }
 }
 
+// The reply to a query, or the fault that `view` answers by 503; it recalls laws for the prover.
 fn look<B: Book>(
     alloc: Global,
     book: &mut B,
@@ -69,6 +70,7 @@ fn show<B: Book>(
     }
 }
 
+// The reply with the stored history, and after it the lines of the passed service's effects.
 fn show_history<B: Book>(
     alloc: Global,
     book: &mut B,
@@ -83,6 +85,7 @@ fn show_history<B: Book>(
     Ok(view_text::history_reply(alloc, passed.service.name(), lines.as_slice())?)
 }
 
+// The reply with the stored run, as the passed service's effects leave it, or that it is unknown.
 fn show_run<B: Book>(
     alloc: Global,
     book: &mut B,

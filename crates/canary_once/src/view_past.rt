@@ -26,6 +26,7 @@ pub(crate) fn lines_after(history: Listed<Line>, effects: &[Effect]) -> Result<L
     Ok(lines)
 }
 
+// The lines after one effect, which adds a line at the end or leaves them as they are.
 fn lines_then(lines: Listed<Line>, effect: &Effect) -> Result<Listed<Line>, Memory>
     ensures { IfOk result (λ more. more ≡ lines_then lines effect.now) }
 {
@@ -37,6 +38,7 @@ fn lines_then(lines: Listed<Line>, effect: &Effect) -> Result<Listed<Line>, Memo
     }
 }
 
+// The lines with a copy of this one at the end, or `Memory`.
 fn with_line(lines: Listed<Line>, line: &Line) -> Result<Listed<Line>, Memory>
     ensures { IfOk result (λ more. more ≡ lines ++ line.now ∷ []) }
 {
@@ -70,6 +72,7 @@ pub(crate) fn record_after(
     Ok(record)
 }
 
+// The run of that number, if there is one, after an effect, which may open or close it.
 fn record_then(
     alloc: Global,
     number: u32,
@@ -86,6 +89,7 @@ fn record_then(
     }
 }
 
+// The run of that number, if it was found, else the one that is opened if it has that number.
 fn opened_of(
     alloc: Global,
     number: u32,
@@ -106,6 +110,7 @@ fn opened_of(
     }
 }
 
+// The record of a run that was just opened: not closed, and no metric of it measured.
 fn opened_record(alloc: Global, opening: &Opening) -> Result<RunRecord, Memory>
     ensures { IfOk result (λ run. run ≡ opened_record opening.now) }
 {
@@ -119,6 +124,7 @@ fn opened_record(alloc: Global, opening: &Opening) -> Result<RunRecord, Memory>
     })
 }
 
+// The run that was found, if there is one, after `closing`, which may be of another run.
 fn closed(closing: &Closing, found: Option<RunRecord>) -> Option<RunRecord>
     ensures { result ≡ option_map (closed_record closing.now) found }
 {
@@ -128,6 +134,7 @@ fn closed(closing: &Closing, found: Option<RunRecord>) -> Option<RunRecord>
     }
 }
 
+// The run with `closing` in it if that has its number; another run stays as it is.
 fn closed_record(closing: &Closing, run: RunRecord) -> RunRecord
     ensures { result ≡ closed_record closing.now run }
 {

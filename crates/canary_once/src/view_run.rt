@@ -37,6 +37,7 @@ fn run_front(alloc: Global, run: &RunRecord) -> Result<String, Memory>
     Ok(format!(in alloc; "{{\"closed\":{closed},\"code\":\"ok\",\"metrics\":{metrics}")?)
 }
 
+// The second, from the start of 1970, at which the run was closed; none while it is open.
 fn closed_at(run: &RunRecord) -> Option<u64>
     ensures { result ≡ closed_at run.now.closed }
 {
@@ -66,6 +67,7 @@ fn run_back(alloc: Global, run: &RunRecord) -> Result<String, Memory>
     Ok(format!(in alloc; ",\"step\":{step},\"verdict\":\"{verdict}\"}}")?)
 }
 
+// The step of the run, from 0; none for the background run.
 fn step_of(run: &RunRecord) -> Option<u64>
     ensures { result ≡ run.now.step }
 {
@@ -75,6 +77,7 @@ fn step_of(run: &RunRecord) -> Option<u64>
     }
 }
 
+// The verdict at which the run was closed, or `Running` while it is open.
 fn verdict_in(run: &RunRecord) -> Phase
     ensures { result ≡ verdict_in run.now.closed }
 {
@@ -110,6 +113,7 @@ fn metrics_text(alloc: Global, run: &RunRecord, metrics: &[Metric]) -> Result<St
     Ok(text)
 }
 
+// The text of one metric of a run: an object in JSON, joined from three parts.
 fn metric_text(
     alloc: Global,
     run: &RunRecord,
@@ -144,6 +148,7 @@ fn metric_front(
     )?)
 }
 
+// The truth value as JSON writes it.
 fn bool_text(value: bool) -> &'static str
     ensures { result.now ≡ bool_text value }
 {

@@ -68,6 +68,7 @@ pub(crate) fn run_reply(
     }
 }
 
+// The text that shows a service: an object in JSON, joined from three parts.
 fn service_text(alloc: Global, service: &Service) -> Result<String, Memory>
     ensures { IfOk result (λ text. string_bytes text
         ≡ service_view service.now.stand service.now.runs) }
@@ -102,6 +103,7 @@ fn service_front(alloc: Global, service: &Service) -> Result<String, Memory>
     )?)
 }
 
+// The word for what holds the release: its step's run, its background run, both or neither.
 fn hold_text(step: bool, background: bool) -> &'static str
     ensures { result.now ≡ hold_text step background }
 {
@@ -150,6 +152,7 @@ fn numbers_text(alloc: Global, runs: &[OpenRun]) -> Result<String, Memory>
     Ok(text)
 }
 
+// The number of an open run, in decimal.
 fn number_text(alloc: Global, run: &OpenRun) -> Result<String, Memory>
     ensures { IfOk result (λ text. string_bytes text ≡ number_text run.now) }
 {
@@ -170,6 +173,7 @@ pub(crate) fn with_item(text: String, later: bool, item: &str) -> Result<String,
     Ok(text)
 }
 
+// The text that shows a history: an object in JSON with the lines in order and the service's name.
 fn history_text(alloc: Global, name: Name, lines: &[Line]) -> Result<String, Memory>
     ensures { IfOk result (λ text. string_bytes text ≡ history_view name lines.now) }
 {
@@ -190,6 +194,7 @@ fn lines_text(alloc: Global, lines: &[Line]) -> Result<String, Memory>
     Ok(text)
 }
 
+// The line in quotes: its moment, a space and the words of its event.
 fn quoted_line(alloc: Global, line: &Line) -> Result<String, Memory>
     ensures { IfOk result (λ text. string_bytes text ≡ quoted_line line.now) }
 {

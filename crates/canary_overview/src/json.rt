@@ -31,12 +31,14 @@ fn front(alloc: Global, service: &Service) -> Result<String, Memory> {
     Ok(format!(in alloc; "],\"stable\":\"{stable}\",\"status\":\"{status}\",\"step\":{step}")?)
 }
 
+// The rest of a line, from the number of steps on, with the newline that ends it.
 fn back(alloc: Global, service: &Service) -> Result<String, Memory> {
     let steps = service.strategy().steps().len();
     let (version, weight) = (service.version(), service.weight());
     Ok(format!(in alloc; ",\"steps\":{steps},\"version\":\"{version}\",\"weight\":{weight}}}\n")?)
 }
 
+// Adds a comma, unless the place is 0: nothing comes before the first item of a list.
 fn add_comma(text: &mut String, place: usize) -> Result<(), Memory> {
     if place > 0 {
         text.push_str(",")?;
@@ -44,6 +46,7 @@ fn add_comma(text: &mut String, place: usize) -> Result<(), Memory> {
     Ok(())
 }
 
+// Adds the object of an open run: its metrics, its number, its step and its templates.
 fn add_run(alloc: Global, text: &mut String, run: &OpenRun) -> Result<(), Memory> {
     text.push_str("{\"metrics\":[")?;
     let metrics = run.analysis.metrics().iter().zip(run.tallies.as_slice());
@@ -68,6 +71,7 @@ fn number_and_step(alloc: Global, run: u32, step: Option<u32>) -> Result<String,
     }
 }
 
+// Adds the object of a template: its name, and the number of the revision that the run is bound to.
 fn add_template(alloc: Global, text: &mut String, revision: Revision) -> Result<(), Memory> {
     let (template, number) = (revision.template, revision.number);
     let value = format!(in alloc; "{{\"name\":\"{template}\",\"revision\":{number}}}")?;
@@ -75,6 +79,7 @@ fn add_template(alloc: Global, text: &mut String, revision: Revision) -> Result<
     Ok(())
 }
 
+// Adds the object of a metric of an open run: how many are counted, when it is due, and its phase.
 fn add_metric(
     alloc: Global,
     text: &mut String,
@@ -102,6 +107,7 @@ fn add_due(text: &mut String, due: u64, phase: Phase) -> Result<(), Memory> {
     }
 }
 
+// Adds a moment as a text in quotes, as RFC 3339 writes it.
 fn add_moment(text: &mut String, moment: Moment) -> Result<(), Memory> {
     text.push_str("\"")?;
     moment.text(text)?;
@@ -109,6 +115,7 @@ fn add_moment(text: &mut String, moment: Moment) -> Result<(), Memory> {
     Ok(())
 }
 
+// The value of `passAfter`, null for a metric without it, then the member `passes` and a comma.
 fn passes(alloc: Global, wanted: Option<u32>, passes: u32) -> Result<String, Memory> {
     match wanted {
         Some(wanted) => Ok(format!(in alloc; "{wanted},\"passes\":{passes},")?),

@@ -3,9 +3,9 @@
 //!
 //! No contract says what a text has. Callers may rest on this: services stand in the order in which
 //! they were added, each as it is once it has passed to its moment, and a fault is `Memory` alone.
-//! In the format of Prometheus they stand so in each family; no sample has a timestamp; if no service
-//! is added twice, no series stands twice; and the text ends with a newline, as each other one that
-//! has a line.
+//! In the format of Prometheus they stand so in each family; no sample has a timestamp; if no
+//! service is added twice, no series stands twice; and the text ends with a newline, as each other
+//! one that has a line.
 //!
 //! In use (canary_programs, src/overview.rt):
 //!

@@ -85,6 +85,7 @@ impl Overview {
         }
     }
 
+    // Adds a service's row to one table, and a row for each metric of its open runs to the other.
     fn add_rows(&mut self, service: &Service) -> Result<(), Memory> {
         self.services.push(service_row(self.alloc, service)?)?;
         for run in service.open_runs() {
@@ -105,6 +106,7 @@ impl Overview {
         }
     }
 
+    // The table of services, and after it that of runs, unless this has its heading alone.
     fn tables(&self) -> Result<String, Memory> {
         let text = self.services.text()?;
         if self.runs.has_rows() {
@@ -123,6 +125,7 @@ fn with_table(text: String, table: &Table) -> Result<String, Memory> {
     Ok(text)
 }
 
+// The cells of a service, in the order of `SERVICE_TITLES`.
 fn service_row(alloc: Global, service: &Service) -> Result<Vec<String>, Memory> {
     let (step, steps) = (service.step(), service.strategy().steps().len());
     let mut row = Vec::new(alloc);
@@ -160,6 +163,7 @@ fn add_run(
     Ok(())
 }
 
+// The cells of a metric of an open run, in the order of `RUN_TITLES`.
 fn metric_row(
     alloc: Global,
     service: Name,
@@ -187,6 +191,7 @@ fn name_of(alloc: Global, label: Label) -> Result<String, Memory> {
     Ok(String::from_str(alloc, Shown::or_whole(label.as_str()).name)?)
 }
 
+// Which analysis a run is of: that of its step, or of the background if it has none.
 fn analysis(alloc: Global, step: Option<u32>) -> Result<String, Memory> {
     match step {
         Some(step) => Ok(format!(in alloc; "step {step}")?),
@@ -203,6 +208,7 @@ fn templates_text(alloc: Global, revisions: &[Revision]) -> Result<String, Memor
     Ok(text)
 }
 
+// Adds one template with the number of its revision, after a comma if it is not the first.
 fn add_revision(alloc: Global, text: &mut String, revision: Revision) -> Result<(), Memory> {
     if !text.is_empty() {
         text.push_str(",")?;

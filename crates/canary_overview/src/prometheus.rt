@@ -90,11 +90,13 @@ impl Families {
         self.add_runs(labels.as_str(), service)
     }
 
+    // Adds the sample of a service that is always 1: its labels say both versions.
     fn add_versions(&mut self, labels: &str, service: &Service) -> Result<(), Memory> {
         let labels = with_versions(self.alloc, labels, service)?;
         self.info.add(self.alloc, labels.as_str(), 1)
     }
 
+    // Adds a sample for each status that there is, so that no series ends when the status changes.
     fn add_status(&mut self, labels: &str, status: Status) -> Result<(), Memory> {
         for other in STATUSES {
             self.add_one_status(labels, other, other == status)?;
@@ -102,12 +104,14 @@ impl Families {
         Ok(())
     }
 
+    // Adds the sample of one status: 1 if the service has it, else 0.
     fn add_one_status(&mut self, labels: &str, of: Status, is_so: bool) -> Result<(), Memory> {
         let labels = with_status(self.alloc, labels, of)?;
         self.status
             .add(self.alloc, labels.as_str(), u64::from(is_so))
     }
 
+    // Adds the samples that are one number of a service each, and 1 or 0 for whether it is held.
     fn add_numbers(&mut self, labels: &str, service: &Service) -> Result<(), Memory> {
         let (alloc, steps) = (self.alloc, service.strategy().steps().len() as u64);
         let is_held = service.step_hold() || service.background_hold();
@@ -117,6 +121,7 @@ impl Families {
         self.held.add(alloc, labels, u64::from(is_held))
     }
 
+    // Adds the samples of the open runs, how many there are, and the largest lateness of them all.
     fn add_runs(&mut self, labels: &str, service: &Service) -> Result<(), Memory> {
         let (alloc, runs) = (self.alloc, service.open_runs());
         for run in runs {
@@ -127,6 +132,7 @@ impl Families {
             .add(alloc, labels, latest_of(runs, service.last()))
     }
 
+    // Adds a sample for each metric of a run, except for a completed one.
     fn add_run(&mut self, labels: &str, run: &OpenRun, now: Moment) -> Result<(), Memory> {
         for (metric, tally) in run.analysis.metrics().iter().zip(run.tallies.as_slice()) {
             if let Some(late) = late_of(run, metric, tally, now) {
@@ -136,6 +142,7 @@ impl Families {
         Ok(())
     }
 
+    // Adds the sample of one metric: for how many seconds its next measurement has been due.
     fn add_late(
         &mut self,
         labels: &str,
@@ -154,6 +161,7 @@ impl Families {
         Ok(text)
     }
 
+    // Adds the families to a text, in the order in which they are declared.
     fn add_to(&self, text: &mut String) -> Result<(), Memory> {
         self.info.add_to(self.alloc, text)?;
         self.status.add_to(self.alloc, text)?;
@@ -195,21 +203,25 @@ impl Family {
         Ok(text.push_str(self.lines.as_str())?)
     }
 
+    // The two lines above the samples: what the family is of, and that it is a gauge.
     fn comments(&self, alloc: Global) -> Result<String, Memory> {
         let (name, help) = (self.name, self.help);
         Ok(format!(in alloc; "# HELP canary_{name} {help}\n# TYPE canary_{name} gauge\n")?)
     }
 }
 
+// The label by which each sample names its service; the others come after it.
 fn service_label(alloc: Global, service: Name) -> Result<String, Memory> {
     Ok(format!(in alloc; "service=\"{service}\"")?)
 }
 
+// These labels, and after them the version of the last release and the stable one.
 fn with_versions(alloc: Global, labels: &str, service: &Service) -> Result<String, Memory> {
     let (version, stable) = (service.version(), service.stable());
     Ok(format!(in alloc; "{labels},version=\"{version}\",stable=\"{stable}\"")?)
 }
 
+// These labels, and after them that of a status.
 fn with_status(alloc: Global, labels: &str, status: Status) -> Result<String, Memory> {
     let status = status.text();
     Ok(format!(in alloc; "{labels},status=\"{status}\"")?)
@@ -229,6 +241,7 @@ fn with_metric(
     Ok(format!(in alloc; "{labels},metric=\"{shown}\",label=\"{metric}\"")?)
 }
 
+// These labels, and after them the number of a run and its analysis: a step's, or the background's.
 fn with_run(alloc: Global, labels: &str, run: &OpenRun) -> Result<String, Memory> {
     let number = run.number;
     match run.step {
@@ -254,6 +267,7 @@ fn latest_of(runs: &[OpenRun], now: Moment) -> u64 {
     latest
 }
 
+// The largest number of seconds for which a measurement of this run has been due, or 0.
 fn latest_of_run(run: &OpenRun, now: Moment) -> u64 {
     let mut latest = 0;
     for (metric, tally) in run.analysis.metrics().iter().zip(run.tallies.as_slice()) {

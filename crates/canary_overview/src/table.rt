@@ -82,6 +82,7 @@ fn with_row(text: String, row: &[String], widths: &[usize]) -> Result<String, Me
     Ok(text)
 }
 
+// The text with so many spaces after it.
 fn with_spaces(text: String, count: usize) -> Result<String, Memory> {
     let mut text = text;
     for _ in 0..count {

@@ -35,6 +35,7 @@ pub(crate) struct Attempt {
 }
 
 impl Attempt {
+    // An attempt that is under way since that moment, and has no run yet.
     fn begin(version: Label, begun: Moment) -> Attempt {
         Attempt {
             version,
@@ -55,6 +56,7 @@ impl Attempt {
         self.first_run.saturating_add(place)
     }
 
+    // Counts one more run. The first one's number is noted: the others have the next ones in turn.
     fn add_run(&mut self, number: u32) {
         if self.runs == 0 {
             self.first_run = number;
@@ -62,6 +64,7 @@ impl Attempt {
         self.runs = self.runs.saturating_add(1);
     }
 
+    // Notes when and how it ended, unless that is noted: only the first ending counts.
     fn end(&mut self, moment: Moment, ending: Ending) {
         if self.end.is_none() {
             self.end = Some((moment, ending));
@@ -86,6 +89,7 @@ pub(crate) fn attempts_of(alloc: Global, lines: &[Line]) -> Result<Vec<Attempt>,
     Ok(attempts)
 }
 
+// Begins an attempt with a start or a retry, and notes any other line in the last one, if any.
 fn note_line(attempts: &mut Vec<Attempt>, line: &Line) -> Result<(), Memory> {
     match line.event {
         LineEvent::Started { version } => begin(attempts, version, line.moment)?,
@@ -99,6 +103,7 @@ fn note_line(attempts: &mut Vec<Attempt>, line: &Line) -> Result<(), Memory> {
     Ok(())
 }
 
+// Adds an attempt. The one before ends now as `Replaced`, unless it has ended.
 fn begin(attempts: &mut Vec<Attempt>, version: Label, moment: Moment) -> Result<(), Memory> {
     if let Some(before) = attempts.last_mut() {
         before.end(moment, Ending::Replaced);
@@ -107,6 +112,7 @@ fn begin(attempts: &mut Vec<Attempt>, version: Label, moment: Moment) -> Result<
     Ok(())
 }
 
+// Notes a run that was opened, or how the attempt ended; any other event is ignored.
 fn note_event(attempt: &mut Attempt, moment: Moment, event: LineEvent) {
     match event {
         LineEvent::BackgroundOpened { run } => attempt.add_run(run),

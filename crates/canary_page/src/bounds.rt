@@ -71,6 +71,7 @@ enum Kind {
     Alone,
 }
 
+// What a byte belongs to: a digit, a minus sign and an underscore are letters of a word, too.
 fn kind_of(byte: u8) -> Kind {
     match byte {
         b' ' | b'\t' | b'\r' | b'\n' => Kind::Blank,
@@ -81,6 +82,7 @@ fn kind_of(byte: u8) -> Kind {
     }
 }
 
+// The word that these bytes of one kind are. An exclamation mark alone is no comparison.
 fn word_of(kind: Kind, text: &str) -> Word {
     match kind {
         Kind::Signs if text != "!" => Word::Comparison,
@@ -92,6 +94,7 @@ fn word_of(kind: Kind, text: &str) -> Word {
     }
 }
 
+// The letters as a number of 64 bits; `Other` if they are no such number.
 fn number_of(text: &str) -> Word {
     match text.parse::<i64>() {
         Ok(number) => Word::Number(number),
@@ -172,6 +175,7 @@ impl Scan<'_> {
         Ok(())
     }
 
+    // Takes the first word of a term: `result` waits for a bracket, any other one is a term itself.
     fn begin_term(&mut self, word: Word, end: usize) -> Result<(), Memory> {
         if word == Word::Result {
             self.begun = Begun::Result;
@@ -180,6 +184,7 @@ impl Scan<'_> {
         self.take_term(term_of(word, self.begin, end))
     }
 
+    // Takes a term: notes the spot that it names, and the bound that it ends, if it ends one.
     fn take_term(&mut self, term: Term) -> Result<(), Memory> {
         if let Term::Named(spot) = term {
             self.found.spots.push(spot)?;

@@ -18,6 +18,7 @@ pub(crate) fn card(alloc: Global, shown: &Shown) -> Markup {
     page
 }
 
+// Draws a card from its heading to its history. Its id is the service's name, for links to it.
 fn draw_card(page: &mut Markup, shown: &Shown) {
     let service = &shown.service;
     page.start(Element::Article);
@@ -36,6 +37,7 @@ fn draw_card(page: &mut Markup, shown: &Shown) {
     page.end(Element::Article);
 }
 
+// Draws the head of a card: the name, the status, the stable and the new version, the weight.
 fn heading(page: &mut Markup, service: &Service) {
     page.begin(Element::Header);
     page.begin(Element::Heading2);

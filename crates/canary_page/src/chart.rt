@@ -50,6 +50,7 @@ pub(crate) struct Row {
 }
 
 impl Row {
+    // Widens its span to the number that a measurement has at its spot, if there is one to draw.
     fn widen(&mut self, units: Units, outcome: &Outcome) {
         if let Some(number) = self.spot.drawn_of(units, outcome) {
             self.span = Some(Span::with(self.span, number));
@@ -111,6 +112,7 @@ impl Chart {
         is_one_of(seen_good, good, ROOM.saturating_sub(self.whole_bad))
     }
 
+    /// The measurements that are drawn, in the order in which they were recorded.
     pub(crate) fn points(&self) -> &[Point] {
         self.points.as_slice()
     }
@@ -131,6 +133,7 @@ impl Chart {
     }
 }
 
+// A row for each of these spots, without a span so far.
 fn rows_of(alloc: Global, spots: &[Spot]) -> Result<Vec<Row>, Memory> {
     let mut rows = Vec::new(alloc);
     for spot in spots {
@@ -156,6 +159,7 @@ fn part_of(first: u64, whole: u64, room: u64) -> u64 {
     first.saturating_mul(room).checked_div(whole).unwrap_or(0)
 }
 
+// Adds a measurement to the points that are drawn.
 fn push_point(alloc: Global, points: &mut Vec<Point>, recorded: &Recorded) -> Result<(), Memory> {
     points.push(Point {
         ordinal: recorded.ordinal,

@@ -97,6 +97,7 @@ fn shown_text(
     }
 }
 
+// The text of a condition, in which the number of each bound is as people read it.
 fn with_points(
     alloc: Global,
     text: &str,
@@ -115,6 +116,7 @@ fn with_points(
     Ok(shown)
 }
 
+// The conditions of these texts, with their bounds and all that they name of a result.
 fn with_mentions(
     alloc: Global,
     is_known: bool,
@@ -144,6 +146,7 @@ pub(crate) fn text_of(condition: &Option<Text>) -> &str {
     }
 }
 
+// What the two conditions name of a result, each once, in order; `Whole` if they name nothing.
 fn spots_of(alloc: Global, success: &Mentions, failure: &Mentions) -> Result<Vec<Spot>, Memory> {
     let mut spots = Vec::new(alloc);
     add_spots(&mut spots, success.spots.as_slice())?;

@@ -14,6 +14,7 @@ pub(crate) fn ended(page: &mut Markup, shown: &Shown) {
     }
 }
 
+// Draws an attempt that ended: its summary, and its runs, which are shown when it is unfolded.
 fn draw_ended(page: &mut Markup, shown: &Shown, attempt: &Attempt) {
     page.open(Element::Details, "ended");
     summary(page, shown, attempt);
@@ -21,6 +22,7 @@ fn draw_ended(page: &mut Markup, shown: &Shown, attempt: &Attempt) {
     page.end(Element::Details);
 }
 
+// Draws what a folded attempt shows: its version, its start, its ending, and how many runs it has.
 fn summary(page: &mut Markup, shown: &Shown, attempt: &Attempt) {
     page.begin(Element::Summary);
     page.text("Attempt of ");
@@ -34,6 +36,7 @@ fn summary(page: &mut Markup, shown: &Shown, attempt: &Attempt) {
     page.end(Element::Summary);
 }
 
+// Draws how and when an attempt ended; nothing if it is under way.
 fn ending(page: &mut Markup, attempt: &Attempt) {
     let Some((moment, ending)) = attempt.end else {
         return;

@@ -24,6 +24,7 @@ impl From<Memory> for PageFault {
 
     ghost from_gives = { λ _ made. made ≡ fault.Memory };
 
+    // A refused allocation, as this project's crates report it.
     fn from(_: Memory) -> PageFault {
         PageFault::Memory
     }
@@ -35,6 +36,7 @@ impl From<AllocError> for PageFault {
 
     ghost from_gives = { λ _ made. made ≡ fault.Memory };
 
+    // A refused allocation, as the standard library reports it.
     fn from(_: AllocError) -> PageFault {
         PageFault::Memory
     }
@@ -46,6 +48,7 @@ impl From<BookFault> for PageFault {
 
     ghost from_gives = { λ fault made. made ≡ of_book fault };
 
+    // A fault of the book: refused memory, or a store that failed.
     fn from(fault: BookFault) -> PageFault {
         match fault {
             BookFault::Memory => PageFault::Memory,

@@ -67,6 +67,7 @@ fn chart(page: &mut Markup, shown: &Measured<'_>, row: Row) {
     page.end(Element::Block);
 }
 
+// The frame of a row's chart: its span has the bounds of both conditions, too.
 fn frame_of(shown: &Measured<'_>, row: Row) -> Frame {
     let conditions = shown.conditions;
     let units = conditions.units;
@@ -106,10 +107,12 @@ fn last_of(shown: &Measured<'_>) -> Moment {
     }
 }
 
+// The phase of the metric, judged as in a run that is closing if its run is closed.
 fn phase_of(shown: &Measured<'_>) -> Phase {
     shown.tally.phase(shown.metric, shown.is_closed)
 }
 
+// Draws the metric's name, whether it is a dry run, and its phase.
 fn caption(page: &mut Markup, shown: &Measured<'_>) {
     page.begin(Element::Caption);
     page.begin(Element::Strong);
@@ -170,6 +173,7 @@ fn begin_drawing(page: &mut Markup, shown: &Measured<'_>, row: Row) {
     page.start_end();
 }
 
+// Writes a drawing as a sentence for screen readers: counts by phase, the span, the last outcome.
 fn in_words(page: &mut Markup, shown: &Measured<'_>, row: Row) {
     page.text(Shown::or_whole(shown.metric.name().as_str()).name);
     page.text(": ");
@@ -197,6 +201,7 @@ fn in_words(page: &mut Markup, shown: &Measured<'_>, row: Row) {
     }
 }
 
+// Draws how many measurements have a phase; nothing if none has it.
 fn phase_count(page: &mut Markup, count: u32, phase: Phase) {
     if count > 0 {
         page.text(", ");
@@ -229,6 +234,7 @@ fn notes(page: &mut Markup, shown: &Measured<'_>) {
     page.end(Element::Block);
 }
 
+// Draws both conditions, or why they are not shown, and how many places have no chart.
 fn conditions(page: &mut Markup, conditions: &Conditions) {
     if !conditions.is_known {
         sentence(
@@ -249,12 +255,14 @@ fn conditions(page: &mut Markup, conditions: &Conditions) {
     }
 }
 
+// Draws a paragraph of one text.
 fn sentence(page: &mut Markup, text: &str) {
     page.begin(Element::Paragraph);
     page.text(text);
     page.end(Element::Paragraph);
 }
 
+// Draws a paragraph with the kind of a condition and its text; nothing without a text.
 fn condition(page: &mut Markup, kind: &str, text: &Option<Text>) {
     if let Some(text) = text {
         page.begin(Element::Paragraph);
@@ -266,6 +274,7 @@ fn condition(page: &mut Markup, kind: &str, text: &Option<Text>) {
     }
 }
 
+// Draws how many measurements are counted, of how many, and the same of successes in a row.
 fn wanted(page: &mut Markup, shown: &Measured<'_>) {
     page.number(u64::from(shown.tally.counted()));
     if let Some(count) = effective_count(shown.metric) {
@@ -282,6 +291,7 @@ fn wanted(page: &mut Markup, shown: &Measured<'_>) {
     }
 }
 
+// Draws how many failed, were inconclusive or errors, with the limits; that of errors is in a row.
 fn limits(page: &mut Markup, shown: &Measured<'_>) {
     let (tally, metric) = (shown.tally, shown.metric);
     allowed(page, tally.failed(), " failed", metric.failure_limit());
@@ -303,6 +313,7 @@ fn limits(page: &mut Markup, shown: &Measured<'_>) {
     }
 }
 
+// Draws how many of a thing there are and how many are allowed; nothing if there are 0.
 fn allowed(page: &mut Markup, count: u32, thing: &str, limit: u32) {
     if count > 0 {
         page.text(", ");
@@ -330,6 +341,7 @@ fn due(page: &mut Markup, shown: &Measured<'_>) {
     }
 }
 
+// Draws how many measurements are drawn, and which, unless all of them are.
 fn thinned(page: &mut Markup, chart: &Chart) {
     let drawn = chart.points().len() as u64;
     if drawn < chart.whole() {

@@ -22,6 +22,7 @@ pub(crate) fn head(page: &mut Markup, placed: &[Placed], now: Moment, every: Opt
     heading(page, placed, now);
 }
 
+// Draws the title of the page: how many services are degraded, and how many wait for somebody.
 fn title(page: &mut Markup, placed: &[Placed]) {
     page.begin(Element::Title);
     page.number(count_status(placed, Status::Degraded));
@@ -31,6 +32,7 @@ fn title(page: &mut Markup, placed: &[Placed]) {
     page.end(Element::Title);
 }
 
+// Draws the top of the page: its moment, and how many services have each status.
 fn heading(page: &mut Markup, placed: &[Placed], now: Moment) {
     page.open(Element::Header, "top");
     page.begin(Element::Heading1);

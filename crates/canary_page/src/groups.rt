@@ -35,6 +35,7 @@ pub(crate) fn placed_of<B: Book>(
     Ok(placed)
 }
 
+// Adds the service of that name, passed to a moment; a name that no service has is ignored.
 fn place<B: Book>(
     alloc: Global,
     book: &mut B,
@@ -56,6 +57,7 @@ fn place<B: Book>(
     Ok(())
 }
 
+// Adds a service to the list, with what says in which part of the page it is drawn.
 fn push_placed(
     placed: &mut Vec<Placed>,
     name: Name,

@@ -23,6 +23,7 @@ pub(crate) fn history(page: &mut Markup, name: Name, lines: &[Line]) {
     page.end(Element::Details);
 }
 
+// Draws what a folded history shows: how many lines it has, and the last one.
 fn summary(page: &mut Markup, lines: &[Line]) {
     page.begin(Element::Summary);
     page.text("History, ");
@@ -36,6 +37,7 @@ fn summary(page: &mut Markup, lines: &[Line]) {
     page.end(Element::Summary);
 }
 
+// Draws a line as a row: its moment and its words.
 fn row(page: &mut Markup, line: &Line) {
     page.begin(Element::Row);
     page.begin(Element::Cell);

@@ -4,10 +4,12 @@ use crate::shown::Standing;
 use canary_markup::element::Element;
 use canary_markup::markup::Markup;
 
+/// Begins the index, up to its first group.
 pub(crate) fn begin_index(page: &mut Markup) {
     page.open(Element::Navigation, "index");
 }
 
+/// Ends the index, after its last group.
 pub(crate) fn end_index(page: &mut Markup) {
     page.end(Element::Navigation);
 }
@@ -23,6 +25,7 @@ pub(crate) fn begin_group(page: &mut Markup, name: &str, count: u64) {
     page.begin(Element::List);
 }
 
+/// Ends a group, after its last link.
 pub(crate) fn end_group(page: &mut Markup) {
     page.end(Element::List);
 }
@@ -51,6 +54,7 @@ fn class_of(placed: &Placed) -> &'static str {
     }
 }
 
+// Why a service waits for somebody, in one word; empty if it does not wait.
 fn why_of(standing: Standing) -> &'static str {
     match standing {
         Standing::Aborted => "aborted",

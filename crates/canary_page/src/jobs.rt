@@ -75,6 +75,7 @@ enum Drawn {
 }
 
 impl Drawn {
+    // The part of a page that draws this service so.
     fn job_of(self, placed: Placed) -> Job {
         match self {
             Drawn::Link => Job::Link(placed),
@@ -145,6 +146,7 @@ fn push_group(
     Ok(())
 }
 
+// Adds a card for each service that has one of these `standings`, in their order.
 fn push_cards(
     jobs: &mut Vec<Job>,
     placed: &[Placed],
@@ -171,6 +173,7 @@ fn push_those(
     Ok(())
 }
 
+// Adds the table of the services that are done, with its rows.
 fn push_table(jobs: &mut Vec<Job>, placed: &[Placed]) -> Result<(), Memory> {
     jobs.push(Job::Table)?;
     push_those(jobs, placed, Standing::Done, Drawn::Row)?;

@@ -3,6 +3,7 @@ use canary_condition::outcome::Phase;
 use canary_markup::element::{Attribute, Element};
 use canary_markup::markup::Markup;
 
+/// Draws the paragraph that explains the marks of all charts.
 pub(crate) fn key(page: &mut Markup) {
     page.open(Element::Paragraph, "key");
     mark(page, Phase::Successful);
@@ -20,6 +21,7 @@ pub(crate) fn key(page: &mut Markup) {
     page.end(Element::Paragraph);
 }
 
+// Draws a sentence of the key, and a space after it.
 fn note(page: &mut Markup, text: &str) {
     page.begin(Element::Span);
     page.text(text);
@@ -44,6 +46,7 @@ fn mark(page: &mut Markup, phase: Phase) {
     page.text(" ");
 }
 
+// Draws the shape that the points of a phase have in charts; an error has a square.
 fn shape(page: &mut Markup, phase: Phase) {
     page.start(Element::Path);
     page.attribute(Attribute::Class, phase.text());

@@ -1,13 +1,10 @@
 //! Measurements that are late.
 use canary_base::moments::Moment;
 use canary_metric::metric::Metric;
-use canary_metric::tally::Tally;
+use canary_metric::tally::{DEFAULT_INTERVAL, Tally};
 use canary_metric::verdict::is_completed;
 use canary_release::runs::OpenRun;
 use canary_release::service::Service;
-
-// The seconds from one measurement to the next of a metric without an interval.
-const DEFAULT_INTERVAL: u64 = 10;
 
 // When the next measurement of a metric is due, in an open run that started at that moment, if one
 // is wanted.
@@ -34,6 +31,7 @@ pub(crate) fn late_since(
     }
 }
 
+// The seconds from one measurement of a metric to its next: its interval, or 10 if it has none.
 fn interval_of(metric: &Metric) -> u64 {
     match metric.interval() {
         Some(seconds) => u64::from(seconds.get()),
@@ -46,6 +44,7 @@ pub(crate) fn is_late(service: &Service, now: Moment) -> bool {
     service.open_runs().iter().any(|run| is_run_late(run, now))
 }
 
+// Whether the next measurement of a metric of this run is late at this moment.
 fn is_run_late(run: &OpenRun, now: Moment) -> bool {
     let metrics = run.analysis.metrics().iter();
     metrics.zip(run.tallies.as_slice()).any(|(metric, tally)| late_since(

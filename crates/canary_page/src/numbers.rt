@@ -43,6 +43,7 @@ pub(crate) fn part(some: u64, whole: u64, length: u64) -> u64 {
         .min(length)
 }
 
+// Both numbers, divided by 10^9 if the second is above 10^12, which hardly changes their ratio.
 fn shortened(some: u64, whole: u64) -> (u64, u64) {
     if whole > 1_000_000_000_000 {
         (some / 1_000_000_000, whole / 1_000_000_000)

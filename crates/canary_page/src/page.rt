@@ -56,6 +56,7 @@ pub fn draw<W: Write, B: Book, P: Progress>(
     draw_planned(alloc, book, &plan, out, progress)
 }
 
+// Reports how many services are to be drawn, and draws the parts of the page in order.
 fn draw_planned<W: Write, B: Book, P: Progress>(
     alloc: Global,
     book: &mut B,
@@ -71,6 +72,7 @@ fn draw_planned<W: Write, B: Book, P: Progress>(
     draw_jobs(alloc, book, plan, jobs.as_slice(), out, progress)
 }
 
+// Draws these parts one after another, and reports each card and each row that was drawn.
 fn draw_jobs<W: Write, B: Book, P: Progress>(
     alloc: Global,
     book: &mut B,
@@ -91,6 +93,7 @@ fn draw_jobs<W: Write, B: Book, P: Progress>(
     Ok(())
 }
 
+// Makes one part of the page, and writes it.
 fn put_job<W: Write, B: Book>(
     alloc: Global,
     book: &mut B,
@@ -175,6 +178,7 @@ fn card_of<B: Book>(
     }
 }
 
+// The card of a service that was passed to a moment, with what the book has of it.
 fn card_of_passed<B: Book>(
     alloc: Global,
     book: &mut B,
@@ -203,6 +207,7 @@ fn row_of<B: Book>(
     }
 }
 
+// The row of a service that was passed to a moment, with what the book has of it.
 fn row_of_passed<B: Book>(
     alloc: Global,
     book: &mut B,

@@ -102,6 +102,7 @@ pub(crate) fn bounds(page: &mut Markup, frame: &Frame, class: &str, bounds: &[Bo
     }
 }
 
+// Draws a bound as a line, with its condition as the title, and with its number left of it.
 fn limit(page: &mut Markup, frame: &Frame, class: &str, bound: i64, text: &str) {
     let top = frame.top(bound);
     level(page, class, top);
@@ -134,6 +135,7 @@ pub(crate) fn curve(page: &mut Markup, frame: &Frame, chart: &Chart) {
     page.end(Element::Path);
 }
 
+// Writes a step of a path: its letter, `M` or `L`, and the place to which it goes.
 fn step_to(page: &mut Markup, step: &str, left: u64, top: u64) {
     page.text(step);
     page.number(left);
@@ -141,6 +143,7 @@ fn step_to(page: &mut Markup, step: &str, left: u64, top: u64) {
     page.number(top);
 }
 
+/// Draws each point of a chart; one without a number is drawn just above the axis.
 pub(crate) fn points(page: &mut Markup, frame: &Frame, chart: &Chart) {
     for point in chart.points() {
         draw_point(page, frame, point);
@@ -164,6 +167,7 @@ fn draw_point(page: &mut Markup, frame: &Frame, point: &Point) {
     page.end(element);
 }
 
+// The element of SVG that draws the shape of a phase.
 fn shape_of(phase: Phase) -> Element {
     match phase {
         Phase::Successful => Element::Circle,
@@ -173,12 +177,14 @@ fn shape_of(phase: Phase) -> Element {
     }
 }
 
+// The attributes of a circle that has its center at a place.
 fn circle(page: &mut Markup, left: u64, top: u64) {
     page.measure(Attribute::CenterLeft, left);
     page.measure(Attribute::CenterTop, top);
     page.measure(Attribute::Radius, 30);
 }
 
+// The attributes of a square that has its center at a place.
 fn square(page: &mut Markup, left: u64, top: u64) {
     page.measure(Attribute::Left, left.saturating_sub(30));
     page.measure(Attribute::Top, top.saturating_sub(30));

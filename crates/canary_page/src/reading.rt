@@ -23,7 +23,7 @@ use canary_release::service::Passed;
 use std::alloc::Global;
 
 // How many measurements are read at once.
-pub(crate) const PAGE: u32 = 256;
+pub(crate) const MEASUREMENTS_AT_ONCE: u32 = 256;
 
 // The service of this name, passed to a moment; none where there is no such service.
 pub(crate) fn passed_of<B: Book>(
@@ -52,6 +52,7 @@ pub(crate) fn lines_of<B: Book>(
     Ok(with_told(lines.into_vec(), effects)?)
 }
 
+// The lines, and after them those that the effects add to a history.
 fn with_told(lines: Vec<Line>, effects: &[Effect]) -> Result<Vec<Line>, Memory> {
     let mut lines = lines;
     for effect in effects {
@@ -62,6 +63,7 @@ fn with_told(lines: Vec<Line>, effects: &[Effect]) -> Result<Vec<Line>, Memory> 
     Ok(lines)
 }
 
+// Adds a copy of a line to the list.
 fn push_line(lines: &mut Vec<Line>, line: &Line) -> Result<(), Memory> {
     let Line { moment, event } = *line;
     push_made(lines, moment, event)
@@ -153,6 +155,7 @@ fn read_run<B: Book>(
     Ok(push_run(alloc, runs, record, &templates)?)
 }
 
+// Adds a run to the list, with conditions by these templates, and with charts without points.
 fn push_run(
     alloc: Global,
     runs: &mut Vec<ShownRun>,
@@ -175,6 +178,7 @@ pub(crate) fn templates_of<B: Book>(
     Ok(book.templates(names.as_slice())?)
 }
 
+// The names of the templates of these revisions, in order.
 fn names_of(alloc: Global, revisions: &[Revision]) -> Result<Vec<Name>, Memory> {
     let mut names = Vec::new(alloc);
     for revision in revisions {
@@ -183,6 +187,7 @@ fn names_of(alloc: Global, revisions: &[Revision]) -> Result<Vec<Name>, Memory> 
     Ok(names)
 }
 
+// A run as it is shown, with its conditions by these templates, before its measurements are read.
 fn shown_run(alloc: Global, record: RunRecord, templates: &Templates) -> Result<ShownRun, Memory> {
     let conditions = all_conditions(alloc, &record, templates)?;
     let charts = empty_charts(alloc, record.tallies.as_slice(), conditions.as_slice())?;
@@ -193,6 +198,7 @@ fn shown_run(alloc: Global, record: RunRecord, templates: &Templates) -> Result<
     })
 }
 
+// A chart for each metric, which has from its tally how many measurements are to come.
 fn empty_charts(
     alloc: Global,
     tallies: &[Tally],
@@ -205,6 +211,7 @@ fn empty_charts(
     Ok(charts)
 }
 
+// The conditions of each metric of a run, in order.
 fn all_conditions(
     alloc: Global,
     record: &RunRecord,
@@ -232,6 +239,7 @@ fn run_after(
     Ok(record)
 }
 
+// The run of that number after one more effect, which may have opened it, or closed it.
 fn run_then(
     alloc: Global,
     number: u32,
@@ -252,6 +260,7 @@ fn run_then(
     }
 }
 
+// The record of a run that an effect opens: it is not closed, and has measured nothing.
 fn opened(alloc: Global, opening: &Opening) -> Result<RunRecord, Memory> {
     Ok(RunRecord {
         number: opening.run,
@@ -299,11 +308,12 @@ fn read_page<B: Book>(
     ensures page { (B.state book.new).is_honest → IfOk result (λ count.
         count ≡ length (measurements_of (B.state book.old).contents name.now from 256)) }
 {
-    let page = book.measurements(name, from, PAGE)?;
+    let page = book.measurements(name, from, MEASUREMENTS_AT_ONCE)?;
     add_all(alloc, page.as_slice(), runs)?;
     Ok(page.as_slice().len() as u64)
 }
 
+// Adds each measurement of a page to its chart, if its run is one of these.
 fn add_all(alloc: Global, page: &[Recorded], runs: &mut Vec<ShownRun>) -> Result<(), Memory> {
     for recorded in page {
         add_measurement(alloc, recorded, runs)?;

@@ -41,6 +41,7 @@ pub fn draw_json<W: Write, B: Book>(
     }
 }
 
+// Writes a service that was passed to a moment, from its history to its weight.
 fn draw_passed<W: Write, B: Book>(
     alloc: Global,
     book: &mut B,
@@ -60,6 +61,7 @@ fn draw_passed<W: Write, B: Book>(
     put(end(alloc, service), out)
 }
 
+// Writes the value up to its measurements, with the history as the effects leave it.
 fn put_history<W: Write, B: Book>(
     alloc: Global,
     book: &mut B,
@@ -127,6 +129,7 @@ fn put_runs<W: Write, B: Book>(
     Ok(())
 }
 
+// Writes the run of that number, or null in its place if the book does not have it.
 fn put_run<W: Write, B: Book>(
     alloc: Global,
     book: &mut B,
@@ -144,6 +147,7 @@ fn put_run<W: Write, B: Book>(
     }
 }
 
+// Writes a run, with its conditions by the templates as they are now.
 fn put_record<W: Write, B: Book>(
     alloc: Global,
     book: &mut B,

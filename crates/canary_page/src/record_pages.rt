@@ -4,7 +4,7 @@ ghost use Rattle.canary_once.specs.Records.{measurements_of};
 ghost use Rattle.canary_files.specs.Exporting.{Stays, recorded_of};
 
 use crate::fault::PageFault;
-use crate::reading::PAGE;
+use crate::reading::MEASUREMENTS_AT_ONCE;
 use crate::sheet::{Sheet, put};
 use canary_base::error::Memory;
 use canary_base::names::{Label, Name};
@@ -53,7 +53,7 @@ fn put_page<W: Write, B: Book>(
     ensures page { (B.state book.new).is_honest → IfOk result (λ count.
         count ≡ length (measurements_of (B.state book.old).contents name.now from 256)) }
 {
-    let page = book.measurements(name, from, PAGE)?;
+    let page = book.measurements(name, from, MEASUREMENTS_AT_ONCE)?;
     put_read(alloc, book, name, from > 0, page.as_slice(), out)?;
     Ok(page.as_slice().len() as u64)
 }
@@ -111,6 +111,7 @@ fn add_run<B: Book>(
     Ok(push_found(runs, found)?)
 }
 
+// Adds a run to the list, if the book has it.
 fn push_found(runs: &mut Vec<RunRecord>, found: Option<RunRecord>) -> Result<(), Memory> {
     if let Some(run) = found {
         runs.push(run)?;
@@ -118,10 +119,12 @@ fn push_found(runs: &mut Vec<RunRecord>, found: Option<RunRecord>) -> Result<(),
     Ok(())
 }
 
+// The run of that number, if it is one of these, looked for from the last one on.
 fn found_run(runs: &[RunRecord], number: u32) -> Option<&RunRecord> {
     runs.iter().rev().find(|run| run.number == number)
 }
 
+// The measurements of a page, as items of the list. A later page begins with a comma.
 fn page_sheet(alloc: Global, is_later: bool, page: &[Recorded], runs: &[RunRecord]) -> Sheet {
     let mut sheet = Sheet::new(alloc, is_later);
     for recorded in page {
@@ -137,6 +140,7 @@ fn label_of(runs: &[RunRecord], recorded: &Recorded) -> Option<Label> {
     Some(metric.name())
 }
 
+// Adds the object of a measurement. Without a label, its metric and its shown result are null.
 fn add_measurement(sheet: &mut Sheet, recorded: &Recorded, label: Option<Label>) {
     sheet.begin();
     sheet.key("failure");
@@ -154,6 +158,7 @@ fn add_measurement(sheet: &mut Sheet, recorded: &Recorded, label: Option<Label>)
     sheet.end();
 }
 
+// Adds the text of a failure; null if there was a result.
 fn add_failure(sheet: &mut Sheet, outcome: &Outcome) {
     match outcome {
         Outcome::Failure(text) => sheet.text(text.as_str()),
@@ -161,6 +166,7 @@ fn add_failure(sheet: &mut Sheet, outcome: &Outcome) {
     }
 }
 
+// Adds the label of a metric; null if it was not found.
 fn add_label(sheet: &mut Sheet, label: &Option<Label>) {
     match label {
         Some(label) => sheet.text(label.as_str()),
@@ -168,6 +174,7 @@ fn add_label(sheet: &mut Sheet, label: &Option<Label>) {
     }
 }
 
+// Adds a result as it was reported, a number or a list of numbers; null if there was a failure.
 fn add_result(sheet: &mut Sheet, outcome: &Outcome) {
     match outcome {
         Outcome::Result(Value::Whole(number)) => sheet.signed(*number),
@@ -176,6 +183,7 @@ fn add_result(sheet: &mut Sheet, outcome: &Outcome) {
     }
 }
 
+// Adds a list of numbers, as they were reported.
 fn add_numbers(sheet: &mut Sheet, numbers: &[i64]) {
     sheet.begin_list();
     for number in numbers {
@@ -194,6 +202,7 @@ fn add_shown(sheet: &mut Sheet, outcome: &Outcome, label: &Option<Label>) {
     }
 }
 
+// Adds a result as people read it: one text, or a list of texts for a list.
 fn add_texts(sheet: &mut Sheet, value: &Value, units: Units) {
     match value {
         Value::Whole(number) => sheet.text(units.text(None, *number).as_str()),
@@ -201,6 +210,7 @@ fn add_texts(sheet: &mut Sheet, value: &Value, units: Units) {
     }
 }
 
+// Adds a text for each number of a list. Its place there counts: the first may be a length.
 fn add_text_list(sheet: &mut Sheet, numbers: &[i64], units: Units) {
     sheet.begin_list();
     for (place, number) in numbers.iter().enumerate() {

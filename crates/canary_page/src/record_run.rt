@@ -54,6 +54,7 @@ fn verdict_of(record: &RunRecord) -> Phase {
     }
 }
 
+// Adds the list of an analysis's templates, each with the number of its revision.
 fn add_templates(sheet: &mut Sheet, revisions: &[Revision]) {
     sheet.begin_list();
     for revision in revisions {
@@ -65,6 +66,7 @@ fn add_templates(sheet: &mut Sheet, revisions: &[Revision]) {
     sheet.end_list();
 }
 
+// Adds the list of a run's metrics, each with its tally.
 fn add_metrics(sheet: &mut Sheet, record: &RunRecord, templates: &Templates) {
     sheet.begin_list();
     let metrics = record.analysis.metrics().iter();
@@ -74,6 +76,7 @@ fn add_metrics(sheet: &mut Sheet, record: &RunRecord, templates: &Templates) {
     sheet.end_list();
 }
 
+// Adds the object of a metric. If memory runs out for its conditions, the sheet fails.
 fn add_metric(
     sheet: &mut Sheet,
     record: &RunRecord,
@@ -127,6 +130,7 @@ fn add_condition(sheet: &mut Sheet, text: &Option<Text>, shown: &Option<Text>) {
     }
 }
 
+// Adds the members from `consecutive` to `due`, which is null if no measurement is wanted.
 fn add_counts(sheet: &mut Sheet, record: &RunRecord, metric: &Metric, tally: &Tally) {
     sheet.number_at("consecutive", tally.consecutive());
     sheet.number_at("consecutiveErrorLimit", metric.consecutive_error_limit());
@@ -140,6 +144,7 @@ fn add_counts(sheet: &mut Sheet, record: &RunRecord, metric: &Metric, tally: &Ta
     sheet.moment_at("due", due);
 }
 
+// Adds the members from `errors` to `interval`.
 fn add_limits(sheet: &mut Sheet, metric: &Metric, tally: &Tally) {
     sheet.number_at("errors", tally.errors());
     sheet.number_at("failed", tally.failed());
@@ -150,6 +155,7 @@ fn add_limits(sheet: &mut Sheet, metric: &Metric, tally: &Tally) {
     sheet.found_at("interval", metric.interval().map(|seconds| seconds.get()));
 }
 
+// Adds the last members, from `measurements` to `shown`, which is the label as people read it.
 fn add_label(sheet: &mut Sheet, record: &RunRecord, metric: &Metric, tally: &Tally) {
     let label = metric.name();
     sheet.number_at("measurements", tally.measurements());

@@ -33,6 +33,7 @@ fn draw_run(page: &mut Markup, run: &ShownRun, now: Moment) {
     page.end(Element::Section);
 }
 
+// Draws the heading of a run: its number, its analysis, when it was open, and its phase.
 fn heading(page: &mut Markup, run: &ShownRun) {
     page.begin(Element::Heading3);
     page.text("Run ");
@@ -75,6 +76,7 @@ fn template(page: &mut Markup, revision: Revision) {
     page.number(u64::from(revision.number));
 }
 
+// Draws when a run was closed, and whether from outside; or that it is open.
 fn end(page: &mut Markup, run: &ShownRun) {
     match run.record.closed {
         Some(closing) => {
@@ -88,6 +90,7 @@ fn end(page: &mut Markup, run: &ShownRun) {
     }
 }
 
+// Draws a figure for each metric of a run, in order.
 fn figures(page: &mut Markup, run: &ShownRun, now: Moment) {
     let metrics = run.record.analysis.metrics();
     for (place, metric) in metrics.iter().enumerate() {
@@ -101,6 +104,7 @@ fn figures(page: &mut Markup, run: &ShownRun, now: Moment) {
     }
 }
 
+// A metric with all that its figure shows; if the run is open, its end is the present moment.
 fn measured<'a>(
     run: &'a ShownRun,
     now: Moment,

@@ -29,6 +29,7 @@ pub fn draw_services<W: Write, B: Book>(
     put(list_of(alloc, placed.as_slice(), moment), out)
 }
 
+// The value in JSON: that moment, and a list with an object for each of these services.
 fn list_of(alloc: Global, placed: &[Placed], moment: Moment) -> Sheet {
     let mut sheet = Sheet::new(alloc, false);
     sheet.begin();
@@ -43,6 +44,7 @@ fn list_of(alloc: Global, placed: &[Placed], moment: Moment) -> Sheet {
     sheet
 }
 
+// Adds the object of a service: its name, its status, and whether it waits for somebody.
 fn add_service(sheet: &mut Sheet, placed: &Placed) {
     sheet.begin();
     sheet.text_at("service", placed.name.as_str());

@@ -26,6 +26,7 @@ impl Sheet {
         }
     }
 
+    // A sheet that goes on after these bytes, or one that has failed.
     fn of(alloc: Global, bytes: Vec<u8>, has_failed: bool) -> Sheet {
         Sheet {
             alloc,
@@ -109,6 +110,7 @@ impl Sheet {
         self.note(written);
     }
 
+    // Its bytes, or `Memory` if it has failed.
     fn bytes(self) -> Result<Vec<u8>, Memory> {
         let Sheet {
             writer,

@@ -114,6 +114,7 @@ pub(crate) fn run_numbers(alloc: Global, attempts: &Attempts) -> Result<Vec<u32>
     Ok(numbers)
 }
 
+// Adds the numbers of an attempt's runs, in order.
 fn push_numbers(numbers: &mut Vec<u32>, attempt: &Attempt) -> Result<(), Memory> {
     for place in 0..attempt.runs {
         numbers.push(attempt.run_at(place))?;
@@ -158,6 +159,7 @@ impl Standing {
     }
 }
 
+// How a release in progress is: first counts a hold, then a pause without an end, then lateness.
 fn of_progress(service: &Service, now: Moment) -> Standing {
     if service.step_hold() || service.background_hold() {
         return Standing::Held;

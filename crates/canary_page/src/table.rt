@@ -27,6 +27,7 @@ pub(crate) fn begin_table(page: &mut Markup) {
     page.end(Element::Row);
 }
 
+// Draws the heading of a column.
 fn heading(page: &mut Markup, text: &str) {
     page.start(Element::Heading);
     page.attribute(Attribute::Scope, "col");
@@ -35,6 +36,7 @@ fn heading(page: &mut Markup, text: &str) {
     page.end(Element::Heading);
 }
 
+/// Ends the table, after its last row.
 pub(crate) fn end_table(page: &mut Markup) {
     page.end(Element::Table);
 }
@@ -49,6 +51,7 @@ pub(crate) fn row(alloc: Global, shown: &Shown) -> Markup {
     page
 }
 
+// Draws a row of one cell, over all columns, with the attempts that ended not long ago.
 fn attempts(page: &mut Markup, shown: &Shown) {
     page.open(Element::Row, "attempts");
     page.start(Element::Cell);
@@ -59,6 +62,7 @@ fn attempts(page: &mut Markup, shown: &Shown) {
     page.end(Element::Row);
 }
 
+// Draws the row of a service, with the last line of its history in the last cell.
 fn draw_row(page: &mut Markup, service: &Service, lines: &[Line]) {
     page.start(Element::Row);
     page.attribute(Attribute::Id, service.name().as_str());
@@ -82,6 +86,7 @@ fn draw_row(page: &mut Markup, service: &Service, lines: &[Line]) {
     page.end(Element::Row);
 }
 
+// Draws the cell of the last line and its moment; an empty one if there is no line.
 fn last(page: &mut Markup, lines: &[Line]) {
     page.begin(Element::Cell);
     if let Some(line) = lines.last() {

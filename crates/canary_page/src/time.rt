@@ -39,6 +39,7 @@ pub(crate) fn clock(page: &mut Markup, moment: Moment) {
     two_digits(page, second % MINUTE);
 }
 
+// Writes a number below 100 in two digits.
 fn two_digits(page: &mut Markup, number: u64) {
     if number < 10 {
         page.text("0");
@@ -56,6 +57,7 @@ pub(crate) fn span(page: &mut Markup, seconds: u64) {
     }
 }
 
+// Writes a number with its unit; nothing if it is 0.
 fn part(page: &mut Markup, number: u64, unit: &str) {
     if number > 0 {
         page.number(number);
@@ -77,6 +79,7 @@ pub(crate) fn since(page: &mut Markup, moment: Moment, now: Moment) {
     }
 }
 
+// Writes a number with its unit, also if it is 0.
 fn counted(page: &mut Markup, number: u64, unit: &str) {
     page.number(number);
     page.text(unit);

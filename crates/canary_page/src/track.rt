@@ -24,6 +24,7 @@ pub(crate) fn track(page: &mut Markup, service: &Service) {
     page.end(Element::Steps);
 }
 
+// Draws a step, with its words in full as its title. The present one is marked for screen readers.
 fn mark(page: &mut Markup, service: &Service, place: u64, step: &Step) {
     let (state, present) = (service.state(), u64::from(service.step()));
     let is_here = place == present && state != State::Done;
@@ -48,6 +49,7 @@ fn mark(page: &mut Markup, service: &Service, place: u64, step: &Step) {
     page.end(Element::Item);
 }
 
+// The class of a step's kind. It ends with a space, since one more class comes after it.
 fn kind_of(step: &Step) -> &'static str {
     match step {
         Step::SetWeight(_) => "set ",
@@ -74,6 +76,7 @@ fn place_of(service: &Service, place: u64) -> &'static str {
     "here"
 }
 
+// Writes in full what a step does, for its title.
 fn words(page: &mut Markup, step: &Step) {
     match step {
         Step::SetWeight(weight) => {
@@ -92,6 +95,7 @@ fn words(page: &mut Markup, step: &Step) {
     }
 }
 
+// Writes what a step does, as short as its mark needs it: a weight, a duration, names.
 fn short_words(page: &mut Markup, step: &Step) {
     match step {
         Step::SetWeight(weight) => {
@@ -104,6 +108,7 @@ fn short_words(page: &mut Markup, step: &Step) {
     }
 }
 
+// Writes these names, with a comma between two of them.
 fn names(page: &mut Markup, names: &[Name]) {
     let mut between = "";
     for name in names {
@@ -140,6 +145,7 @@ pub(crate) fn bar(page: &mut Markup, service: &Service) {
     page.end(Element::Span);
 }
 
+// Draws a part of the bar from its left end, so many of 100 units wide.
 fn block(page: &mut Markup, class: &str, width: u64) {
     page.start(Element::Rectangle);
     page.attribute(Attribute::Class, class);

@@ -34,6 +34,7 @@ pub(crate) fn waits(page: &mut Markup, shown: &Shown) {
     page.end(Element::Paragraph);
 }
 
+// Why a release was aborted, which version has all traffic now, and what can be said to it.
 fn aborted(page: &mut Markup, service: &Service, lines: &[Line]) {
     match cause_of(lines) {
         Some(run) => {
@@ -62,6 +63,7 @@ fn cause_of(lines: &[Line]) -> Option<u32> {
     cause
 }
 
+// Which analyses hold a release, and what can be said to it.
 fn held(page: &mut Markup, service: &Service) {
     page.text("Held: ");
     if service.step_hold() {
@@ -78,11 +80,13 @@ fn held(page: &mut Markup, service: &Service) {
     say_in_progress(page, service);
 }
 
+// The commands that promote and abort a release, which can be given if it pauses or is held.
 fn say_in_progress(page: &mut Markup, service: &Service) {
     say(page, "canary do promote ", service.name());
     say(page, "canary do abort ", service.name());
 }
 
+// Since when a release is at a pause without an end, and what can be said to it.
 fn at_pause(page: &mut Markup, service: &Service, now: Moment) {
     page.text("Waits for a promotion, since ");
     clock(page, service.entered());
@@ -92,6 +96,7 @@ fn at_pause(page: &mut Markup, service: &Service, now: Moment) {
     say_in_progress(page, service);
 }
 
+// What goes on by itself: a pause with an end, or else an analysis.
 fn goes(page: &mut Markup, service: &Service, now: Moment) {
     match step_of(service) {
         Some(Step::Pause(Some(seconds))) => pauses(page, service, *seconds),
@@ -99,6 +104,7 @@ fn goes(page: &mut Markup, service: &Service, now: Moment) {
     }
 }
 
+// How long a pause is, and when it ends, if that is a moment.
 fn pauses(page: &mut Markup, service: &Service, seconds: Seconds) {
     let seconds = u64::from(seconds.get());
     page.text("Pauses for ");
@@ -111,6 +117,7 @@ fn pauses(page: &mut Markup, service: &Service, seconds: Seconds) {
     say_in_progress(page, service);
 }
 
+// Since when an analysis goes on, and the command that aborts it: there is no pause to end.
 fn analysed(page: &mut Markup, service: &Service, now: Moment) {
     page.text("Is analysed, since ");
     clock(page, service.entered());
@@ -120,6 +127,7 @@ fn analysed(page: &mut Markup, service: &Service, now: Moment) {
     say(page, "canary do abort ", service.name());
 }
 
+// Which version is the stable one, after a release that is done.
 fn done(page: &mut Markup, service: &Service) {
     page.text(service.version().as_str());
     page.text(" is the stable version.");
@@ -131,6 +139,7 @@ fn say(page: &mut Markup, words: &str, name: Name) {
     page.end(Element::Code);
 }
 
+// The command that starts that version, to copy.
 fn say_start(page: &mut Markup, name: Name, version: Label) {
     begin_say(page, "canary do start ", name);
     page.text(" ");
@@ -138,6 +147,7 @@ fn say_start(page: &mut Markup, name: Name, version: Label) {
     page.end(Element::Code);
 }
 
+// The start of a command to copy, up to the service's name; its element does not end here.
 fn begin_say(page: &mut Markup, words: &str, name: Name) {
     page.text(" ");
     page.open(Element::Code, "say");
@@ -152,6 +162,7 @@ fn late(page: &mut Markup, shown: &Shown) {
     }
 }
 
+// A paragraph for each late measurement of a run: for the first 8, and one for all others.
 fn late_of(page: &mut Markup, run: &OpenRun, now: Moment) {
     let metrics = run.analysis.metrics().iter();
     let mut count: u64 = 0;
@@ -180,6 +191,7 @@ fn late_one(page: &mut Markup, run: &OpenRun, metric: &Metric, tally: &Tally) {
     place(page, run);
 }
 
+// A paragraph that says how many more measurements of a run are late.
 fn further(page: &mut Markup, count: u64) {
     page.open(Element::Paragraph, "late");
     page.text("Late: ");
@@ -197,6 +209,7 @@ fn place(page: &mut Markup, run: &OpenRun) {
     }
 }
 
+// The end of the paragraph of a late measurement: since when it has been due.
 fn since_due(page: &mut Markup, due: Moment, now: Moment) {
     page.text(", due since ");
     near(page, due, now);

@@ -23,6 +23,7 @@ pub(crate) fn result(page: &mut Markup, value: &Value, units: Units) {
     }
 }
 
+// Writes a list in brackets, with semicolons, each number by the units of its place.
 fn list(page: &mut Markup, values: &[i64], units: Units) {
     let mut before = "[";
     for (place, number) in values.iter().enumerate() {

@@ -42,6 +42,7 @@ pub(crate) fn step_analyses(alloc: Global, steps: &[Step]) -> Result<Listed<List
     Ok(found)
 }
 
+// Adds a copy of the step's template names if it is an analysis, or `Memory`.
 fn with_step(
     alloc: Global,
     mut found: Listed<Listed<Name>>,
@@ -75,6 +76,7 @@ pub(crate) fn analyses(
     }
 }
 
+// Adds a copy of the background's template names at the end, or `Memory`.
 fn with_background(
     alloc: Global,
     mut found: Listed<Listed<Name>>,
@@ -111,6 +113,7 @@ pub(crate) fn metrics_named(
     Ok(metrics)
 }
 
+// Adds copies of more metrics at the end, in order, or `Memory`.
 fn with_metrics(
     alloc: Global,
     mut metrics: Listed<Metric>,
@@ -148,6 +151,7 @@ fn labels_named(alloc: Global, known: &Templates, names: &[Name]) -> Result<List
     Ok(labels)
 }
 
+// Adds the names of these metrics at the end, in order, or `Memory`.
 fn with_labels(mut labels: Listed<Label>, metrics: &[Metric]) -> Result<Listed<Label>, Memory>
     ensures { IfOk result (λ all. all ≡ labels ++ map (λ (m : MetricValue). m.name) metrics.now) }
 {
@@ -176,6 +180,7 @@ pub(crate) fn is_endless(known: &Templates, names: &[Name]) -> bool
     false
 }
 
+// Whether one of these metrics, dry-run or not, is without end.
 fn has_endless(metrics: &[Metric]) -> bool
     ensures { result ≡ list_any is_without_end metrics.now }
 {

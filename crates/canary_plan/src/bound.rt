@@ -129,6 +129,7 @@ impl Bound {
 }
 
 impl BoundParts {
+    // The bound analysis at that step, from 0, if there is such a step and it has one.
     fn step_analysis(&self, step: u32) -> Option<&BoundAnalysis>
         ensures { option_copied result ≡ analysis_at self.now (Some step) }
     {
@@ -163,6 +164,7 @@ fn with_analysis(
     }
 }
 
+// Adds more revisions at the end, in order, or `Memory`.
 fn with_revisions(
     mut found: Listed<Revision>,
     more: &[Revision],
@@ -194,6 +196,7 @@ pub(crate) fn bound_parts(
     })
 }
 
+// What `bound_step` gives of each step, at the step's place.
 fn bound_steps(
     alloc: Global,
     steps: &[Step],
@@ -209,6 +212,7 @@ fn bound_steps(
     Ok(found)
 }
 
+// The step's analysis, if any, bound to the known templates; none if they do not bind it.
 fn bound_step(
     alloc: Global,
     step: &Step,
@@ -224,6 +228,7 @@ fn bound_step(
     }
 }
 
+// The background analysis, if any, bound to the known templates; none if they do not bind it.
 fn bound_background(
     alloc: Global,
     background: Option<&Background>,
@@ -277,6 +282,7 @@ fn revisions_named(
     Ok(revisions)
 }
 
+// The revision of the template of that name, if it is known.
 fn revision_of(known: &Templates, name: Name) -> Option<Revision>
     ensures { MatchOption result
         (revisions_in name (get known.now name) ≡ [])

@@ -88,6 +88,7 @@ fn bound_refusal_among(
     Ok(None)
 }
 
+// Whether two metrics of one of the analyses have one name, or `Memory`.
 fn some_repeats_metric(
     alloc: Global,
     known: &Templates,
@@ -103,6 +104,7 @@ fn some_repeats_metric(
     Ok(false)
 }
 
+// Whether one of the analyses names a template that is not known.
 fn some_has_unknown(known: &Templates, analyses: &[Listed<Name>]) -> bool
     ensures { result ≡ list_any (has_unknown (get known.now)) analyses.now }
 {
@@ -111,6 +113,7 @@ fn some_has_unknown(known: &Templates, analyses: &[Listed<Name>]) -> bool
         .any(|names| analysis::has_unknown(known, names.as_slice()))
 }
 
+// Whether one of the analyses has a metric without end, as `analysis::is_endless` says.
 fn some_is_endless(known: &Templates, analyses: &[Listed<Name>]) -> bool
     ensures { result ≡ list_any (is_endless (get known.now)) analyses.now }
 {
@@ -119,12 +122,14 @@ fn some_is_endless(known: &Templates, analyses: &[Listed<Name>]) -> bool
         .any(|names| analysis::is_endless(known, names.as_slice()))
 }
 
+// Whether one of the analyses is not bound by the known templates.
 fn some_is_unfit(known: &Templates, analyses: &[Listed<Name>]) -> bool
     ensures { result ≡ list_any (is_unfit (get known.now)) analyses.now }
 {
     analyses.iter().any(|names| is_unfit(known, names))
 }
 
+// Whether a template of the analysis is not known, or they do not have 1 to 32 metrics together.
 fn is_unfit(known: &Templates, names: &Listed<Name>) -> bool
     ensures { result ≡ is_unfit (get known.now) names.now }
 {
@@ -143,12 +148,14 @@ fn is_bad_strategy(spec: &ServiceSpec) -> bool
     !are_within_limits(steps) || !is_background_within_limits(&spec.background)
 }
 
+// Whether no step has a weight above 100, or an analysis with no template or more than 8.
 fn are_within_limits(steps: &[Step]) -> bool
     ensures { result ≡ list_all is_within_limits steps.now }
 {
     steps.iter().all(is_within_limits)
 }
 
+// Whether a weight is at most 100, or an analysis has 1 to 8 templates; a pause has no limit.
 fn is_within_limits(step: &Step) -> bool
     ensures { result ≡ is_within_limits step.now }
 {
@@ -159,6 +166,7 @@ fn is_within_limits(step: &Step) -> bool
     }
 }
 
+// Whether there is no background analysis, or it has 1 to 8 templates.
 fn is_background_within_limits(background: &Option<Background>) -> bool
     ensures { result ≡ is_background_within_limits background.now }
 {

@@ -133,6 +133,7 @@ impl Command {
         self.kind() == other.kind() && self.has_same_parts(other)
     }
 
+    // Whether what they name, register and bring is the same; the kinds are not looked at.
     fn has_same_parts(&self, other: &Command) -> bool
         ensures { result ≡ same_parts self.now other.now }
     {

@@ -20,12 +20,14 @@ impl From<Memory> for BindFault {
 
     ghost from_gives = { λ _ fault. fault ≡ NoMemory };
 
+    // A refused allocation, as the fault of binding a template.
     fn from(_: Memory) -> BindFault {
         BindFault::Memory
     }
 }
 
 impl fmt::Display for BindFault {
+    // Writes that the template is refused, with the refusal's code, or that no memory is left.
     fn fmt<W: fmt::Write>(&self, f: &mut fmt::Formatter<W>) -> fmt::Result {
         match self {
             BindFault::Refused(refusal) => write!(f, "the template is refused: {refusal}"),
@@ -50,12 +52,14 @@ impl From<Memory> for CheckFault {
 
     ghost from_gives = { λ _ fault. fault ≡ NoMemory };
 
+    // A refused allocation, as the fault of checking or binding a strategy.
     fn from(_: Memory) -> CheckFault {
         CheckFault::Memory
     }
 }
 
 impl fmt::Display for CheckFault {
+    // Writes that the strategy is refused, with the refusal's code, or that no memory is left.
     fn fmt<W: fmt::Write>(&self, f: &mut fmt::Formatter<W>) -> fmt::Result {
         match self {
             CheckFault::Refused(refusal) => write!(f, "the strategy is refused: {refusal}"),

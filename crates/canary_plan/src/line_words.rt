@@ -94,6 +94,7 @@ fn of_step(step: u32, text: &str, number: u32) -> ArrayString<MOST_WORDS>
     words
 }
 
+// The words of a pause without a duration.
 fn of_pause(step: u32) -> ArrayString<MOST_WORDS>
     ensures { result.bytes ≡ codes "step " ++ (decimal step ++ codes " pause") }
 {
@@ -102,6 +103,7 @@ fn of_pause(step: u32) -> ArrayString<MOST_WORDS>
     words
 }
 
+// The words of a pause with its duration, in seconds.
 fn of_timed_pause(step: u32, seconds: Seconds) -> ArrayString<MOST_WORDS>
     ensures bytes { result.bytes ≡ codes "step "
         ++ (decimal step ++ (codes " pause " ++ (decimal seconds ++ codes "s"))) }
@@ -112,6 +114,7 @@ fn of_timed_pause(step: u32, seconds: Seconds) -> ArrayString<MOST_WORDS>
     words
 }
 
+// The words of a run's number and the verdict at which it was closed.
 fn of_run(run: u32, phase: Phase) -> ArrayString<MOST_WORDS>
     ensures bytes { result.bytes ≡ words (Completed run phase) }
     ensures short { array_string_len result ≤ 27 }
@@ -122,6 +125,7 @@ fn of_run(run: u32, phase: Phase) -> ArrayString<MOST_WORDS>
     words
 }
 
+// The words of a run that was ended from outside: those of `of_run` and one more.
 fn of_ended_run(run: u32, phase: Phase) -> ArrayString<MOST_WORDS>
     ensures { result.bytes ≡ words (Ended run phase) }
 {
@@ -161,6 +165,7 @@ fn read_number(text: &str) -> Option<u32>
     }
 }
 
+// The version that the text is; none if it is no label.
 fn read_version(text: &str) -> Option<Label>
     ensures { result ≡ version_of text.now }
 {
@@ -266,6 +271,7 @@ fn read_step(text: &str) -> Option<LineEvent>
     }
 }
 
+// The event of entering that step: a pause without a duration is one word, others are several.
 fn read_entered(step: u32, text: &str) -> Option<LineEvent>
     ensures { result ≡ entered step text.now }
 {
@@ -276,6 +282,7 @@ fn read_entered(step: u32, text: &str) -> Option<LineEvent>
     }
 }
 
+// The event of entering that step, by its kind and what follows the kind.
 fn read_entered_as(step: u32, kind: &str, rest: &str) -> Option<LineEvent>
     ensures { result ≡ entered_as step kind.now rest.now }
 {
@@ -301,6 +308,7 @@ fn read_run(text: &str) -> Option<LineEvent>
     }
 }
 
+// The event of closing that run: its phase alone, or with the word that it was ended from outside.
 fn read_closed(run: u32, text: &str) -> Option<LineEvent>
     ensures { result ≡ closed run text.now }
 {

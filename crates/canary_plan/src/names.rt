@@ -45,6 +45,7 @@ fn names_of(alloc: Global, strategy: Option<&Strategy>) -> Result<Listed<Name>, 
     }
 }
 
+// The templates of the steps' analyses, then of the background's; a name may come several times.
 fn names_of_analyses(
     alloc: Global,
     steps: &[Step],
@@ -58,6 +59,7 @@ fn names_of_analyses(
     Ok(Listed::of(names))
 }
 
+// The templates of the steps' analyses, in order; a name may come several times.
 fn names_of_steps(alloc: Global, steps: &[Step]) -> Result<Vec<Name>, Memory>
     ensures { IfOk result
         (λ names. names.items ≡ all_names (filter_map names_of_step steps.now)) }

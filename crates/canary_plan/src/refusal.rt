@@ -104,6 +104,7 @@ impl Refusal {
 impl fmt::Display for Refusal {
     ghost output = { λ refusal. Some (code_of refusal) };
 
+    // Writes the refusal's code, without the numbers that it may have.
     fn fmt<W: fmt::Write>(&self, f: &mut fmt::Formatter<W>) -> fmt::Result {
         f.write_str(self.code())
     }

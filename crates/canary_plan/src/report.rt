@@ -56,6 +56,7 @@ impl Report {
     }
 }
 
+// A copy of the entries, in order, or `Memory`.
 fn copy_entries(alloc: Global, entries: &[Entry]) -> Result<Listed<Entry>, Memory>
     ensures { IfOk result (λ copies. copies ≡ entries.now) }
 {

@@ -55,6 +55,7 @@ pub fn are_same_reports(ours: Option<&Report>, theirs: Option<&Report>) -> bool
 
 // Templates.
 
+// Whether the name, the metrics and the dry-run names are the same, in the same order.
 fn is_same_template(ours: &TemplateSpec, theirs: &TemplateSpec) -> bool
     ensures { result ≡ same_template ours.now theirs.now }
 {
@@ -63,6 +64,7 @@ fn is_same_template(ours: &TemplateSpec, theirs: &TemplateSpec) -> bool
         && are_same_dry_run(ours.dry_run.as_slice(), theirs.dry_run.as_slice())
 }
 
+// Whether there are as many metrics, and each is the same as the one at its place.
 fn are_same_metrics(ours: &[MetricSpec], theirs: &[MetricSpec]) -> bool
     ensures { result ≡ pointwise same_metric ours.now theirs.now }
 {
@@ -77,6 +79,7 @@ fn are_same_metrics(ours: &[MetricSpec], theirs: &[MetricSpec]) -> bool
     true
 }
 
+// Whether the same names are to be dry-run, in the same order.
 fn are_same_dry_run(ours: &[DryRunName], theirs: &[DryRunName]) -> bool
     ensures { result ≡ same_names ours.now theirs.now }
 {
@@ -91,6 +94,7 @@ fn are_same_dry_run(ours: &[DryRunName], theirs: &[DryRunName]) -> bool
     true
 }
 
+// Whether the name, the conditions, the times, the counts and the limits are the same.
 fn is_same_metric(ours: &MetricSpec, theirs: &MetricSpec) -> bool
     ensures { result ≡ same_metric ours.now theirs.now }
 {
@@ -100,6 +104,7 @@ fn is_same_metric(ours: &MetricSpec, theirs: &MetricSpec) -> bool
         && have_same_numbers(ours, theirs)
 }
 
+// Whether the two conditions have the same text, or both are absent.
 fn is_same_condition(ours: &Option<Text>, theirs: &Option<Text>) -> bool
     ensures { result ≡ same_option bytes_eq ours.now theirs.now }
 {
@@ -110,12 +115,14 @@ fn is_same_condition(ours: &Option<Text>, theirs: &Option<Text>) -> bool
     }
 }
 
+// Whether the times and counts, and the limits, are the same.
 fn have_same_numbers(ours: &MetricSpec, theirs: &MetricSpec) -> bool
     ensures { result ≡ (same_times ours.now theirs.now && same_limits ours.now theirs.now) }
 {
     have_same_times(ours, theirs) && have_same_limits(ours, theirs)
 }
 
+// Whether the interval, the initial delay, the count and `pass_after` are the same.
 fn have_same_times(ours: &MetricSpec, theirs: &MetricSpec) -> bool
     ensures { result ≡ same_times ours.now theirs.now }
 {
@@ -125,6 +132,7 @@ fn have_same_times(ours: &MetricSpec, theirs: &MetricSpec) -> bool
         && ours.pass_after == theirs.pass_after
 }
 
+// Whether the limits of failed, inconclusive and consecutive error measurements are the same.
 fn have_same_limits(ours: &MetricSpec, theirs: &MetricSpec) -> bool
     ensures { result ≡ same_limits ours.now theirs.now }
 {
@@ -135,6 +143,7 @@ fn have_same_limits(ours: &MetricSpec, theirs: &MetricSpec) -> bool
 
 // Services.
 
+// Whether the name, the version, the steps and the background analysis are the same.
 fn is_same_service(ours: &ServiceSpec, theirs: &ServiceSpec) -> bool
     ensures { result ≡ same_service ours.now theirs.now }
 {
@@ -144,6 +153,7 @@ fn is_same_service(ours: &ServiceSpec, theirs: &ServiceSpec) -> bool
         && are_same_backgrounds(&ours.background, &theirs.background)
 }
 
+// Whether there are as many steps, and each is the same as the one at its place.
 fn are_same_steps(ours: &[Step], theirs: &[Step]) -> bool
     ensures { result ≡ pointwise same_step ours.now theirs.now }
 {
@@ -158,6 +168,7 @@ fn are_same_steps(ours: &[Step], theirs: &[Step]) -> bool
     true
 }
 
+// Whether the steps are of one kind, with the same weight, duration or templates.
 fn is_same_step(ours: &Step, theirs: &Step) -> bool
     ensures { result ≡ same_step ours.now theirs.now }
 {
@@ -171,12 +182,14 @@ fn is_same_step(ours: &Step, theirs: &Step) -> bool
     }
 }
 
+// Whether the names are the same, in the same order.
 fn are_same_names(ours: &[Name], theirs: &[Name]) -> bool
     ensures { result ≡ same_names ours.now theirs.now }
 {
     ours == theirs
 }
 
+// Whether the two background analyses are the same, or both are absent.
 fn are_same_backgrounds(ours: &Option<Background>, theirs: &Option<Background>) -> bool
     ensures { result ≡ same_option same_background ours.now theirs.now }
 {
@@ -187,6 +200,7 @@ fn are_same_backgrounds(ours: &Option<Background>, theirs: &Option<Background>) 
     }
 }
 
+// Whether the templates, in order, and the starting step are the same.
 fn is_same_background(ours: &Background, theirs: &Background) -> bool
     ensures { result ≡ same_background ours.now theirs.now }
 {
@@ -196,6 +210,7 @@ fn is_same_background(ours: &Background, theirs: &Background) -> bool
 
 // Reports.
 
+// Whether the service, the run and the entries, in order, are the same.
 fn is_same_report(ours: &Report, theirs: &Report) -> bool
     ensures { result ≡ same_report ours.now theirs.now }
 {
@@ -204,6 +219,7 @@ fn is_same_report(ours: &Report, theirs: &Report) -> bool
         && are_same_entries(ours.entries.as_slice(), theirs.entries.as_slice())
 }
 
+// Whether there are as many entries, and each is the same as the one at its place.
 fn are_same_entries(ours: &[Entry], theirs: &[Entry]) -> bool
     ensures { result ≡ pointwise same_entry ours.now theirs.now }
 {
@@ -218,6 +234,7 @@ fn are_same_entries(ours: &[Entry], theirs: &[Entry]) -> bool
     true
 }
 
+// Whether the metric, the ordinal, the moment and the outcome are the same.
 fn is_same_entry(ours: &Entry, theirs: &Entry) -> bool
     ensures { result ≡ same_entry ours.now theirs.now }
 {
@@ -227,6 +244,7 @@ fn is_same_entry(ours: &Entry, theirs: &Entry) -> bool
         && is_same_outcome(&ours.outcome, &theirs.outcome)
 }
 
+// Whether both are the same result, or both are failures with the same text.
 fn is_same_outcome(ours: &Outcome, theirs: &Outcome) -> bool
     ensures { result ≡ same_outcome ours.now theirs.now }
 {
@@ -237,6 +255,7 @@ fn is_same_outcome(ours: &Outcome, theirs: &Outcome) -> bool
     }
 }
 
+// Whether both are the same number, or both are lists of the same numbers.
 fn is_same_value(ours: &Value, theirs: &Value) -> bool
     ensures { result ≡ same_value ours.now theirs.now }
 {
@@ -249,6 +268,7 @@ fn is_same_value(ours: &Value, theirs: &Value) -> bool
     }
 }
 
+// Whether the numbers of the two lists are the same, in the same order.
 fn are_same_numbers(ours: &[i64], theirs: &[i64]) -> bool
     ensures { result ≡ pointwise int_eq ours.now theirs.now }
 {

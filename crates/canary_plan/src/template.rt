@@ -139,6 +139,7 @@ fn is_unreadable(alloc: Global, text: &Option<Text>) -> Result<bool, Memory>
     }
 }
 
+// A copy of the metrics, in order, or `Memory`.
 fn copy_metrics(alloc: Global, metrics: &[Metric]) -> Result<Listed<Metric>, Memory>
     ensures { IfOk result (λ copies. copies ≡ metrics.now) }
 {
@@ -191,6 +192,7 @@ fn bound_metric(
     Ok(metric_of(settings))
 }
 
+// The metric of these settings, which are within their limits, so that there is one.
 fn metric_of(settings: MetricSettings) -> Metric
     requires { IsTrue (are_within_limits settings) }
     ensures { result ≡ metric_of settings }
@@ -205,6 +207,7 @@ fn is_marked(dry_run: &[DryRunName], name: Label) -> bool
     dry_run.iter().any(|marked| marks(marked, name))
 }
 
+// Whether that name is the metric's, or `ALL_METRICS`.
 fn marks(marked: &DryRunName, name: Label) -> bool
     ensures { result ≡ (bytes_eq marked.now all_metrics || bytes_eq marked.now name) }
 {
@@ -257,6 +260,7 @@ fn other_refusal(alloc: Global, spec: &TemplateSpec) -> Result<Option<Refusal>, 
     Ok(None)
 }
 
+// Whether one of the metrics has a count above 1 and no interval.
 fn some_needs_interval(metrics: &[MetricSpec]) -> bool
     ensures { result ≡ list_any needs_interval metrics.now }
 {
@@ -285,6 +289,7 @@ fn repeats_name(alloc: Global, metrics: &[MetricSpec]) -> Result<bool, Memory>
     has_duplicate(alloc, names.as_slice())
 }
 
+// Whether a name that is to be dry-run is neither a metric's nor the one for all.
 fn some_is_foreign(spec: &TemplateSpec) -> bool
     ensures { result ≡ list_any (is_foreign spec.now) spec.now.dry_run }
 {
@@ -301,6 +306,7 @@ fn is_foreign(spec: &TemplateSpec, name: &DryRunName) -> bool
     !(name.as_str() == ALL_METRICS || is_metric(spec.metrics.as_slice(), name))
 }
 
+// Whether one of the metrics has that name.
 fn is_metric(metrics: &[MetricSpec], name: &DryRunName) -> bool
     ensures { result ≡ list_any (λ (m : MetricSpec). bytes_eq m.name name.now) metrics.now }
 {

@@ -130,6 +130,7 @@ impl TemplateSpec {
     }
 }
 
+// A copy of the metrics, in order, or `Memory`.
 fn copy_metric_specs(alloc: Global, metrics: &[MetricSpec]) -> Result<Listed<MetricSpec>, Memory>
     ensures { IfOk result (λ copies. copies ≡ metrics.now) }
 {
@@ -140,6 +141,7 @@ fn copy_metric_specs(alloc: Global, metrics: &[MetricSpec]) -> Result<Listed<Met
     Ok(copies)
 }
 
+// A copy of the dry-run names, in order, or `Memory`.
 fn copy_dry_run(alloc: Global, names: &[DryRunName]) -> Result<Listed<DryRunName>, Memory>
     ensures { IfOk result (λ copies. copies ≡ names.now) }
 {
@@ -150,6 +152,7 @@ fn copy_dry_run(alloc: Global, names: &[DryRunName]) -> Result<Listed<DryRunName
     Ok(copies)
 }
 
+// A copy of a condition's text, if there is one, or `Memory`.
 fn copy_text(alloc: Global, text: &Option<Text>) -> Result<Option<Text>, Memory>
     ensures { IfOk result (λ copy. copy ≡ text.now) }
 {

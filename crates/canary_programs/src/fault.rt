@@ -60,6 +60,7 @@ pub enum Fault {
 }
 
 impl fmt::Display for Fault {
+    // What went wrong, in words for people. `line` has a word for programs.
     fn fmt<W: fmt::Write>(&self, f: &mut fmt::Formatter<W>) -> fmt::Result {
         f.write_str(match self {
             Fault::Memory => "out of memory",
@@ -122,6 +123,7 @@ impl From<Memory> for Fault {
 
     ghost from_gives = { λ _ made. made ≡ fault.Memory };
 
+    // A refused allocation is `Memory`.
     fn from(_: Memory) -> Fault {
         Fault::Memory
     }
@@ -132,6 +134,7 @@ impl From<AllocError> for Fault {
 
     ghost from_gives = { λ _ made. made ≡ fault.Memory };
 
+    // A refused allocation is `Memory`.
     fn from(_: AllocError) -> Fault {
         Fault::Memory
     }
@@ -142,6 +145,7 @@ impl From<BookFault> for Fault {
 
     ghost from_gives = { λ fault made. made ≡ of_book fault };
 
+    // A fault of a book, under the same name.
     fn from(fault: BookFault) -> Fault {
         match fault {
             BookFault::Memory => Fault::Memory,
@@ -155,6 +159,7 @@ impl From<BackupFault> for Fault {
 
     ghost from_gives = { λ fault made. made ≡ of_backup fault };
 
+    // A fault of a copy, under the same name.
     fn from(fault: BackupFault) -> Fault {
         match fault {
             BackupFault::Memory => Fault::Memory,
@@ -170,6 +175,7 @@ impl From<ImportFault> for Fault {
 
     ghost from_gives = { λ fault made. made ≡ of_import fault };
 
+    // A fault of an import, under the same name.
     fn from(fault: ImportFault) -> Fault {
         match fault {
             ImportFault::Read => Fault::Read,
@@ -186,6 +192,7 @@ impl From<ExportFault> for Fault {
 
     ghost from_gives = { λ fault made. made ≡ of_export fault };
 
+    // A fault of an export, under the same name.
     fn from(fault: ExportFault) -> Fault {
         match fault {
             ExportFault::Memory => Fault::Memory,
@@ -202,6 +209,7 @@ impl From<ListenFault> for Fault {
 
     ghost from_gives = { λ fault made. made ≡ of_listen fault };
 
+    // A fault of the listener, under the same name, but for `Lost`, which is `Replaced`.
     fn from(fault: ListenFault) -> Fault {
         match fault {
             ListenFault::Memory => Fault::Memory,
@@ -217,6 +225,7 @@ impl From<PageFault> for Fault {
 
     ghost from_gives = { λ fault made. made ≡ of_page fault };
 
+    // A fault of a page, under the same name.
     fn from(fault: PageFault) -> Fault {
         match fault {
             PageFault::Memory => Fault::Memory,

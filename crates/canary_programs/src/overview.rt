@@ -72,6 +72,7 @@ fn add_services<B: Book>(
     Ok(())
 }
 
+// Adds the service of this name, or nothing if there is no such service.
 fn add_named<B: Book>(
     book: &mut B,
     name: &Name,

@@ -126,6 +126,7 @@ fn with_services<B: Book>(
     Ok(commands)
 }
 
+// Adds the command after the others, if there is one; or `Memory`.
 fn push_if(commands: &mut Listed<Command>, command: Option<Command>) -> Result<(), Memory>
     ensures ok { OnOk result (commands.new ≡ commands.old ++ cons_option command []) }
 {
@@ -189,6 +190,7 @@ fn made_again(alloc: Global, service: &Service, now: Moment) -> Result<ServiceSp
     Ok(spec_again(alloc, &passed.service)?)
 }
 
+// Whether a release is going on in this state of a service.
 fn is_going(state: State) -> bool
     ensures { result ≡ is_going state }
 {
@@ -210,6 +212,7 @@ fn spec_again(alloc: Global, service: &Service) -> Result<ServiceSpec, Memory>
     })
 }
 
+// A copy of the background, if there is one; or `Memory`.
 fn copied(alloc: Global, background: Option<&Background>) -> Result<Option<Background>, Memory>
     ensures { IfOk result (λ copy. copy ≡ option_copied background.entry) }
 {
@@ -239,6 +242,7 @@ fn requests_of(
     Ok(requests)
 }
 
+// The command as a request; `Memory` also if the number is invalid, as above 1,000,000,000.
 fn request_of(caller: Name, number: u32, command: Command, now: Moment) -> Result<Event, Memory>
     ensures made { IfOk result
         (λ request. request ≡ Event.Request (request_of now caller number command)) }
@@ -265,6 +269,7 @@ fn settle<B: Book>(alloc: Global, book: &mut B, requests: &[Event]) -> Result<()
     are_accepted(answers.as_slice())
 }
 
+// That each answer is an accepted reply, or the fault of the first that is not.
 fn are_accepted(answers: &[Answer]) -> Result<(), Fault>
     ensures ok { OnOk result (All IsAccepted answers.now) }
     ensures other { result ≢ Err fault.InProgress }
@@ -275,6 +280,7 @@ fn are_accepted(answers: &[Answer]) -> Result<(), Fault>
     Ok(())
 }
 
+// That the answer is an accepted reply; a refused one is `Storage`.
 fn is_accepted(answer: &Answer) -> Result<(), Fault>
     ensures ok { OnOk result (IsAccepted answer.now) }
     ensures other { result ≢ Err fault.InProgress }

@@ -37,6 +37,7 @@ pub(crate) fn body_of(alloc: Global, value: &Value<'_>, method: Method) -> Resul
     }
 }
 
+// A body of no bytes, for a message without one.
 fn nothing(alloc: Global) -> Body
     ensures { (result.bytes.items ≡ []) × (result.is_json ≡ false) }
 {
@@ -46,6 +47,7 @@ fn nothing(alloc: Global) -> Body
     }
 }
 
+// The body that is this text as it is; refused if it is no text, or the method is GET.
 fn text_body(alloc: Global, text: &Value<'_>, method: Method) -> Result<Body, Stop>
     ensures { IfOk result (λ body. (as_str (value_view text.now) ≡ Some body.bytes.items)
         × (body.is_json ≡ false)) }
@@ -60,6 +62,7 @@ fn text_body(alloc: Global, text: &Value<'_>, method: Method) -> Result<Body, St
     })
 }
 
+// The body that is this value printed as JSON; refused if the method is GET.
 fn json_body(alloc: Global, json: &Value<'_>, method: Method) -> Result<Body, Stop>
     requires { HasNumbers (value_view json.now) }
     ensures { IfOk result (λ body. (body.bytes.items ≡ print (json_tokens (value_view json.now)))

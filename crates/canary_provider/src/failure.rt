@@ -33,6 +33,7 @@ impl From<Memory> for Fault<'_> {
 
     ghost from_gives = { λ _ fault. fault ≡ refused };
 
+    // A refused allocation is `Fault::Memory`.
     fn from(_: Memory) -> Self {
         Fault::Memory
     }
@@ -44,6 +45,7 @@ impl From<AllocError> for Fault<'_> {
 
     ghost from_gives = { λ _ fault. fault ≡ refused };
 
+    // The same, as calls of the standard library report it.
     fn from(_: AllocError) -> Self {
         Fault::Memory
     }
@@ -55,6 +57,7 @@ impl<T: Drop> From<AllocFailed<T>> for Fault<'_> {
 
     ghost from_gives = { λ _ fault. fault ≡ refused };
 
+    // The same, as calls report it that return the value for which there was no room.
     fn from(_: AllocFailed<T>) -> Self {
         Fault::Memory
     }
@@ -102,6 +105,7 @@ pub(crate) fn front_of(body: &[u8]) -> &str {
     }
 }
 
+// The bytes before `end` as text; up to there they are valid UTF-8.
 fn text_at(front: &[u8], end: usize) -> &str {
     let text = front.get(..end).unwrap_or(&[]);
     str::from_utf8(text).unwrap_or("")
@@ -119,6 +123,7 @@ fn told(alloc: Global, what: &str, text: &str) -> Result<FailureText, Memory>
     finished(alloc, &words)
 }
 
+// The text of a failure, of these words, which are never empty.
 fn finished(alloc: Global, words: &ArrayString<MOST>) -> Result<FailureText, Memory>
     requires { IsShown words.now.bytes }
     ensures { IfOk result (λ text. IsShown text) }

@@ -83,6 +83,7 @@ pub(crate) fn add_length(
     }
 }
 
+// The field Content-Length with that number, in decimal.
 fn length_line(alloc: Global, length: usize) -> Result<Line, Stop>
     ensures { IfOk result (λ line. line ≡ LENGTH.now ++ decimal length) }
 {
@@ -91,6 +92,7 @@ fn length_line(alloc: Global, length: usize) -> Result<Line, Stop>
     line_of(alloc, LENGTH.as_bytes(), digits.as_bytes(), &[])
 }
 
+// The line of these three parts, one after another; refused as `HeaderValue` if they are no line.
 fn line_of(alloc: Global, first: &[u8], second: &[u8], third: &[u8]) -> Result<Line, Stop>
     ensures { IfOk result (λ line. line ≡ first.now ++ second.now ++ third.now) }
 {
@@ -102,6 +104,7 @@ fn line_of(alloc: Global, first: &[u8], second: &[u8], third: &[u8]) -> Result<L
 
 // ---- the fields of the plan
 
+// The fields that the plan's `headers` ask for, if they are there; refused if they are no list.
 fn headers_at(alloc: Global, headers: Option<&Value<'_>>) -> Result<Vec<Line>, Stop>
     ensures { IfOk result (λ lines. AreHeadersAt
         (option_map (λ v. value_view v.now) headers.entry) lines.items) }
@@ -115,6 +118,7 @@ fn headers_at(alloc: Global, headers: Option<&Value<'_>>) -> Result<Vec<Line>, S
     }
 }
 
+// The field that each item asks for, in order, or the first refusal.
 fn headers_of(alloc: Global, list: &[Value<'_>]) -> Result<Vec<Line>, Stop>
     ensures { IfOk result (λ lines. AreHeaders (items_view list.now) lines.items) }
 {
@@ -125,6 +129,7 @@ fn headers_of(alloc: Global, list: &[Value<'_>]) -> Result<Vec<Line>, Stop>
     Ok(lines)
 }
 
+// The field that an object with `key` and `value` asks for; refused if one of them is no text.
 fn header_of(alloc: Global, value: &Value<'_>) -> Result<Line, Stop>
     ensures { IfOk result (λ line. IsHeader (value_view value.now) line) }
 {
@@ -137,6 +142,7 @@ fn header_of(alloc: Global, value: &Value<'_>) -> Result<Line, Stop>
     header(alloc, key.as_bytes(), text.as_bytes())
 }
 
+// The field of that name with that text; refused if the name is no token, or no plan may have it.
 fn header(alloc: Global, key: &[u8], text: &[u8]) -> Result<Line, Stop>
     ensures name { OnOk result (IsTrue (is_token key.now)) }
     ensures own { OnOk result (is_own key.now ≡ false) }
@@ -167,6 +173,7 @@ fn is_own(name: &[u8]) -> bool
         || is_same_name(b"Upgrade", name)
 }
 
+// Whether both names are the same but for the case of their letters.
 fn is_same_name(one: &[u8], other: &[u8]) -> bool
     ensures { result ≡ str_eq_ignore_ascii_case one.now other.now }
 {
@@ -180,18 +187,21 @@ fn is_token(bytes: &[u8]) -> bool
     !bytes.is_empty() && are_token_bytes(bytes)
 }
 
+// Whether each byte may be in a token; so it is if there are no bytes.
 fn are_token_bytes(bytes: &[u8]) -> bool
     ensures { result ≡ list_all is_token_byte bytes.now }
 {
     bytes.iter().all(|byte| is_token_byte(*byte))
 }
 
+// Whether the byte may be in a token: a letter, a digit or a mark.
 fn is_token_byte(byte: u8) -> bool
     ensures { result ≡ is_token_byte byte }
 {
     byte.is_ascii_alphanumeric() || is_token_mark(byte)
 }
 
+// Whether the byte is one of the 15 marks that a token may have.
 fn is_token_mark(byte: u8) -> bool
     ensures { result ≡ is_token_mark byte }
 {
@@ -222,6 +232,7 @@ fn has_name(fields: &[Line], own: &[u8]) -> bool
     fields.iter().any(|line| is_named_as(line.as_bytes(), own))
 }
 
+// Whether the line of a field has the name of that other line.
 fn is_named_as(line: &[u8], own: &[u8]) -> bool
     ensures { result ≡ has_name own.now line.now }
 {
@@ -235,6 +246,7 @@ fn name_of(line: &[u8]) -> &[u8]
     &line[..name_len(line)]
 }
 
+// How many bytes the name of a field has: all of the line if it has no colon.
 fn name_len(line: &[u8]) -> usize
     ensures value { result ≡ unwrap_or (position is_colon line.now) (length line.now) }
     ensures within { result ≤ length line.now }

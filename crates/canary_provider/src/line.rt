@@ -65,18 +65,21 @@ impl Line {
     }
 }
 
+// Whether these bytes are a line: there is one at least, and no control but a tab.
 fn is_line(bytes: &[u8]) -> bool
     ensures { result ≡ is_line bytes.now }
 {
     !bytes.is_empty() && are_line_bytes(bytes)
 }
 
+// Whether each byte may be in a line; so it is if there are no bytes.
 fn are_line_bytes(bytes: &[u8]) -> bool
     ensures { result ≡ list_all is_line_byte bytes.now }
 {
     bytes.iter().all(|byte| is_line_byte(*byte))
 }
 
+// Whether the byte may be in a line: a tab, or no control.
 fn is_line_byte(byte: u8) -> bool
     ensures { result ≡ is_line_byte byte }
 {

@@ -29,6 +29,7 @@ pub fn message_of(alloc: Global, provider: &Provider) -> Result<Vec<u8>, Memory>
     Ok(bytes)
 }
 
+// Appends the fields, each as a line with its end.
 fn put_all(bytes: &mut Vec<u8>, lines: &[Line]) -> Result<(), Memory>
     ensures bytes { OnOk result
         (bytes.new.items ≡ bytes.old.items ++ flat_map ended lines.now) }

@@ -40,6 +40,7 @@ pub struct Path {
 type First<'t> = Option<(Step, &'t [u8])>;
 
 impl Step {
+    // Where the step leads from this value, if it has that member or item.
     fn to<'v, 'a>(&self, value: &'v Value<'a>) -> Option<&'v Value<'a>>
         ensures { option_map (λ v. value_view v.now) result
             ≡ step_to self.now (value_view value.now) }
@@ -72,6 +73,7 @@ impl Path {
     }
 }
 
+// Where these steps lead, one after another; without any, to the value itself.
 fn follow<'v, 'a>(steps: &[Step], value: &'v Value<'a>) -> Option<&'v Value<'a>>
     ensures { option_map (λ v. value_view v.now) result ≡ found steps.now (value_view value.now) }
 {

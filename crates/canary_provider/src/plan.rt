@@ -77,6 +77,7 @@ impl Provider {
     }
 }
 
+// The two reasons to stop, apart: a refusal is part of the result, `Memory` is the error.
 fn settled(read: Result<Provider, Stop>) -> Result<Result<Provider, Refusal>, Memory>
     ensures { IfOk result (λ told. IfOk told (λ p. read ≡ Ok p)) }
 {
@@ -87,6 +88,7 @@ fn settled(read: Result<Provider, Stop>) -> Result<Result<Provider, Refusal>, Me
     }
 }
 
+// What a provider of that kind is asked by this value, which has its object under the kind.
 fn provider_of(alloc: Global, kind: &str, value: &Value<'_>) -> Result<Provider, Stop>
     requires { HasNumbers (value_view value.now) }
     ensures { IfOk result (λ p. IsPlanAt kind.now (given_at kind.now (value_view value.now)) p) }
@@ -100,6 +102,7 @@ fn provider_of(alloc: Global, kind: &str, value: &Value<'_>) -> Result<Provider,
     }
 }
 
+// What a provider of that kind is asked by its own object.
 fn of_kind(alloc: Global, kind: &str, value: &Value<'_>) -> Result<Provider, Stop>
     requires { HasNumbers (value_view value.now) }
     ensures { IfOk result (λ p. IsPlan kind.now (value_view value.now) p) }
@@ -115,6 +118,7 @@ fn of_kind(alloc: Global, kind: &str, value: &Value<'_>) -> Result<Provider, Sto
 
 // ---- Prometheus
 
+// What Prometheus is asked by its object: a query at one moment.
 fn prometheus(alloc: Global, value: &Value<'_>) -> Result<Provider, Stop>
     ensures { IfOk result (λ p. IsPrometheus (value_view value.now) p) }
 {
@@ -136,6 +140,7 @@ fn prometheus(alloc: Global, value: &Value<'_>) -> Result<Provider, Stop>
     })
 }
 
+// Refuses a range query, and what else is not done for Prometheus.
 fn refuse_prometheus(value: &Value<'_>) -> Result<(), Refusal> {
     if given_at(value, "rangeQuery").is_some() {
         return Err(Refusal::RangeQuery);
@@ -156,6 +161,7 @@ fn query_at<'a>(value: &Value<'a>) -> Result<&'a str, Refusal>
 
 // ---- a service that answers in JSON
 
+// What a service that answers in JSON is asked by its object.
 fn web(alloc: Global, value: &Value<'_>) -> Result<Provider, Stop>
     requires { HasNumbers (value_view value.now) }
     ensures { IfOk result (λ p. IsWeb (value_view value.now) p) }
@@ -180,6 +186,7 @@ fn web(alloc: Global, value: &Value<'_>) -> Result<Provider, Stop>
     })
 }
 
+// The fields of a plan and of each message, and then the type and the length of the body.
 fn web_fields(
     alloc: Global,
     value: &Value<'_>,
@@ -196,6 +203,7 @@ fn web_fields(
     Ok(fields)
 }
 
+// The method that a plan names; GET if it names no method.
 fn method_at(value: &Value<'_>) -> Result<Method, Refusal>
     ensures { IfOk result (IsMethod (given_at (codes "method") (value_view value.now))) }
 {
@@ -205,6 +213,7 @@ fn method_at(value: &Value<'_>) -> Result<Method, Refusal>
     }
 }
 
+// The method that this text is, in capitals; refused if it is another one, or no text.
 fn method_of(value: &Value<'_>) -> Result<Method, Refusal>
     ensures { IfOk result (λ m. as_str (value_view value.now) ≡ Some (method_text m)) }
 {
@@ -222,6 +231,7 @@ fn method_of(value: &Value<'_>) -> Result<Method, Refusal>
     }
 }
 
+// How the reply is read: by the plan's `jsonPath`, or if it has no path, as the value itself.
 fn answer_at(alloc: Global, value: &Value<'_>) -> Result<Answer, Stop>
     ensures { IfOk result (IsPathAt (given_at (codes "jsonPath") (value_view value.now))) }
 {
@@ -233,6 +243,7 @@ fn answer_at(alloc: Global, value: &Value<'_>) -> Result<Answer, Stop>
     }
 }
 
+// The path that this text spells; refused if it spells no path, or is no text.
 fn path_of(alloc: Global, value: &Value<'_>) -> Result<Answer, Stop>
     ensures { IfOk result (IsPathAt (Some (value_view value.now))) }
 {
@@ -285,6 +296,7 @@ fn refuse(value: &Value<'_>, known: &[&str], why: Refusal) -> Result<(), Refusal
     }
 }
 
+// Whether a plan has an `insecure` that is anything but false.
 fn is_insecure(value: &Value<'_>) -> bool {
     match given_at(value, "insecure") {
         Some(insecure) => insecure.as_bool() != Some(false),
@@ -292,6 +304,7 @@ fn is_insecure(value: &Value<'_>) -> bool {
     }
 }
 
+// Refuses an object, for that reason, that has a member whose key is not known.
 fn refuse_members(
     members: &[(&str, Value<'_>)],
     known: &[&str],

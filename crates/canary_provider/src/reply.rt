@@ -50,6 +50,7 @@ pub fn measured_of(
     }
 }
 
+// Whether the status is 200 to 299.
 fn is_success(status: u16) -> bool
     ensures { result ≡ is_success status }
 {
@@ -67,6 +68,7 @@ fn refusal(alloc: Global, status: u16, body: &[u8]) -> Result<FailureText, Memor
     }
 }
 
+// The same of a body in JSON: the error in it, or how it begins.
 fn refusal_of(
     alloc: Global,
     status: u16,
@@ -81,6 +83,7 @@ fn refusal_of(
     }
 }
 
+// The text of an error of Prometheus, with its type; without a type it is called an error.
 fn error_text(
     alloc: Global,
     status: u16,

@@ -19,6 +19,7 @@ impl From<Memory> for Stop {
 
     ghost from_gives = { λ _ stop. stop ≡ refused };
 
+    // A refused allocation is `Stop::Memory`.
     fn from(_: Memory) -> Stop {
         Stop::Memory
     }
@@ -30,6 +31,7 @@ impl From<AllocError> for Stop {
 
     ghost from_gives = { λ _ stop. stop ≡ refused };
 
+    // The same, as calls of the standard library report it.
     fn from(_: AllocError) -> Stop {
         Stop::Memory
     }
@@ -41,6 +43,7 @@ impl<T: Drop> From<AllocFailed<T>> for Stop {
 
     ghost from_gives = { λ _ stop. stop ≡ refused };
 
+    // The same, as calls report it that return the value for which there was no room.
     fn from(_: AllocFailed<T>) -> Stop {
         Stop::Memory
     }
@@ -52,6 +55,7 @@ impl From<Refusal> for Stop {
 
     ghost from_gives = { λ refusal stop. stop ≡ Refused refusal };
 
+    // A refusal is `Stop::Refused`.
     fn from(refusal: Refusal) -> Stop {
         Stop::Refused(refusal)
     }

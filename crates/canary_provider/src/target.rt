@@ -53,6 +53,7 @@ pub(crate) enum Method {
 }
 
 impl Method {
+    /// Its name in the first line of a message.
     pub(crate) fn text(self) -> &'static str
         ensures { result.now ≡ method_text self }
     {
@@ -98,18 +99,21 @@ fn authority_len(text: &[u8]) -> usize
         .unwrap_or(text.len())
 }
 
+// Whether these bytes may be a host and a port, by themselves; there is one at least.
 fn is_authority(bytes: &[u8]) -> bool
     ensures { result ≡ is_authority bytes.now }
 {
     !bytes.is_empty() && are_authority_bytes(bytes)
 }
 
+// Whether each byte may be in an authority; so it is if there are no bytes.
 fn are_authority_bytes(bytes: &[u8]) -> bool
     ensures { result ≡ list_all is_authority_byte bytes.now }
 {
     bytes.iter().all(|byte| is_authority_byte(*byte))
 }
 
+// Whether the byte may be in a host or a port, so not the @ after a user's name.
 fn is_authority_byte(byte: u8) -> bool
     ensures { result ≡ is_authority_byte byte }
 {
@@ -122,18 +126,21 @@ fn is_authority_byte(byte: u8) -> bool
         || byte == b']'
 }
 
+// Whether these bytes may be a target: nothing, or a path, without a fragment.
 fn is_target(bytes: &[u8]) -> bool
     ensures { result ≡ is_target bytes.now }
 {
     begins_target(bytes) && are_target_bytes(bytes)
 }
 
+// Whether each byte may be in a target; so it is if there are no bytes.
 fn are_target_bytes(bytes: &[u8]) -> bool
     ensures { result ≡ list_all is_target_byte bytes.now }
 {
     bytes.iter().all(|byte| is_target_byte(*byte))
 }
 
+// Whether a target may begin so: it is empty, or a slash is first.
 fn begins_target(bytes: &[u8]) -> bool
     ensures { result ≡ begins_target bytes.now }
 {
@@ -150,6 +157,7 @@ fn is_target_byte(byte: u8) -> bool
     33 <= byte && byte <= 126 && byte != b'#'
 }
 
+// The line of these three parts, one after another; refused as `Address` if they are no line.
 fn line_of(alloc: Global, first: &[u8], second: &[u8], third: &[u8]) -> Result<Line, Stop>
     ensures { IfOk result (λ line. line ≡ first.now ++ second.now ++ third.now) }
 {

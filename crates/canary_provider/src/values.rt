@@ -101,6 +101,7 @@ fn sample<'a>(alloc: Global, value: &Value<'a>) -> Result<Given, Fault<'a>>
     }
 }
 
+// The value of an item of a list, whose items are of that kind.
 fn value_of<'a>(alloc: Global, kind: Kind, value: &Value<'a>) -> Result<Given, Fault<'a>>
     ensures sound { IfOk result (λ given. IsValue kind (value_view value.now) given) }
     ensures complete { IfErr result (λ fault. Refutes (IsValue kind (value_view value.now)) fault) }

@@ -47,6 +47,7 @@ impl Shown for Placed {
 
     ghost Within = { λ placed. IsMeasurementWithin placed.row };
 
+    // The measurement of the service in columns 0 to 5, and its place in column 6.
     fn read(name: &Name, row: &Row) -> Result<Placed, ReadFault> {
         columns::has_width(row, 7)?;
         let place = place_at(row, 6)?;

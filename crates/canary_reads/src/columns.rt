@@ -39,6 +39,7 @@ fn fault_of(error: Error) -> ReadFault
     }
 }
 
+/// The number in a column; `Broken` if that is no integer from 0 to 2^32 - 1.
 pub(crate) fn number_at(row: &Row, at: usize) -> Result<u32, ReadFault>
     requires { at < length row.now }
     ensures found { IfOk result (λ number. column row.now at ≡ whole number) }
@@ -49,6 +50,7 @@ pub(crate) fn number_at(row: &Row, at: usize) -> Result<u32, ReadFault>
     row.get::<u32>(at).map_err(fault_of)
 }
 
+/// The same, but no number if the column is NULL.
 pub(crate) fn maybe_number_at(row: &Row, at: usize) -> Result<Option<u32>, ReadFault>
     requires { at < length row.now }
     ensures found { IfOk result (λ number. column row.now at ≡ whole_or_null number) }
@@ -59,6 +61,7 @@ pub(crate) fn maybe_number_at(row: &Row, at: usize) -> Result<Option<u32>, ReadF
     row.get::<Option<u32>>(at).map_err(fault_of)
 }
 
+/// The moment in a column, in seconds; `Broken` if that is no integer, or not one of a moment.
 pub(crate) fn moment_at(row: &Row, at: usize) -> Result<Moment, ReadFault>
     requires { at < length row.now }
     ensures found { IfOk result (λ moment. column row.now at ≡ whole moment) }
@@ -70,6 +73,7 @@ pub(crate) fn moment_at(row: &Row, at: usize) -> Result<Moment, ReadFault>
     Moment::new(seconds).ok_or(ReadFault::Broken)
 }
 
+/// The same, but no moment if the column is NULL.
 pub(crate) fn maybe_moment_at(row: &Row, at: usize) -> Result<Option<Moment>, ReadFault>
     requires { at < length row.now }
     ensures found { IfOk result (λ moment. column row.now at ≡ whole_or_null moment) }
@@ -86,6 +90,7 @@ pub(crate) fn maybe_moment_at(row: &Row, at: usize) -> Result<Option<Moment>, Re
     }
 }
 
+/// The text in a column; `Broken` if that is no text in UTF-8; or `Memory`.
 pub(crate) fn text_at(row: &Row, at: usize) -> Result<Text, ReadFault>
     requires { at < length row.now }
     ensures found { IfOk result (λ text. column row.now at ≡ Words text) }
@@ -96,6 +101,7 @@ pub(crate) fn text_at(row: &Row, at: usize) -> Result<Text, ReadFault>
     Ok(Text::of(row.get::<String>(at).map_err(fault_of)?))
 }
 
+/// The label in a column; `Broken` if that is no text, or not one of a label.
 pub(crate) fn label_at(row: &Row, at: usize) -> Result<Label, ReadFault>
     requires { at < length row.now }
     ensures found { IfOk result (λ label. column row.now at ≡ Words label) }
@@ -109,6 +115,7 @@ pub(crate) fn label_at(row: &Row, at: usize) -> Result<Label, ReadFault>
     Label::read(bytes).ok_or(ReadFault::Broken)
 }
 
+/// The name in a column; `Broken` if that is no text, or not one of a name.
 pub(crate) fn name_at(row: &Row, at: usize) -> Result<Name, ReadFault>
     requires { at < length row.now }
     ensures found { IfOk result (λ name. column row.now at ≡ Words name) }

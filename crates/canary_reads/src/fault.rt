@@ -19,6 +19,7 @@ impl From<Memory> for ReadFault {
 
     ghost from_gives = { λ _ made. made ≡ fault.Memory };
 
+    // A refused allocation is `Memory`.
     fn from(_: Memory) -> ReadFault {
         ReadFault::Memory
     }
@@ -31,6 +32,7 @@ impl From<StoreFault> for ReadFault {
 
     ghost from_gives = { λ given made. (made ≡ read_fault given) × (made ≢ fault.Broken) };
 
+    // A fault of the store under the same name, which is never `Broken`.
     fn from(fault: StoreFault) -> ReadFault {
         match fault {
             StoreFault::Memory => ReadFault::Memory,
@@ -45,6 +47,7 @@ impl From<ReadFault> for StoreFault {
 
     ghost from_gives = { λ fault made. made ≡ store_fault fault };
 
+    // The same as a fault of the store, where `Broken` becomes `Storage`.
     fn from(fault: ReadFault) -> StoreFault {
         match fault {
             ReadFault::Memory => StoreFault::Memory,

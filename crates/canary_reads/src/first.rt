@@ -65,6 +65,7 @@ impl Told for TemplateRow {
 
     ghost Within = { IsTemplateWithin };
 
+    // The template in columns 0 and 1: its name, and the text of its command.
     fn read(row: &Row) -> Result<TemplateRow, ReadFault> {
         columns::has_width(row, 2)?;
         Ok(TemplateRow {
@@ -81,6 +82,7 @@ impl Told for FirstTally {
 
     ghost Within = { IsFirstTallyWithin };
 
+    // The tally in columns 0 to 8. Whether its counts agree is not looked at.
     fn read(row: &Row) -> Result<FirstTally, ReadFault> {
         columns::has_width(row, 9)?;
         Ok(FirstTally {

@@ -17,6 +17,7 @@ pub(crate) trait Held: Drop {
     /// It, by the columns.
     ghost held: { Cells → Option Self };
 
+    /// What is held of the row; none if it has other columns, or a value that no program can hold.
     fn read(row: &Row) -> Option<Self>
         ensures { result ≡ held row.now };
 }
@@ -26,6 +27,7 @@ impl Held for Name {
 
     ghost held = { name_of };
 
+    // The name, if it is the only column.
     fn read(row: &Row) -> Option<Name> {
         if row.column_count() == 1 {
             name_at(row, 0)
@@ -40,6 +42,7 @@ impl Held for CallerRow {
 
     ghost held = { caller_of };
 
+    // The caller in two columns: its name, and how many of its requests are settled.
     fn read(row: &Row) -> Option<CallerRow> {
         if row.column_count() != 2 {
             return None;
@@ -55,6 +58,7 @@ impl Held for RevisionKey {
 
     ghost held = { revision_key_of };
 
+    // The key in two columns: the name of the template, and the number of the revision.
     fn read(row: &Row) -> Option<RevisionKey> {
         if row.column_count() != 2 {
             return None;
@@ -65,6 +69,7 @@ impl Held for RevisionKey {
     }
 }
 
+// The name in a column; none if that is no text, or not one of a name.
 fn name_at(row: &Row, at: usize) -> Option<Name>
     requires { at < length row.now }
     ensures { result ≡ name_in (column row.now at) }
@@ -75,6 +80,7 @@ fn name_at(row: &Row, at: usize) -> Option<Name>
     }
 }
 
+// The number in a column; none if that is no integer from 0 to 2^32 - 1.
 fn number_at(row: &Row, at: usize) -> Option<u32>
     requires { at < length row.now }
     ensures { result ≡ number_in (column row.now at) }

@@ -197,6 +197,7 @@ fn count_of<Q: Reader>(conn: &mut Q, text: &str) -> Result<u64, ReadFault>
     }
 }
 
+// The number in the first column of the first row; none if that is no integer from 0 on.
 fn first_number(rows: &[Row]) -> Option<u64>
     ensures some { IfSome result (λ n. column (slice_index_or rows.now 0 []) 0 ≡ whole n) }
     ensures none { result ≡ None → (n : ℕ) → column (slice_index_or rows.now 0 []) 0 ≢ whole n }

@@ -70,6 +70,7 @@ pub fn first_row<Q: Reader>(conn: &mut Q) -> Result<MetaRow, ReadFault>
     Ok(standing(is_there, has_others))
 }
 
+// What two queries come to: without the row it is `Missing`, whatever else `meta` has.
 fn standing(is_there: bool, has_others: bool) -> MetaRow
     ensures { result ≡ standing_by is_there has_others }
 {

@@ -63,6 +63,7 @@ impl<S: Alter> Reader for Connection<S> {
 
     ghost IsReady = { λ conn. conn.in_transaction ≡ false };
 
+    // Asks the connection. `is_autocommit` recalls for the prover that all it has is committed.
     fn ask(&mut self, text: &str, params: &[ValueRef<'_>]) -> Result<Vec<Row>, StoreFault> {
         let _settled = self.is_autocommit();
         match self.query_all(text, params) {
@@ -71,6 +72,7 @@ impl<S: Alter> Reader for Connection<S> {
         }
     }
 
+    // Recalls for the prover that the connection has a database, by the contract of `schema`.
     fn look(&self) {
         let _ = self.schema();
     }
@@ -91,6 +93,7 @@ impl<S: Alter> Reader for Transaction<'_, S> {
     ghost IsReady = { λ tx. IsUsable (seen_inside (state S.Store tx.conn.now))
         → IsDatabase (state S.Store tx.conn.now).now };
 
+    // Asks the transaction, which any error ends.
     fn ask(&mut self, text: &str, params: &[ValueRef<'_>]) -> Result<Vec<Row>, StoreFault> {
         match self.query_all(text, params) {
             Ok(rows) => Ok(rows),
@@ -98,5 +101,6 @@ impl<S: Alter> Reader for Transaction<'_, S> {
         }
     }
 
+    // Does nothing: `IsReady` says already that the transaction has a database.
     fn look(&self) {}
 }

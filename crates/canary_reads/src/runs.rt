@@ -119,6 +119,7 @@ fn all_open_runs<Q: Reader>(
     shown::all(alloc, service, rows.as_slice())
 }
 
+// The rows of runs that are not closed, in their order; or `Memory`.
 fn open_among(alloc: Global, runs: &[RunRow]) -> Result<Listed<RunRow>, Memory>
     ensures { IfOk result (λ found. found ≡ filter is_open runs.now) }
 {
@@ -131,6 +132,7 @@ fn open_among(alloc: Global, runs: &[RunRow]) -> Result<Listed<RunRow>, Memory>
     Ok(open)
 }
 
+// The rows sorted by the numbers of their runs; or `Memory`.
 fn by_number(runs: Listed<RunRow>) -> Result<Listed<RunRow>, Memory>
     ensures { IfOk result (Sorts number_of runs) }
 {

@@ -55,6 +55,7 @@ impl Shown for CallerRow {
 
     ghost Within = { IsCallerWithin };
 
+    // The caller of that name; column 0 is how many of its requests are settled.
     fn read(name: &Name, row: &Row) -> Result<CallerRow, ReadFault> {
         columns::has_width(row, 1)?;
         Ok(CallerRow {
@@ -76,6 +77,7 @@ impl Shown for KeptRow {
 
     ghost Within = { IsKeptWithin };
 
+    // The settled request of the caller: its number, command, status and body in columns 0 to 3.
     fn read(name: &Name, row: &Row) -> Result<KeptRow, ReadFault> {
         columns::has_width(row, 4)?;
         Ok(KeptRow {
@@ -100,6 +102,7 @@ impl Shown for RevisionRow {
 
     ghost Within = { IsRevisionWithin };
 
+    // The revision of the template: its number and the text of its command in columns 0 and 1.
     fn read(name: &Name, row: &Row) -> Result<RevisionRow, ReadFault> {
         columns::has_width(row, 2)?;
         Ok(RevisionRow {
@@ -122,6 +125,7 @@ impl Shown for ServiceRow {
 
     ghost Within = { IsServiceWithin };
 
+    // The service: the text of its command in column 0, and its state in columns 1 to 9.
     fn read(name: &Name, row: &Row) -> Result<ServiceRow, ReadFault> {
         columns::has_width(row, 10)?;
         Ok(ServiceRow {
@@ -166,6 +170,7 @@ impl Shown for BindingRow {
 
     ghost Within = { IsBindingWithin };
 
+    // The binding of the service: its run, template and revision in columns 0 to 2.
     fn read(name: &Name, row: &Row) -> Result<BindingRow, ReadFault> {
         columns::has_width(row, 3)?;
         Ok(BindingRow {
@@ -189,6 +194,7 @@ impl Shown for RunRow {
 
     ghost Within = { IsRunWithin };
 
+    // The run of the service in columns 0 to 5, where 1, the step, and 3, the end, may be NULL.
     fn read(name: &Name, row: &Row) -> Result<RunRow, ReadFault> {
         columns::has_width(row, 6)?;
         Ok(RunRow {
@@ -217,6 +223,7 @@ impl Shown for TallyRow {
 
     ghost Within = { IsTallyWithin };
 
+    // The tally of the service: its run and metric in columns 0 and 1, its counts in 2 to 8.
     fn read(name: &Name, row: &Row) -> Result<TallyRow, ReadFault> {
         columns::has_width(row, 9)?;
         Ok(TallyRow {
@@ -272,6 +279,7 @@ impl Shown for MeasurementRow {
 
     ghost Within = { IsMeasurementWithin };
 
+    // The measurement of the service in columns 0 to 5, without its place.
     fn read(name: &Name, row: &Row) -> Result<MeasurementRow, ReadFault> {
         columns::has_width(row, 6)?;
         Ok(MeasurementRow {
@@ -298,6 +306,7 @@ impl Shown for HistoryRow {
 
     ghost Within = { IsLineWithin };
 
+    // The line of the service: its moment and its words in columns 0 and 1, without its place.
     fn read(name: &Name, row: &Row) -> Result<HistoryRow, ReadFault> {
         columns::has_width(row, 2)?;
         Ok(HistoryRow {

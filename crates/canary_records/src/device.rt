@@ -21,6 +21,7 @@ pub enum DeviceFault {
 impl From<AllocError> for DeviceFault {
     ghost from_gives = { λ _ e. e ≡ Memory };
 
+    // A refused allocation is `Memory`.
     fn from(_: AllocError) -> DeviceFault {
         DeviceFault::Memory
     }
@@ -29,6 +30,7 @@ impl From<AllocError> for DeviceFault {
 impl<T: Drop> From<AllocFailed<T>> for DeviceFault {
     ghost from_gives = { λ _ e. e ≡ Memory };
 
+    // The same if a value found no room, which is dropped.
     fn from(_: AllocFailed<T>) -> DeviceFault {
         DeviceFault::Memory
     }
@@ -37,6 +39,7 @@ impl<T: Drop> From<AllocFailed<T>> for DeviceFault {
 impl From<error::Memory> for DeviceFault {
     ghost from_gives = { λ _ e. e ≡ Memory };
 
+    // The same as canary_base reports it.
     fn from(_: error::Memory) -> DeviceFault {
         DeviceFault::Memory
     }

@@ -116,6 +116,7 @@ fn is_regular(file: &File) -> Result<(), OpenFault> {
     }
 }
 
+// The device of a locked file, once all its bytes are read; `Failed` also if memory is refused.
 fn read_whole(alloc: Global, mut file: File, was_there: bool) -> Result<FileDevice, OpenFault> {
     let mut bytes = Vec::new(alloc);
     match file.read_to_end(&mut bytes) {
@@ -145,10 +146,12 @@ impl Device for FileDevice {
 
     ghost only_now = { λ f c left. left };
 
+    // A copy of the bytes that are held in memory: the file was read as it was opened.
     fn read(&mut self, alloc: Global) -> Result<Vec<u8>, DeviceFault> {
         Ok(self.bytes.to_vec(alloc)?)
     }
 
+    // Writes to the file and to the bytes in memory, which change also if the file failed.
     fn write_at(&mut self, at: usize, bytes: &[u8]) -> Result<(), DeviceFault> {
         let new = overlaid(self.alloc, self.bytes.as_slice(), at, bytes)?;
         let is_done = self.file.write_all_at(bytes, at as u64).is_ok();
@@ -156,12 +159,14 @@ impl Device for FileDevice {
         self.told(is_done)
     }
 
+    // Cuts the file and the bytes in memory, which are cut also if the file failed.
     fn cut(&mut self, kept: usize) -> Result<(), DeviceFault> {
         let is_done = self.file.set_len(kept as u64).is_ok();
         self.bytes.truncate(kept);
         self.told(is_done)
     }
 
+    // Has the system put the file on the disk, with its length.
     fn sync(&mut self) -> Result<(), DeviceFault> {
         let is_done = self.file.sync_all().is_ok();
         self.told(is_done)

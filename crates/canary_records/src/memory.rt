@@ -70,20 +70,24 @@ impl Device for MemoryDevice {
 
     ghost only_now = { λ m c left. only_bytes m.past.items m.bytes.items c left };
 
+    // A copy of the bytes.
     fn read(&mut self, alloc: Global) -> Result<Vec<u8>, DeviceFault> {
         Ok(self.bytes.to_vec(alloc)?)
     }
 
+    // Writes at once, and adds the content before to `past`; fails only if memory is refused.
     fn write_at(&mut self, at: usize, bytes: &[u8]) -> Result<(), DeviceFault> {
         let next = overlaid(self.alloc, self.bytes.as_slice(), at, bytes)?;
         Ok(replace(self.alloc, &mut self.bytes, &mut self.past, next)?)
     }
 
+    // Cuts at once, and adds the content before to `past`; fails only if memory is refused.
     fn cut(&mut self, kept: usize) -> Result<(), DeviceFault> {
         let next = self.bytes[..kept].to_vec(self.alloc)?;
         Ok(replace(self.alloc, &mut self.bytes, &mut self.past, next)?)
     }
 
+    // Does nothing, since each call is done at once.
     fn sync(&mut self) -> Result<(), DeviceFault> {
         Ok(())
     }

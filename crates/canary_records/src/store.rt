@@ -186,6 +186,7 @@ pub fn repair<D: Device>(device: &mut D, found: &Found) -> Result<(), DeviceFaul
     repair_sized(device, found.size, found)
 }
 
+// Does it for `repair`: a file of one byte at most gets a gate, a longer one is cut after its gate.
 fn repair_sized<D: Device>(device: &mut D, size: usize, found: &Found) -> Result<(), DeviceFault>
     requires size { size ≡ length (D.seen device.old) }
     requires texts { texts_of (D.seen device.old) ≡ Some found.now.texts }

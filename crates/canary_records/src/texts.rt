@@ -56,6 +56,7 @@ fn begins(bytes: &[u8]) -> bool
     }
 }
 
+// The texts from the first gate on; none unless a closed gate follows the last one.
 #[tactic(auto, using(crate::proofs::TextLemmas::read_by_records))]
 fn from_gate(alloc: Global, bytes: &[u8]) -> Result<Option<Found>, Memory>
     ensures texts { IfOk result (λ found. option_map (λ f. f.texts) found ≡ from_gate bytes.now) }
@@ -106,6 +107,7 @@ fn first_line(bytes: &[u8]) -> Option<(&str, &[u8])>
     line_before(line, &bytes[line.len()..])
 }
 
+// The line as text, and what follows the LF that begins the rest; none without an LF or UTF-8.
 fn line_before<'a>(line: &'a [u8], rest: &'a [u8]) -> Option<(&'a str, &'a [u8])>
     ensures { option_map (λ line. (line.0.now, line.1.now)) result ≡ line_before line.now rest.now }
 {
@@ -126,6 +128,7 @@ fn text_of(bytes: &[u8]) -> Option<&str>
     }
 }
 
+// The bytes before the first LF; all of them without one.
 fn up_to_lf(bytes: &[u8]) -> &[u8]
     ensures { result.now ≡ up_to_lf bytes.now }
 {
@@ -135,12 +138,14 @@ fn up_to_lf(bytes: &[u8]) -> &[u8]
     }
 }
 
+// The place of the first LF, from 0, or none.
 fn place_of_lf(bytes: &[u8]) -> Option<usize>
     ensures { result ≡ position is_lf bytes.now }
 {
     bytes.iter().position(|byte| *byte == b'\n')
 }
 
+// A copy of the text that the caller owns, or `Memory`.
 fn copied(alloc: Global, text: &str) -> Result<Text, Memory>
     ensures { IfOk result (λ copy. copy ≡ text.now) }
 {

@@ -32,6 +32,7 @@ pub fn none_counted(alloc: Global, runs: &[RunRecord]) -> Result<Counts, Memory>
     Ok(counts)
 }
 
+// How many metrics the run has, by its own analysis.
 fn metric_count(run: &RunRecord) -> u32
     ensures { result ≡ length run.now.analysis.metrics }
 {
@@ -77,6 +78,7 @@ fn metric_of<'a>(runs: &'a [RunRecord], measurement: &Recorded) -> Option<&'a Me
     }
 }
 
+// The run of that number, which is one more than its place; none if there is no such run.
 fn run_of(runs: &[RunRecord], number: u32) -> Option<&RunRecord>
     ensures { option_copied result ≡ at_run number runs.now }
 {
@@ -84,6 +86,7 @@ fn run_of(runs: &[RunRecord], number: u32) -> Option<&RunRecord>
     runs.get(place as usize)
 }
 
+// The metric at that place, from 0, of the run's own analysis; none if there is no such metric.
 fn metric_in(run: &RunRecord, place: u32) -> Option<&Metric>
     ensures { option_copied result ≡ slice_get run.now.analysis.metrics place }
 {
@@ -99,6 +102,7 @@ fn is_next_of(metric: &Metric, tally: &Tally, next: &Recorded) -> bool
     !tally.full() && next.ordinal == tally.measurements() + 1 && is_judged_by(metric, next)
 }
 
+// Whether the measurement has the phase that the metric's conditions give its outcome.
 fn is_judged_by(metric: &Metric, measurement: &Recorded) -> bool
     ensures { IsTrue result ↔ IsJudgedBy metric.now measurement.now }
 {

@@ -42,12 +42,14 @@ impl RunCounts {
         }
     }
 
+    // The tally of the metric at that place, from 0; none if there is no such metric.
     fn tally(&self, metric: u32) -> Option<&Tally>
         ensures { option_copied result ≡ slice_get self.now metric }
     {
         self.tallies.as_slice().get(metric as usize)
     }
 
+    // Counts the measurement at its metric, which has room; nothing if there is no such metric.
     fn count(&mut self, measurement: &Recorded)
         requires room { is_not_full (slice_get self.old measurement.now.metric) ≡ true }
         requires measured { is_measured measurement.now.phase ≡ true }
@@ -125,6 +127,7 @@ impl Counts {
     }
 }
 
+// Whether there are as many runs, and each has the tallies at its place.
 fn are_of(counts: &[RunCounts], runs: &[RunRecord]) -> bool
     ensures { IsTrue result ↔ (map (λ (r : RunRecord). r.tallies) runs.now ≡ counts.now) }
 {
@@ -139,6 +142,7 @@ fn are_of(counts: &[RunCounts], runs: &[RunRecord]) -> bool
     true
 }
 
+// Whether both have equal tallies, in the same order.
 fn are_same(ours: &[Tally], theirs: &[Tally]) -> bool
     ensures { IsTrue result ↔ (theirs.now ≡ ours.now) }
 {
@@ -153,6 +157,7 @@ fn are_same(ours: &[Tally], theirs: &[Tally]) -> bool
     true
 }
 
+// Whether all counts of both tallies are equal.
 fn is_same(ours: &Tally, theirs: &Tally) -> bool
     ensures { IsTrue result ↔ (theirs.now ≡ ours.now) }
 {

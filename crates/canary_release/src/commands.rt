@@ -44,6 +44,7 @@ pub(crate) struct Led {
 }
 
 impl Led {
+    /// Where a command leads that is no report: it adds nothing to its reply.
     pub(crate) fn to(draft: Draft) -> Led
         ensures led { led_as result ≡ leads (whole draft) }
         ensures draft { result.draft ≡ draft }
@@ -152,6 +153,7 @@ fn start(
     }
 }
 
+// Why a Start of that version is refused; the caller binds the strategy first.
 fn start_refusal(draft: &Draft, version: Label) -> Option<Refusal>
     ensures { result ≡ start_refusal_at (whole draft.now) version }
 {
@@ -199,6 +201,7 @@ fn retry(
     }
 }
 
+// Why a Retry is refused; the caller binds the strategy first.
 fn retry_refusal(draft: &Draft) -> Option<Refusal>
     ensures { result ≡ retry_refusal_at (whole draft.now) }
 {
@@ -225,6 +228,7 @@ fn promote(alloc: Global, draft: Draft, at: Moment) -> Result<Result<Led, Refusa
     }
 }
 
+// Why a Promote is refused: no release is in progress, or it is neither held nor at a pause.
 fn promote_refusal(stand: &Stand) -> Option<Refusal>
     ensures { result ≡ promote_refusal stand.now }
 {
@@ -237,6 +241,7 @@ fn promote_refusal(stand: &Stand) -> Option<Refusal>
     None
 }
 
+// Why a PromoteFull or an Abort is refused: no release is in progress.
 fn progress_refusal(stand: &Stand) -> Option<Refusal>
     ensures { result ≡ progress_refusal stand.now }
 {
@@ -260,6 +265,7 @@ fn promote_full(alloc: Global, draft: Draft, at: Moment) -> Result<Result<Led, R
     }
 }
 
+// Aborts the release: holds are cleared, open runs are ended, and the step stays.
 fn abort(alloc: Global, draft: Draft, at: Moment) -> Result<Result<Led, Refusal>, Memory>
     requires { is_broken (kept_after (whole draft)) ≡ false }
     ensures acted { IfOk result (λ acted. acted_as acted
@@ -306,6 +312,7 @@ fn tick(draft: Draft) -> Result<Result<Led, Refusal>, Memory>
 }
 
 impl Draft {
+    // Begins an attempt with that version, adds its line, and enters the step at which it starts.
     fn start(
         self,
         alloc: Global,
@@ -326,6 +333,7 @@ impl Draft {
         told.enter(alloc, step, at)
     }
 
+    // Begins an attempt anew with the present version, adds its line, and enters step 0.
     fn retry(
         self,
         alloc: Global,
@@ -345,12 +353,14 @@ impl Draft {
         told.enter(alloc, 0, at)
     }
 
+    // The version of the last attempt, which a retry begins anew.
     fn version(&self) -> Label
         ensures { result ≡ self.now.stand.version }
     {
         self.stand.version
     }
 
+    // Clears both holds, adds the line of the promotion, and enters the step to which it leads.
     fn promote(self, alloc: Global, at: Moment) -> Result<Draft, Memory>
         requires room { runs_made self ≤ 1000000 }
         requires step { self.stand.step < 4294967295 }
@@ -362,6 +372,7 @@ impl Draft {
         told.enter(alloc, step, at)
     }
 
+    // Adds the line of the full promotion, and enters the end: the steps between are left out.
     fn promote_full(self, alloc: Global, at: Moment) -> Result<Draft, Memory>
         requires room { runs_made self ≤ 1000000 }
         requires steps { length self.stand.strategy.steps ≤ 64 }
@@ -373,6 +384,7 @@ impl Draft {
         told.enter(alloc, end, at)
     }
 
+    // Adds the line that a command aborts the release, and aborts it.
     fn abort_by_command(self, alloc: Global, at: Moment) -> Result<Draft, Memory>
         ensures aborted { IfOk result (λ draft. whole draft ≡ abort_by_command (whole self) at) }
         ensures made { IfOk result (λ draft. runs_made draft ≡ runs_made self) }

@@ -39,8 +39,8 @@ use canary_plan::template_spec::TemplateSpec;
 use canary_plan::templates::Templates;
 use std::alloc::Global;
 
-// The greatest number of a template's revision.
-const MOST_REVISIONS: u32 = 1_000_000;
+/// The greatest number of a template's revision.
+pub const MOST_REVISIONS: u32 = 1_000_000;
 
 /// What a command does to the desk.
 #[derive(Drop)]
@@ -178,6 +178,7 @@ fn add_revision(alloc: Global, newest: u32, template: Template) -> Result<Decisi
     })
 }
 
+// The reply that names a new revision of a template.
 fn names(alloc: Global, template: &Template) -> Result<Reply, Memory>
     ensures { IfOk result (λ reply. reply
         ≡ accepted (template_text template.now.spec.name template.now.revision)) }
@@ -202,6 +203,7 @@ fn rule_service(
     say(alloc, acted)
 }
 
+// Where the command leads its service, or a new one if there is no such service; or its refusal.
 fn act_on(
     alloc: Global,
     templates: &Templates,
@@ -232,6 +234,7 @@ fn say(alloc: Global, acted: Result<Led, Refusal>) -> Result<Decision, Memory>
     }
 }
 
+// The decision that refuses a command: it changes nothing.
 fn refuse(alloc: Global, refusal: Refusal) -> Result<Decision, Memory>
     ensures { IfOk result (λ d. d ≡ decided (refuses refusal)) }
 {
@@ -241,6 +244,7 @@ fn refuse(alloc: Global, refusal: Refusal) -> Result<Decision, Memory>
     })
 }
 
+// The decision that accepts a command: the service becomes what it leads to, with its effects.
 fn show(alloc: Global, led: Led) -> Result<Decision, Memory>
     requires { is_broken (kept_after (whole led.draft)) ≡ false }
     ensures { IfOk result (λ d. d ≡ decided (rules (Ok (led_as led)))) }
@@ -274,6 +278,7 @@ fn act_passed(
     act_within(alloc, templates, service, now, command)
 }
 
+// Does all of `act_passed`, but promises fit analyses, from which that has unbroken parts.
 fn act_within(
     alloc: Global,
     templates: &Templates,
@@ -346,6 +351,7 @@ fn new_service(
     new_draft(alloc, spec, strategy, now)
 }
 
+// The transition that makes a service: it has no runs, and one line of its history.
 fn new_draft(
     alloc: Global,
     spec: &ServiceSpec,

@@ -46,6 +46,7 @@ impl Draft {
         self.end_runs(alloc, at, runs.as_slice())
     }
 
+    // Ends these runs from outside, in order. A function of its own for its loop's invariant.
     fn end_runs(self, alloc: Global, at: Moment, runs: &[OpenRun]) -> Result<Draft, Memory>
         ensures ended { IfOk result (λ draft. whole draft ≡ end_runs at (whole self) runs.now) }
         ensures stand { IfOk result (λ draft. draft.stand ≡ self.stand) }
@@ -191,6 +192,7 @@ impl Draft {
         opened.show_step_of(alloc, &strategy, step, at)
     }
 
+    // Adds the line of the step at that index, and opens its run if it is an analysis.
     fn show_step_of(
         self,
         alloc: Global,

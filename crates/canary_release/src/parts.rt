@@ -45,6 +45,7 @@ pub enum PartsFault {
 }
 
 impl fmt::Display for PartsFault {
+    // Writes what the fault is, in words.
     fn fmt<W: fmt::Write>(&self, f: &mut fmt::Formatter<W>) -> fmt::Result {
         match self {
             PartsFault::Broken => f.write_str("the parts make no service"),
@@ -152,6 +153,7 @@ fn has_bad_binding(parts: &ServiceParts) -> bool
         || some_has_other_revisions(&parts.stand, parts.runs.open_runs.as_slice())
 }
 
+// Whether the step is above the end, or at the end though not done, or below the end though done.
 fn is_misplaced(stand: &Stand) -> bool
     ensures { result ≡ is_misplaced stand.now }
 {
@@ -163,6 +165,7 @@ fn is_misplaced(stand: &Stand) -> bool
     (step == steps) != (stand.state == State::Done)
 }
 
+// Whether the present step was entered after the last moment at which the service was judged.
 fn is_entered_late(stand: &Stand) -> bool
     ensures { result ≡ nat_lt stand.now.last stand.now.entered }
 {
@@ -180,6 +183,7 @@ fn lacks_runs(parts: &ServiceParts) -> bool
     (MOST_RUNS.saturating_sub(parts.runs.count) as usize) < runs_wanted(parts)
 }
 
+// How many runs the present attempt may still open: one for each later step, and the background's.
 fn runs_wanted(parts: &ServiceParts) -> usize
     requires { is_going parts.now.stand.state ≡ true }
     ensures { result ≡ runs_wanted parts.now }
@@ -193,6 +197,7 @@ fn runs_wanted(parts: &ServiceParts) -> usize
     }
 }
 
+// How many of them are the background's: 2 before its run, 1 while that is open or holds, else 0.
 fn background_wanted(parts: &ServiceParts) -> usize
     ensures value { result ≡ background_wanted parts.now }
     ensures limit { result ≤ 2 }
@@ -206,12 +211,14 @@ fn background_wanted(parts: &ServiceParts) -> usize
     0
 }
 
+// Whether one of the runs is of the background.
 fn has_background_run(runs: &[OpenRun]) -> bool
     ensures { result ≡ list_any is_background_run runs.now }
 {
     runs.iter().any(|run| run.step.is_none())
 }
 
+// Whether one of the runs has the number 0, or one above the count.
 fn some_is_misnumbered(count: u32, runs: &[OpenRun]) -> bool
     ensures { result ≡ list_any (is_misnumbered count) runs.now }
 {
@@ -228,30 +235,35 @@ fn repeats_number(runs: &[OpenRun]) -> bool
     }
 }
 
+// Whether one of the runs has that number.
 fn some_has_number(number: u32, runs: &[OpenRun]) -> bool
     ensures { result ≡ list_any (has_number number) runs.now }
 {
     runs.iter().any(|run| run.number == number)
 }
 
+// Whether one of the runs does not have one tally for each metric.
 fn some_has_wrong_tallies(runs: &[OpenRun]) -> bool
     ensures { result ≡ list_any has_wrong_tallies runs.now }
 {
     runs.iter().any(has_wrong_tallies)
 }
 
+// Whether the run has more or fewer tallies than metrics.
 fn has_wrong_tallies(run: &OpenRun) -> bool
     ensures { result ≡ has_wrong_tallies run.now }
 {
     run.analysis.metrics().len() != run.tallies.as_slice().len()
 }
 
+// Whether one of the runs has other revisions than those to which its analysis is bound.
 fn some_has_other_revisions(stand: &Stand, runs: &[OpenRun]) -> bool
     ensures { result ≡ list_any (has_other_revisions stand.now) runs.now }
 {
     runs.iter().any(|run| has_other_revisions(stand, run))
 }
 
+// Whether the run has other revisions than its analysis is bound to, or that is not bound.
 fn has_other_revisions(stand: &Stand, run: &OpenRun) -> bool
     ensures { result ≡ has_other_revisions stand.now run.now }
 {
@@ -261,6 +273,7 @@ fn has_other_revisions(stand: &Stand, run: &OpenRun) -> bool
     }
 }
 
+// Whether the lists have the same revisions of the same templates, in the same order.
 fn are_same(revisions: &[Revision], others: &[Revision]) -> bool
     ensures { result ≡ pointwise same_revision revisions.now others.now }
 {
@@ -283,6 +296,7 @@ fn is_misbound(stand: &Stand) -> bool
     !is_well_bound(stand) || is_refused(&stand.bound)
 }
 
+// Whether each analysis is bound to its own templates, or none is bound and the service is done.
 fn is_well_bound(stand: &Stand) -> bool
     ensures { result ≡ (is_bound stand.now || (is_done stand.now.state && is_unbound stand.now)) }
 {
@@ -296,6 +310,7 @@ fn is_bound(stand: &Stand) -> bool
     are_steps_bound(stand.strategy.steps(), stand.bound.steps()) && is_background_bound(stand)
 }
 
+// Whether each step is bound as it has to be, and both lists are of one length.
 fn are_steps_bound(steps: &[Step], bound: &[Option<BoundAnalysis>]) -> bool
     ensures { result ≡ pointwise is_step_bound steps.now bound.now }
 {
@@ -308,6 +323,7 @@ fn are_steps_bound(steps: &[Step], bound: &[Option<BoundAnalysis>]) -> bool
     }
 }
 
+// Whether a step of an analysis is bound to its own templates, or any other step to nothing.
 fn is_step_bound(step: &Step, analysis: Option<&BoundAnalysis>) -> bool
     ensures { result ≡ is_step_bound step.now (option_copied analysis.entry) }
 {
@@ -318,6 +334,7 @@ fn is_step_bound(step: &Step, analysis: Option<&BoundAnalysis>) -> bool
     }
 }
 
+// Whether the background is bound to its own templates, or to nothing if the strategy has none.
 fn is_background_bound(stand: &Stand) -> bool
     ensures { result
         ≡ is_background_bound stand.now.strategy.background stand.now.bound.background }
@@ -340,6 +357,7 @@ fn is_bound_to(names: &[Name], analysis: Option<&BoundAnalysis>) -> bool
     }
 }
 
+// Whether the revisions are of the templates of these names, in the same order.
 fn are_named(names: &[Name], revisions: &[Revision]) -> bool
     ensures { result ≡ same_names names.now (map (λ (r : RevisionRow). r.template) revisions.now) }
 {
@@ -362,6 +380,7 @@ fn is_unbound(stand: &Stand) -> bool
         && stand.bound.analysis(None).is_none()
 }
 
+// Whether no step has an analysis that is bound.
 fn are_none(analyses: &[Option<BoundAnalysis>]) -> bool
     ensures { result ≡ list_all (λ (a : Option Parts). is_none a) analyses.now }
 {
@@ -376,6 +395,7 @@ fn is_refused(bound: &Bound) -> bool
     some_repeats_metric(steps) || repeats_metric_in(bound.analysis(None)) || some_has_endless(steps)
 }
 
+// Whether two metrics of one analysis of a step have one name.
 fn some_repeats_metric(analyses: &[Option<BoundAnalysis>]) -> bool
     ensures { result ≡ list_any repeats_metric_in analyses.now }
 {
@@ -394,6 +414,7 @@ fn repeats_metric_in(analysis: Option<&BoundAnalysis>) -> bool
     }
 }
 
+// Whether two of the metrics have one name.
 fn repeats_name(metrics: &[Metric]) -> bool
     ensures { result ≡ has_duplicate (map (λ (m : MetricRow). m.name) metrics.now) }
 {
@@ -403,6 +424,7 @@ fn repeats_name(metrics: &[Metric]) -> bool
     }
 }
 
+// Whether one of the metrics has that name.
 fn some_is_named(name: Label, metrics: &[Metric]) -> bool
     ensures { result ≡ list_any (bytes_eq name) (map (λ (m : MetricRow). m.name) metrics.now) }
 {
@@ -412,6 +434,7 @@ fn some_is_named(name: Label, metrics: &[Metric]) -> bool
     }
 }
 
+// Whether the analysis of a step has a metric without an end.
 fn some_has_endless(analyses: &[Option<BoundAnalysis>]) -> bool
     ensures { result ≡ list_any has_endless analyses.now }
 {
@@ -444,24 +467,28 @@ fn is_left_open(stand: &Stand, runs: &[OpenRun]) -> bool
     stand.state != State::InProgress && runs.len() > 0
 }
 
+// Whether two of the runs are of the background.
 fn repeats_background(runs: &[OpenRun]) -> bool
     ensures { result ≡ nat_lt 1 (length (filter is_background_run runs.now)) }
 {
     runs.iter().filter(|run| run.step.is_none()).count() > 1
 }
 
+// Whether two of the runs are of a step, be it the same one or not.
 fn repeats_step(runs: &[OpenRun]) -> bool
     ensures { result ≡ nat_lt 1 (length (filter is_step_run runs.now)) }
 {
     runs.iter().filter(|run| run.step.is_some()).count() > 1
 }
 
+// Whether one of the runs is of a step, and is not the run that the present step may have.
 fn some_is_astray(stand: &Stand, runs: &[OpenRun]) -> bool
     ensures { result ≡ list_any (is_astray stand.now) runs.now }
 {
     runs.iter().any(|run| is_astray(stand, run))
 }
 
+// Whether a step's run is of another step, of one without an analysis, or open during a hold.
 fn is_astray(stand: &Stand, run: &OpenRun) -> bool
     ensures { result ≡ is_astray stand.now run.now }
 {
@@ -480,6 +507,7 @@ fn has_stray_background(parts: &ServiceParts) -> bool
         && (!parts.stand.background || parts.stand.background_hold)
 }
 
+// Whether there is a hold, and no release is in progress.
 fn has_stray_hold(stand: &Stand) -> bool
     ensures { result ≡ (is_held stand.now && not (is_going stand.now.state)) }
 {
@@ -493,18 +521,21 @@ fn lacks_background(stand: &Stand) -> bool
     stand.background && stand.strategy.background().is_none()
 }
 
+// Whether the background holds the release, and its run was not opened in the present attempt.
 fn has_stray_background_hold(stand: &Stand) -> bool
     ensures { result ≡ (stand.now.background_hold && not stand.now.background) }
 {
     stand.background_hold && !stand.background
 }
 
+// Whether one of the runs is completed by its own metrics.
 fn some_is_judged(runs: &[OpenRun]) -> bool
     ensures { result ≡ list_any is_judged runs.now }
 {
     runs.iter().any(is_judged)
 }
 
+// Whether the run is completed by its own metrics, after which it may not be open.
 fn is_judged(run: &OpenRun) -> bool
     ensures { result ≡ is_judged run.now }
 {

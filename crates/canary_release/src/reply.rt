@@ -111,6 +111,7 @@ impl Reply {
     }
 }
 
+// The body that shows a service: its name, its status, its step and its weight.
 fn service_body(alloc: Global, stand: &Stand) -> Result<String, Memory>
     ensures { IfOk result (λ body. string_bytes body ≡ service_text stand.now) }
 {
@@ -141,6 +142,7 @@ pub(crate) fn with_weight(text: String, piece: &str, stand: &Stand) -> Result<St
     with(text, "}")
 }
 
+// The body that names a template, and the number of the revision that was added.
 fn template_body(alloc: Global, name: Name, revision: u32) -> Result<String, Memory>
     ensures { IfOk result (λ body. string_bytes body ≡ template_text name revision) }
 {
@@ -166,18 +168,21 @@ fn refusal_body(alloc: Global, refusal: Refusal) -> Result<String, Memory>
     }
 }
 
+// A body of a code and nothing else, as that of a refusal that is about no entry of a report.
 fn code_alone(alloc: Global, code: &str) -> Result<String, Memory>
     ensures { IfOk result (λ body. string_bytes body ≡ code_alone code.now) }
 {
     Ok(format!(in alloc; "{{\"code\":\"{code}\"}}")?)
 }
 
+// The body of a refusal of a report's entry, with the index of the entry.
 fn code_at(alloc: Global, at: u32, code: &str) -> Result<String, Memory>
     ensures { IfOk result (λ body. string_bytes body ≡ code_at at code.now) }
 {
     Ok(format!(in alloc; "{{\"at\":{at},\"code\":\"{code}\"}}")?)
 }
 
+// The same, with a number under one more key: the next ordinal, or the second when it is due.
 fn code_at_with(
     alloc: Global,
     at: u32,

@@ -80,6 +80,7 @@ fn place_from<'a>(metrics: &'a [Metric], tallies: &[Tally], name: Label) -> Opti
     None
 }
 
+// Whether one of these entries is of the metric of that name.
 fn names_metric(before: &[Entry], name: Label) -> bool
     ensures { result ≡ list_any (names_metric name) before.now }
 {
@@ -141,6 +142,7 @@ fn entry_refusal_at(
     turn_refusal(at, entry, tally.measurements(), due, now)
 }
 
+// Why an entry is refused, after those before it; also if its run has no metric of that name.
 fn entry_refusal(
     metrics: &[Metric],
     run: &OpenRun,

@@ -32,6 +32,7 @@ impl Reply {
     }
 }
 
+// The body: the phases, the run, the service with its status and step, the verdict, the weight.
 fn report_text(alloc: Global, stand: &Stand, reported: &Reported) -> Result<String, Memory>
     ensures { IfOk result (λ text. string_bytes text ≡ report_text reported.now stand.now) }
 {

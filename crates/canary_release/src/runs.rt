@@ -87,6 +87,7 @@ impl OpenRun {
     }
 }
 
+// The tallies with a measurement counted in its metric's; the same if there is no such metric.
 #[tactic(auto, using(crate::proofs::Counting::change_past_end))]
 fn with_counted(tallies: Listed<Tally>, recorded: &Recorded) -> Listed<Tally>
     requires room { is_not_full (slice_get tallies recorded.now.metric) ≡ true }
@@ -102,6 +103,7 @@ fn with_counted(tallies: Listed<Tally>, recorded: &Recorded) -> Listed<Tally>
     Listed::of(tallies)
 }
 
+// The tally with a measurement counted in it, for which it has to have room.
 fn counted(tally: Tally, recorded: &Recorded) -> Tally
     requires room { size tally < 1000000 }
     requires measured { is_measured recorded.now.phase ≡ true }
@@ -196,6 +198,7 @@ impl Runs {
     }
 }
 
+// The runs, in order, without that of this number.
 fn without(runs: Listed<OpenRun>, number: u32) -> Listed<OpenRun>
     ensures { result ≡ filter (is_other number) runs }
 {
@@ -204,6 +207,7 @@ fn without(runs: Listed<OpenRun>, number: u32) -> Listed<OpenRun>
     Listed::of(runs)
 }
 
+// The runs, in order, with a measurement counted in that of its number.
 fn count_runs(alloc: Global, runs: Listed<OpenRun>, recorded: &Recorded) -> Listed<OpenRun>
     requires room { list_all (takes recorded.now) runs ≡ true }
     requires measured { is_measured recorded.now.phase ≡ true }
@@ -216,6 +220,7 @@ fn count_runs(alloc: Global, runs: Listed<OpenRun>, recorded: &Recorded) -> List
     Listed::of(counted)
 }
 
+// A copy of these runs, in order, or `Memory`.
 fn copy_runs(alloc: Global, runs: &[OpenRun]) -> Result<Listed<OpenRun>, Memory>
     ensures { IfOk result (λ copy. copy ≡ runs.now) }
 {

@@ -119,6 +119,7 @@ impl Stand {
         self.step_hold || self.background_hold
     }
 
+    // Whether the present step is a pause, with an end or without.
     fn is_at_pause(&self) -> bool
         ensures { result ≡ is_pause (step_of self.now) }
     {
@@ -147,6 +148,7 @@ impl Stand {
         }
     }
 
+    // The second at which the release moves by time, if it does; it may be above every `Moment`.
     fn next_move(&self) -> Option<u64>
         ensures moves { result ≡ next_move self.now }
         ensures on_step { IsSome result → self.now.step < length self.now.strategy.steps }
@@ -159,6 +161,7 @@ impl Stand {
         }
     }
 
+    // The second at which the present step ends by time, if it does: a weight ends at once.
     fn leaves_at(&self) -> Option<u64>
         ensures moves { result ≡ leaves_at (step_of self.now) self.now.entered }
         ensures on_step { IsSome result → self.now.step < length self.now.strategy.steps }

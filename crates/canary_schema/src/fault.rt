@@ -25,6 +25,7 @@ impl From<Memory> for StoreFault {
 
     ghost from_gives = { λ _ made. made ≡ fault.Memory };
 
+    // A refused allocation is `Memory`.
     fn from(_: Memory) -> StoreFault {
         StoreFault::Memory
     }

@@ -9,6 +9,7 @@ use crate::parts::is_keyed;
 use crate::tables;
 use sqlite_schema::schema::{Index, Schema, Table};
 
+// Whether it is the table of templates, which had no revisions, in tree 5.
 fn is_template(table: &Table) -> bool
     ensures { IsTrue result ↔ table.now ≡ record template { tree = 5 } }
 {
@@ -20,6 +21,7 @@ fn is_template(table: &Table) -> bool
         && table.references.is_empty()
 }
 
+// Whether it is the table of tallies, which counted no passes, in tree 11.
 fn is_first_tally(table: &Table) -> bool
     ensures { IsTrue result ↔ table.now ≡ record first_tally { tree = 11 } }
 {
@@ -83,6 +85,7 @@ fn are_first_tables(tables: &[Table]) -> bool
     are_first_early(&tables[..5]) && are_first_late(&tables[5..])
 }
 
+// The indexes of the seven keys, in the order in which their tables were made.
 fn are_first_keys(indexes: &[Index]) -> bool
     ensures { IsTrue result ↔ indexes.now ≡ first_key_indexes }
 {
@@ -100,6 +103,7 @@ fn are_first_keys(indexes: &[Index]) -> bool
     )
 }
 
+// The three indexes that are the desk's own, in the order in which they were made.
 fn are_first_added(indexes: &[Index]) -> bool
     ensures { IsTrue result ↔ indexes.now ≡ first_added_indexes }
 {

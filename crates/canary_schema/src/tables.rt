@@ -9,6 +9,7 @@ use crate::numbers::Numbers;
 use crate::parts::{is_formed, is_keyed, is_one_key, is_one_order, is_one_reference, is_unkeyed};
 use sqlite_schema::schema::Table;
 
+/// Whether it is the table with the number of the schema, in tree 0.
 pub(crate) fn is_meta(table: &Table) -> bool
     ensures { IsTrue result ↔ table.now ≡ meta }
 {
@@ -20,6 +21,7 @@ pub(crate) fn is_meta(table: &Table) -> bool
         && is_unkeyed(table)
 }
 
+/// Whether it is the table of callers, in tree 1.
 pub(crate) fn is_caller(table: &Table) -> bool
     ensures { IsTrue result ↔ table.now ≡ record caller { tree = 1 } }
 {
@@ -34,6 +36,7 @@ pub(crate) fn is_caller(table: &Table) -> bool
         && table.references.is_empty()
 }
 
+/// Whether it is the table of settled requests, in tree 3, with its reference to callers.
 pub(crate) fn is_kept(table: &Table) -> bool
     ensures { IsTrue result ↔ table.now ≡ record kept { tree = 3 } }
 {
@@ -51,6 +54,7 @@ pub(crate) fn is_kept(table: &Table) -> bool
         && is_one_reference(&table.references, b"caller")
 }
 
+/// Whether it is the table of services, in that tree.
 pub(crate) fn is_service(table: &Table, tree: u32) -> bool
     ensures { IsTrue result ↔ table.now ≡ record service { tree = tree } }
 {
@@ -74,6 +78,7 @@ pub(crate) fn is_service(table: &Table, tree: u32) -> bool
         && table.references.is_empty()
 }
 
+/// Whether it is the table of runs, in that tree, with its reference to services.
 pub(crate) fn is_run(table: &Table, tree: u32) -> bool
     ensures { IsTrue result ↔ table.now ≡ record run { tree = tree } }
 {
@@ -93,6 +98,7 @@ pub(crate) fn is_run(table: &Table, tree: u32) -> bool
         && is_one_reference(&table.references, b"service")
 }
 
+/// Whether it is the table of measurements, in that tree; `is_placed` if places are NOT NULL.
 pub(crate) fn is_measurement(table: &Table, tree: u32, is_placed: bool) -> bool
     ensures { IsTrue result ↔ table.now ≡ record (measurement is_placed) { tree = tree } }
 {
@@ -115,6 +121,7 @@ pub(crate) fn is_measurement(table: &Table, tree: u32, is_placed: bool) -> bool
         && table.references.is_empty()
 }
 
+/// Whether it is the table in which SQLite counts places, in that tree.
 pub(crate) fn is_sequence(table: &Table, tree: u32) -> bool
     ensures { IsTrue result ↔ table.now ≡ record sequence { tree = tree } }
 {
@@ -126,6 +133,7 @@ pub(crate) fn is_sequence(table: &Table, tree: u32) -> bool
         && is_unkeyed(table)
 }
 
+/// Whether it is the table of histories, in that tree; `is_placed` if places are NOT NULL.
 pub(crate) fn is_history(table: &Table, tree: u32, is_placed: bool) -> bool
     ensures { IsTrue result ↔ table.now ≡ record (history is_placed) { tree = tree } }
 {
@@ -142,6 +150,7 @@ pub(crate) fn is_history(table: &Table, tree: u32, is_placed: bool) -> bool
         && is_unkeyed(table)
 }
 
+// Whether it is the table of revisions of templates, in that tree.
 fn is_revision(table: &Table, tree: u32) -> bool
     ensures { IsTrue result ↔ table.now ≡ record revision { tree = tree } }
 {
@@ -157,6 +166,7 @@ fn is_revision(table: &Table, tree: u32) -> bool
         && table.references.is_empty()
 }
 
+// Whether it is the table of bindings, in that tree, with its reference to services.
 fn is_binding(table: &Table, tree: u32) -> bool
     ensures { IsTrue result ↔ table.now ≡ record binding { tree = tree } }
 {
@@ -173,6 +183,7 @@ fn is_binding(table: &Table, tree: u32) -> bool
         && is_one_reference(&table.references, b"service")
 }
 
+// Whether it is the table of tallies, with passes, in that tree.
 fn is_tally(table: &Table, tree: u32) -> bool
     ensures { IsTrue result ↔ table.now ≡ record tally { tree = tree } }
 {

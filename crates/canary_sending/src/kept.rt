@@ -40,6 +40,7 @@ pub enum KeepFault {
 impl From<DeviceFault> for KeepFault {
     ghost from_gives = { λ fault told. told ≡ keep_fault fault };
 
+    // A fault of the device is the one of the same name.
     fn from(fault: DeviceFault) -> KeepFault {
         match fault {
             DeviceFault::Memory => KeepFault::Memory,
@@ -52,6 +53,7 @@ impl From<DeviceFault> for KeepFault {
 impl From<error::Memory> for KeepFault {
     ghost from_gives = { λ _ told. told ≡ Memory };
 
+    // A refused allocation is `Memory`.
     fn from(_: error::Memory) -> KeepFault {
         KeepFault::Memory
     }

@@ -156,6 +156,7 @@ fn try_wish<N: Network>(
     }
 }
 
+// Sends what was asked last, once, or if `is_late` the wish; `Pending` if nothing is pending.
 fn try_once<N: Network>(
     alloc: Global,
     network: &mut N,
@@ -195,6 +196,7 @@ fn body_of(journal: &Journal, is_late: bool) -> Option<&str>
     }
 }
 
+// What came of a try that got this reply, or why no more tries would help; `Memory`.
 fn what_came(alloc: Global, heard: Heard, is_late: bool) -> Result<Tried, Unsettled>
     ensures came { IfOk result (IsOf heard is_late) }
     ensures wrong { IfErr result (IsWrong heard) }
@@ -223,6 +225,7 @@ fn taken_for(meaning: Meaning, heard: Heard, is_late: bool) -> Result<Tried, Uns
     }
 }
 
+// Whether something else was asked in the place of the wish; false if nothing is pending.
 fn was_replaced(journal: &Journal) -> bool
     ensures { result ≡ is_replaced journal.now }
 {

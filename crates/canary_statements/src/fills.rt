@@ -52,6 +52,7 @@ pub fn insert_revisions<S: Alter>(
     Ok(())
 }
 
+// Inserts one revision, by a contract of its row, as the loop over the rows needs it.
 fn revision_row<S: Alter>(tx: &mut Transaction<'_, S>, row: &RevisionRow) -> Result<usize, Error>
     ensures same_reference { tx.new.conn.ghost_name ≡ tx.old.conn.ghost_name }
     ensures wrote { Wrote (with_revision row.now)
@@ -88,6 +89,7 @@ pub fn insert_bindings<S: Alter>(
     Ok(())
 }
 
+// Inserts one row of binding, by a contract of that row, as the loop over the rows needs it.
 fn binding_row<S: Alter>(tx: &mut Transaction<'_, S>, row: &BindingRow) -> Result<usize, Error>
     ensures same_reference { tx.new.conn.ghost_name ≡ tx.old.conn.ghost_name }
     ensures wrote { Wrote (with_binding row.now)
@@ -121,6 +123,7 @@ pub fn insert_counts<S: Alter>(tx: &mut Transaction<'_, S>, rows: &[TallyRow]) -
     Ok(())
 }
 
+// Inserts one tally, with all of its counts.
 fn tally_row<S: Alter>(tx: &mut Transaction<'_, S>, row: &TallyRow) -> Result<usize, Error>
     ensures same_reference { tx.new.conn.ghost_name ≡ tx.old.conn.ghost_name }
     ensures wrote { Wrote (with_tally row.now)
@@ -150,6 +153,7 @@ fn tally_row<S: Alter>(tx: &mut Transaction<'_, S>, row: &TallyRow) -> Result<us
     )
 }
 
+// The seconds of a moment, as SQLite takes them; none for NULL.
 fn maybe_seconds(moment: Option<Moment>) -> Option<i64>
     ensures { result ≡ option_map pos moment }
 {

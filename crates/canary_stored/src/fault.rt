@@ -17,6 +17,7 @@ impl From<Memory> for RowFault {
 
     ghost from_gives = { λ _ made. made ≡ fault.Memory };
 
+    // A refused allocation is `Memory`.
     fn from(_: Memory) -> RowFault {
         RowFault::Memory
     }
@@ -30,6 +31,7 @@ impl From<FormFault> for RowFault {
 
     ghost from_gives = { λ form made. made ≡ fault_of form };
 
+    // A row is `Broken` if its text is `Unreadable`.
     fn from(form: FormFault) -> RowFault {
         match form {
             FormFault::Unreadable => RowFault::Broken,

@@ -50,6 +50,7 @@ pub fn receipt(alloc: Global, row: KeptRow) -> Result<Receipt, RowFault>
     })
 }
 
+// The status of a reply in a row: 200 or 422; any other number is `Broken`.
 fn status_of(number: u32) -> Result<ReplyStatus, RowFault>
     ensures { IsRowTold (status_of number) result }
 {
@@ -74,6 +75,7 @@ pub fn revision(alloc: Global, row: &RevisionRow) -> Result<Template, RowFault>
     }
 }
 
+// The template as the revision of that number; `Broken` if something refuses it.
 fn bound(alloc: Global, spec: &TemplateSpec, revision: u32) -> Result<Template, RowFault>
     ensures { IsRevisionRead revision (Some (command.Template spec.now)) result }
 {
@@ -128,6 +130,7 @@ pub fn stand(
     })
 }
 
+// The state of a service in a row, 0 to 2; any other number is `Broken`.
 fn state_of(number: u32) -> Result<State, RowFault>
     ensures { IsRowTold (state_of number) result }
 {
@@ -152,6 +155,7 @@ fn hold_of(number: u32) -> Result<(bool, bool), RowFault>
     }
 }
 
+// False for 0, and true for 1; any other number is `Broken`.
 fn truth_of(number: u32) -> Result<bool, RowFault>
     ensures { IsRowTold (truth_of number) result }
 {
@@ -162,6 +166,7 @@ fn truth_of(number: u32) -> Result<bool, RowFault>
     }
 }
 
+// The phase in a row, 0 to 4; any other number is `Broken`.
 fn phase_of(number: u32) -> Result<Phase, RowFault>
     ensures { IsRowTold (phase_of_number number) result }
 {

@@ -27,6 +27,7 @@ pub fn standing(parts: &ServiceParts) -> Standing
     }
 }
 
+// The number of a state in a row: 0 in progress, 1 aborted, 2 done.
 fn state_number(state: State) -> u32
     ensures { result ≡ state_number state }
 {
@@ -37,6 +38,7 @@ fn state_number(state: State) -> u32
     }
 }
 
+// The number of the holds in a row: 1 of the step, 2 of the background, 3 both, else 0.
 fn hold_number(step: bool, background: bool) -> u32
     ensures { result ≡ hold_number step background }
 {

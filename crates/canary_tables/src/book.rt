@@ -47,6 +47,7 @@ impl<S: Alter> Model for TableBook<S> {
     ghost invariant = { λ b. IsBook S.Store b.conn b.notes b.kept };
 }
 
+/// The fault of a book that a fault of its store comes to, under the same name.
 pub(crate) fn book_fault(fault: StoreFault) -> BookFault
     ensures { result ≡ book_fault_of fault }
 {
@@ -80,32 +81,39 @@ impl<S: Alter> Book for TableBook<S> {
 
     ghost state = { book_state S.Store };
 
+    // How many requests of the caller are settled, from the cache or else from the tables.
     fn settled(&mut self, caller: &Name) -> Result<u32, BookFault> {
         known::count(&mut self.conn, &mut self.kept, caller).map_err(book_fault)
     }
 
+    // The receipt under that number of the caller, from the cache or else from the tables.
     fn receipt(&mut self, caller: &Name, number: Number) -> Result<Option<Receipt>, BookFault> {
         known::receipt(&mut self.conn, self.alloc, &mut self.kept, caller, number).map_err(
             book_fault,
         )
     }
 
+    // The newest revisions of these templates, each from the cache or else from the tables.
     fn templates(&mut self, names: &[Name]) -> Result<Templates, BookFault> {
         known::templates(&mut self.conn, self.alloc, &mut self.kept, names).map_err(book_fault)
     }
 
+    // The service of that name, from the cache or else from the tables.
     fn service(&mut self, name: &Name) -> Result<Option<Service>, BookFault> {
         known::service(&mut self.conn, self.alloc, &mut self.kept, name).map_err(book_fault)
     }
 
+    // The history of the service, always from the tables.
     fn history(&mut self, name: &Name) -> Result<Listed<Line>, BookFault> {
         pages::history(&mut self.conn, self.alloc, name).map_err(book_fault)
     }
 
+    // The run of that number, always from the tables.
     fn run(&mut self, name: &Name, number: Number) -> Result<Option<RunRecord>, BookFault> {
         found_runs::run(&mut self.conn, self.alloc, name, number).map_err(book_fault)
     }
 
+    // A page of measurements, read on from the place where the last page ended, if that is noted.
     fn measurements(
         &mut self,
         name: &Name,
@@ -122,6 +130,7 @@ impl<S: Alter> Book for TableBook<S> {
         }
     }
 
+    // Settles the request. All notes go first, and all that is cached goes if that fails.
     fn commit(&mut self, settlement: Settlement) -> Result<(), BookFault> {
         laws::settlements();
         let _ = settlement.number.get();

@@ -199,6 +199,7 @@ fn turn<V: Drop>(recent: &mut BTreeMap<Name, Weighed<V>>, earlier: &mut BTreeMap
     }
 }
 
+// The weight of an entry; 0 if there is no entry.
 fn weight_of<V: Drop>(found: &Option<Weighed<V>>) -> u64
     ensures { result ≡ weight_if found.now }
 {
@@ -208,6 +209,7 @@ fn weight_of<V: Drop>(found: &Option<Weighed<V>>) -> u64
     }
 }
 
+// The value of an entry, without its weight.
 fn value_of<V: Drop>(found: &Weighed<V>) -> &V
     ensures { result.now ≡ found.now.value }
 {
@@ -238,6 +240,7 @@ fn value_in<V: Drop>(recent: Option<Weighed<V>>, earlier: Option<Weighed<V>>) ->
     }
 }
 
+// The value of an entry, if there is one.
 fn value_if<V: Drop>(found: Option<Weighed<V>>) -> Option<V>
     ensures { result ≡ value_if found }
 {

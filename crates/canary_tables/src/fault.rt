@@ -30,6 +30,7 @@ impl From<StoreFault> for TableFault {
 
     ghost from_gives = { λ fault made. made ≡ fault_of_store fault };
 
+    // A fault of the store, under the same name.
     fn from(fault: StoreFault) -> TableFault {
         match fault {
             StoreFault::Memory => TableFault::Memory,
@@ -44,6 +45,7 @@ impl From<ReadFault> for TableFault {
 
     ghost from_gives = { λ fault made. made ≡ fault_of_read fault };
 
+    // A fault of a read, under the same name, but for `Broken`, which is `BrokenRow`.
     fn from(fault: ReadFault) -> TableFault {
         match fault {
             ReadFault::Memory => TableFault::Memory,

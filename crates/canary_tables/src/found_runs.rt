@@ -54,6 +54,7 @@ pub(crate) fn tallies<S: Alter>(
     Ok(counts_of(alloc, rows.as_slice())?)
 }
 
+// The counts in the rows, in their order; or `Memory`.
 fn counts_of(alloc: Global, rows: &[TallyRow]) -> Result<Listed<Tally>, Memory>
     ensures { IfOk result (λ found. found ≡ map (λ (row : TallyRow). row.counts) rows.now) }
 {
@@ -184,6 +185,7 @@ pub(crate) fn open_runs<S: Alter>(
     with_tallies(conn, alloc, name, bound, rows.as_slice())
 }
 
+// The open runs of these rows, in their order, each as by `open_run`.
 fn with_tallies<S: Alter>(
     conn: &mut Connection<S>,
     alloc: Global,
@@ -206,6 +208,7 @@ fn with_tallies<S: Alter>(
     Ok(found)
 }
 
+// The open run of the row, with its tallies, and the analysis that is bound at its step.
 fn open_run<S: Alter>(
     conn: &mut Connection<S>,
     alloc: Global,

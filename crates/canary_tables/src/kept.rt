@@ -9,7 +9,7 @@ ghost use Rattle.canary_tables.specs.Kept.{AreReceipts, KeepsNothing};
 
 use crate::entries::Entries;
 use crate::weights::{BYTES_OF_COUNT, bytes_of_receipt, bytes_of_service, bytes_of_template};
-use canary_base::names::Name;
+use canary_base::names::{MOST_BYTES, Name};
 use canary_base::numbers::Number;
 use canary_once::book::{Receipt, Settlement};
 use canary_plan::template::Template;
@@ -28,9 +28,6 @@ const PARTS_OF_RECEIPTS: u64 = 8;
 // The receipts of a caller have as many places as there are two letters of so many: 256. A repeat
 // comes soon, and what is kept stays small.
 const LETTERS: u32 = 16;
-
-// The most bytes of a name.
-const MOST_BYTES: usize = 63;
 
 /// A receipt, and whose it is: of this caller, under this number.
 #[derive(Drop)]
@@ -69,6 +66,7 @@ fn place_of(caller: &Name, number: Number) -> Name {
     }
 }
 
+// A letter from a to p, by the remainder of the number.
 fn letter(number: u32) -> u8 {
     b'a'.wrapping_add((number % LETTERS) as u8)
 }
@@ -247,6 +245,7 @@ impl Kept {
         }
     }
 
+    // Caches the receipt at its place, if there is room. The one that was there goes in any case.
     fn put_receipt(&mut self, receipt: NumberedReceipt)
         ensures counts { self.new.counts ≡ self.old.counts }
         ensures services { self.new.services ≡ self.old.services }
@@ -281,6 +280,7 @@ impl Kept {
         });
     }
 
+    // Caches the service that the change leaves; nothing if it changes no service.
     fn keep_changed(&mut self, change: DeskChange)
         ensures counts { self.new.counts ≡ self.old.counts }
         ensures services { IsWithin self.new.services (with_changed self.old.services change) }

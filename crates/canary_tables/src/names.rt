@@ -29,6 +29,7 @@ impl<S: Alter> TableBook<S> {
     }
 }
 
+// The names of all services, by a contract of the connection that a book has.
 fn names<S: Alter>(conn: &mut Connection<S>, alloc: Global) -> Result<Listed<Name>, StoreFault>
     requires autocommit { conn.old.in_transaction ≡ false }
     requires desk { IsUsable (state S.Store conn.old) → IsDesk (state S.Store conn.old) }

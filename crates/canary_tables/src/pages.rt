@@ -65,6 +65,7 @@ fn lines_of(alloc: Global, rows: &[HistoryRow]) -> Result<Listed<Line>, StoreFau
     Ok(lines)
 }
 
+// The lines, and after them that of the row. `Storage` only if the row has no valid line.
 fn with_line(lines: Listed<Line>, row: &HistoryRow) -> Result<Listed<Line>, StoreFault>
     ensures found { IfOk result
         (λ longer. map Some longer ≡ map Some lines ++ line_of_row row.now ∷ []) }
@@ -76,6 +77,7 @@ fn with_line(lines: Listed<Line>, row: &HistoryRow) -> Result<Listed<Line>, Stor
     }
 }
 
+// The lines, and after them one of that moment and event; or `Memory`.
 fn push_line(lines: Listed<Line>, moment: Moment, event: LineEvent) -> Result<Listed<Line>, Memory>
     ensures { IfOk result (λ longer. longer ≡ lines ++ line_at moment event ∷ []) }
 {

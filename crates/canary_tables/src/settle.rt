@@ -95,6 +95,7 @@ fn has_rows<S: Alter>(
     }
 }
 
+// Whether an analysis is bound to some revision; or `Memory`.
 fn is_bound_to_any(alloc: Global, bound: &Bound) -> Result<bool, Memory>
     ensures { IfOk result (λ any. any ≡ not (length (all_revisions bound.now) == 0)) }
 {

@@ -54,6 +54,7 @@ pub(crate) fn bytes_of_service(service: &Service) -> u64 {
     BYTES_OF_SERVICE.saturating_add(parts)
 }
 
+// How many metrics are bound, in the background and in all steps.
 fn metrics_of(bound: &Bound) -> u64 {
     let mut count = metrics_in(bound.analysis(None));
     for analysis in bound.steps() {
@@ -62,6 +63,7 @@ fn metrics_of(bound: &Bound) -> u64 {
     count
 }
 
+// How many metrics the analysis has; 0 if there is no analysis.
 fn metrics_in(analysis: Option<&BoundAnalysis>) -> u64 {
     match analysis {
         Some(analysis) => analysis.metrics().len() as u64,
@@ -69,6 +71,7 @@ fn metrics_in(analysis: Option<&BoundAnalysis>) -> u64 {
     }
 }
 
+// How many tallies the open runs of the service have.
 fn tallies_of(service: &Service) -> u64 {
     let mut count: u64 = 0;
     for run in service.open_runs() {
@@ -87,11 +90,13 @@ pub(crate) fn bytes_of_template(template: &Template) -> u64 {
     bytes
 }
 
+// A metric, with each byte of its two conditions.
 fn bytes_of_metric(metric: &MetricSpec) -> u64 {
     let condition_bytes = length_of(&metric.success).saturating_add(length_of(&metric.failure));
     BYTES_OF_METRIC.saturating_add(BYTES_OF_CONDITION_BYTE.saturating_mul(condition_bytes))
 }
 
+// How many bytes the text has; 0 if there is no text.
 fn length_of(text: &Option<Text>) -> u64 {
     match text {
         Some(text) => text.as_str().len() as u64,

@@ -18,6 +18,7 @@ struct Parsing<'a> {
 }
 
 impl Work for Parsing<'_> {
+    // Reads the text; wanted is a condition.
     fn done(&mut self, alloc: Global) -> bool {
         Condition::parse(alloc, self.text).is_ok()
     }
@@ -30,6 +31,7 @@ struct Evaluating<'a> {
 }
 
 impl Work for Evaluating<'_> {
+    // Evaluates the condition at the value; wanted is false.
     fn done(&mut self, _: Global) -> bool {
         self.condition.eval(self.value) == Verdict3::False
     }
@@ -54,6 +56,7 @@ fn lengthen(text: &mut String, len: usize) -> Result<(), AllocError> {
     Ok(())
 }
 
+// So many rounds in so many nanoseconds, as rounds a second.
 fn per_second(rounds: u32, nanos: u64) -> u64 {
     u64::from(rounds).saturating_mul(1_000_000_000) / nanos.max(1)
 }
@@ -89,6 +92,7 @@ fn time_evaluation(rt: &HostRuntime, rounds: u32, text: &str) -> Result<Batch, F
     }
 }
 
+// Prints the row of a condition of this text: its length, and the figures of both works.
 fn print_text(rt: &HostRuntime, rounds: u32, text: &str) -> Result<(), Fault> {
     let len = text.len();
     let parsing = time(rt, &mut Parsing { text }, rounds)?;
@@ -100,6 +104,7 @@ fn print_text(rt: &HostRuntime, rounds: u32, text: &str) -> Result<(), Fault> {
     Ok(())
 }
 
+// Prints the row of a condition of that many bytes.
 fn print_line(rt: &HostRuntime, rounds: u32, len: usize) -> Result<(), Fault> {
     let mut text = String::from_str(rt.alloc(), COMPARISON)?;
     lengthen(&mut text, len)?;

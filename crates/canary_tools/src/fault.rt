@@ -28,12 +28,14 @@ impl Fault {
 }
 
 impl From<io::Error> for Fault {
+    // An error of the output, the clock or a file is `Fault::Machine`.
     fn from(_: io::Error) -> Fault {
         Fault::Machine
     }
 }
 
 impl From<AllocError> for Fault {
+    // A refused allocation counts as a refused command does.
     fn from(_: AllocError) -> Fault {
         Fault::Refused
     }

@@ -42,6 +42,7 @@ struct Checking<'a> {
 }
 
 impl Work for Checking<'_> {
+    // Checks the strategy; wanted is that it is taken.
     fn done(&mut self, alloc: Global) -> bool {
         Strategy::check(alloc, self.spec, self.templates).is_ok()
     }
@@ -56,6 +57,7 @@ struct Deciding<'a> {
 }
 
 impl Work for Deciding<'_> {
+    // Decides the command; wanted is that it is accepted.
     fn done(&mut self, alloc: Global) -> bool {
         match decide(alloc, self.templates, self.service, self.now, self.command) {
             Ok(decision) => decision.reply.status == ReplyStatus::Accepted,
@@ -77,6 +79,7 @@ pub fn measure(rt: &HostRuntime, rounds: u32) -> Result<(), Fault> {
     Ok(())
 }
 
+// Prints the row of a strategy of that size, over templates of its own.
 fn print_row(rt: &HostRuntime, rounds: u32, steps: u32, metrics: u32) -> Result<(), Fault> {
     print!(rt; "{steps:>5} {metrics:>7}")?;
     let mut templates = Templates::new(rt.alloc());
@@ -96,6 +99,7 @@ fn print_sized(
     print_cells(rt, rounds, size, templates)
 }
 
+// Prints the figures of a row over these templates, cell by cell, and ends the row.
 fn print_cells(
     rt: &HostRuntime,
     rounds: u32,
@@ -116,6 +120,7 @@ fn print_cells(
     Ok(())
 }
 
+// Makes the command of a cell, and prints its figure.
 fn print_cell(rt: &HostRuntime, trial: &Trial, cell: u32) -> Result<(), Fault> {
     match asked(rt.alloc(), trial.size, cell) {
         Some(command) => print_command(rt, trial, cell, &command),
@@ -123,6 +128,7 @@ fn print_cell(rt: &HostRuntime, trial: &Trial, cell: u32) -> Result<(), Fault> {
     }
 }
 
+// Prints the figure of a cell's command, and before that of a registration the check's.
 fn print_command(
     rt: &HostRuntime,
     trial: &Trial,
@@ -143,6 +149,7 @@ fn print_check(rt: &HostRuntime, trial: &Trial, spec: &ServiceSpec) -> Result<()
     print_figure(rt, trial.rounds, batch)
 }
 
+// Prints what deciding the command takes; `Refused` if there is no service that it needs.
 fn print_decision(
     rt: &HostRuntime,
     trial: &Trial,
@@ -169,6 +176,7 @@ fn asked(alloc: Global, size: Size, cell: u32) -> Option<Command> {
     command(alloc, text.as_str())
 }
 
+// The canonical text of a cell's command.
 fn text_of(alloc: Global, size: Size, cell: u32) -> Result<String, AllocError> {
     let all = size.metrics.max(1);
     match cell {
@@ -204,11 +212,13 @@ fn before_promote(alloc: Global, trial: &Trial) -> Option<Service> {
     }
 }
 
+// The service with a release that was just started.
 fn started(alloc: Global, trial: &Trial) -> Option<Service> {
     let registered = after(alloc, trial, None, REGISTER);
     after(alloc, trial, registered.as_ref(), START)
 }
 
+// The service with a release that its run holds; `None` if there is no run.
 fn held(alloc: Global, trial: &Trial) -> Option<Service> {
     let started = started(alloc, trial);
     after(alloc, trial, started.as_ref(), CLOSING)
@@ -222,6 +232,7 @@ fn after(alloc: Global, trial: &Trial, service: Option<&Service>, cell: u32) -> 
     }
 }
 
+// The service as the command leaves it; `None` if the command changes no service.
 fn decided(
     alloc: Global,
     trial: &Trial,
@@ -234,6 +245,7 @@ fn decided(
     }
 }
 
+// The service that a decision changes, without its reply and its effects.
 fn changed(decision: Decision) -> Option<Service> {
     let Decision {
         reply: _reply,
@@ -249,6 +261,7 @@ fn changed(decision: Decision) -> Option<Service> {
     }
 }
 
+// Prints the microseconds of a round, with two decimals, and a star if one was not as wanted.
 fn print_figure(rt: &HostRuntime, rounds: u32, batch: Batch) -> Result<(), Fault> {
     let hundredths = batch.nanos / 10 / u64::from(rounds.max(1));
     let (whole, part) = (hundredths / 100, hundredths % 100);

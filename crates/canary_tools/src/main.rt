@@ -22,6 +22,7 @@ use fault::Fault;
 use std::env;
 use std::process::ExitCode;
 
+// Runs what the words ask for, and prints a fault to standard error.
 fn main(rt: HostRuntime) -> ExitCode {
     match run(&rt) {
         Ok(()) => ExitCode::SUCCESS,
@@ -33,6 +34,7 @@ fn main(rt: HostRuntime) -> ExitCode {
     }
 }
 
+// Runs what the words of the command line ask for.
 fn run(rt: &HostRuntime) -> Result<(), Fault> {
     let words: Vec<String> = env::args(rt)?.collect(rt.alloc())?;
     measure(rt, words.as_slice())
@@ -46,10 +48,12 @@ fn word(words: &[String], place: usize) -> Option<&str> {
     }
 }
 
+// The number that a word spells, or `Fault::Words`.
 fn number(word: &str) -> Result<u32, Fault> {
     word.parse::<u32>().or(Err(Fault::Words))
 }
 
+// Measures the subject that the words name; without words it reads texts in YAML.
 fn measure(rt: &HostRuntime, words: &[String]) -> Result<(), Fault> {
     let Some(subject) = word(words, 1) else {
         yaml::answer_all(rt)?;

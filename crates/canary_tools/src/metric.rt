@@ -26,6 +26,7 @@ pub fn measure(rt: &HostRuntime, work: u32) -> Result<(), Fault> {
     }
 }
 
+// Prints a row for each number of measurements.
 fn print_sizes(rt: &HostRuntime, work: u32, metric: &Metric, begin: Moment) -> Result<(), Fault> {
     for size in [10, 100, 1_000, 10_000, 100_000, 1_000_000] {
         print_size(rt, work, metric, begin, size)?;
@@ -33,6 +34,7 @@ fn print_sizes(rt: &HostRuntime, work: u32, metric: &Metric, begin: Moment) -> R
     Ok(())
 }
 
+// Prints the row of tallies of that size: how many additions and phases a second.
 fn print_size(
     rt: &HostRuntime,
     work: u32,
@@ -92,6 +94,7 @@ struct Filling {
 }
 
 impl Work for Filling {
+    // Fills the next tally anew; that is always as wanted.
     fn done(&mut self, _: Global) -> bool {
         let round = self.round;
         self.tallies[round as usize % TALLIES] = filled(self.size, round, self.begin);
@@ -111,6 +114,7 @@ fn count_running(tallies: &[Tally; TALLIES], metric: &Metric, rounds: u32) -> u3
     running
 }
 
+// A tally of so many measurements, whose phases come in an order by the round.
 fn filled(size: u32, round: u32, begin: Moment) -> Tally {
     let mut tally = Tally::new();
     for k in 0..size {
@@ -121,6 +125,7 @@ fn filled(size: u32, round: u32, begin: Moment) -> Tally {
     tally
 }
 
+// The phase of a measurement by its number: the four of measurements take turns.
 fn phase_at(k: u32) -> Phase
     ensures { IsTrue (is_measured result) }
 {

@@ -101,6 +101,7 @@ pub fn learn(alloc: Global, known: &mut Templates, metrics: u32) -> Option<()> {
     known.insert(latency()?, bound(alloc, metrics)?).ok()
 }
 
+// The template, with so many metrics of five measurements each.
 fn bound(alloc: Global, metrics: u32) -> Option<Template> {
     let text = template(alloc, metrics, 5).ok()?;
     match command(alloc, text.as_str()) {
@@ -109,6 +110,7 @@ fn bound(alloc: Global, metrics: u32) -> Option<Template> {
     }
 }
 
+// The first revision of the template that this command registers.
 fn bind(alloc: Global, registered: &Command) -> Option<Template> {
     match registered {
         Command::Template(spec) => Template::bind(alloc, spec, 1).ok(),
@@ -116,6 +118,7 @@ fn bind(alloc: Global, registered: &Command) -> Option<Template> {
     }
 }
 
+// Puts so many steps into the text, each an analysis by the template.
 fn put_steps(text: &mut String, count: u32) -> Result<(), AllocError> {
     for place in 0..count {
         put_item(text, place, r#"{"analysis":["latency"]}"#)?;

@@ -65,6 +65,7 @@ struct Middle {
     subject: Name,
 }
 
+// What the probes need of this request.
 fn middle_of(request: &Request) -> Middle {
     Middle {
         now: request.moment,
@@ -74,6 +75,7 @@ fn middle_of(request: &Request) -> Middle {
     }
 }
 
+// The same of the request of the stream at that place.
 fn take_middle(alloc: Global, stream: Stream, place: u32) -> Option<Middle> {
     Some(middle_of(&stream.request(alloc, place)?))
 }
@@ -149,6 +151,7 @@ fn length_if(answer: &Answer, status: ReplyStatus) -> u64 {
     }
 }
 
+// Whether it is a reply of that status.
 fn has_status(answer: &Answer, status: ReplyStatus) -> bool {
     match answer {
         Answer::Replied(reply) => reply.status == status,
@@ -156,10 +159,12 @@ fn has_status(answer: &Answer, status: ReplyStatus) -> bool {
     }
 }
 
+// How many requests of the caller are settled.
 fn settled(book: &mut MemoryBook, aim: &Aim) -> u64 {
     book.settled(&aim.caller).map_or(0, u64::from)
 }
 
+// How long the body is in the receipt of the request in the middle.
 fn receipt(book: &mut MemoryBook, aim: &Aim) -> u64 {
     match book.receipt(&aim.caller, aim.number) {
         Ok(Some(receipt)) => receipt.reply.body.as_str().len() as u64,
@@ -167,6 +172,7 @@ fn receipt(book: &mut MemoryBook, aim: &Aim) -> u64 {
     }
 }
 
+// How many templates have the name: 1 or 0.
 fn templates(book: &mut MemoryBook, aim: &Aim) -> u64 {
     match book.templates(&[aim.template]) {
         Ok(templates) => u64::from(templates.get(aim.template).is_some()),
@@ -174,6 +180,7 @@ fn templates(book: &mut MemoryBook, aim: &Aim) -> u64 {
     }
 }
 
+// One more than the step of the service, since 0 is nothing.
 fn service(book: &mut MemoryBook, aim: &Aim) -> u64 {
     match book.service(&aim.subject) {
         Ok(Some(service)) => u64::from(service.step()).saturating_add(1),
@@ -181,6 +188,7 @@ fn service(book: &mut MemoryBook, aim: &Aim) -> u64 {
     }
 }
 
+// The number of the service's first run.
 fn run(book: &mut MemoryBook, aim: &Aim) -> u64 {
     let Some(number) = Number::new(FIRST_RUN) else {
         return 0;
@@ -191,6 +199,7 @@ fn run(book: &mut MemoryBook, aim: &Aim) -> u64 {
     }
 }
 
+// How many measurements are in a page from the middle on.
 fn page(book: &mut MemoryBook, aim: &Aim) -> u64 {
     match book.measurements(&aim.subject, aim.place, PAGE_LENGTH) {
         Ok(measurements) => measurements.as_slice().len() as u64,
@@ -198,6 +207,7 @@ fn page(book: &mut MemoryBook, aim: &Aim) -> u64 {
     }
 }
 
+// How many lines the history of the service has.
 fn history(book: &mut MemoryBook, aim: &Aim) -> u64 {
     match book.history(&aim.subject) {
         Ok(lines) => lines.as_slice().len() as u64,

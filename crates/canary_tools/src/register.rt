@@ -56,6 +56,7 @@ pub fn measure(rt: &HostRuntime, most: u32, name: Option<&str>) -> Result<(), Fa
     }
 }
 
+// Prints what is in the columns, above the rows of all streams.
 fn print_head(rt: &HostRuntime) -> Result<(), Fault> {
     println!(rt; "nanoseconds each, and bytes a settled request; * is nothing found")?;
     print!(rt; "stream    settled     whole      next   bytes")?;
@@ -64,6 +65,7 @@ fn print_head(rt: &HostRuntime) -> Result<(), Fault> {
     Ok(())
 }
 
+// Prints the rows of a new book, which the stream of that name fills; `Words` if no stream has it.
 fn measure_named(rt: &HostRuntime, most: u32, name: &str) -> Result<(), Fault> {
     let stream = Stream::named(name).ok_or(Fault::Words)?;
     // What making a chunk of requests takes is no part of what the book takes.
@@ -102,6 +104,7 @@ fn print_sizes(
     Ok(())
 }
 
+// Makes a chunk of requests once, before the memory of the process is looked at.
 fn make_ready(rt: &HostRuntime, stream: Stream) -> Result<(), Fault> {
     let requests = stream.requests(rt.alloc(), 0, CHUNK).ok_or(Fault::Refused)?;
     if requests.is_empty() {
@@ -207,6 +210,7 @@ fn post_all(
     as_wanted
 }
 
+// Prints the figures of all probes, which aim at the middle of so many settled requests.
 fn print_reads(
     rt: &HostRuntime,
     book: &mut MemoryBook,
@@ -219,6 +223,7 @@ fn print_reads(
     }
 }
 
+// Prints the figure of each probe, and ends the row.
 fn print_probes(rt: &HostRuntime, book: &mut MemoryBook, aim: &Aim) -> Result<(), Fault> {
     for probe in PROBES {
         print_read(rt, &mut Asking { book, probe, aim })?;
@@ -236,6 +241,7 @@ struct Asking<'a> {
 }
 
 impl Work for Asking<'_> {
+    // Asks once; wanted is that anything is found.
     fn done(&mut self, alloc: Global) -> bool {
         reads::ask(alloc, self.book, self.probe, self.aim) > 0
     }

@@ -105,6 +105,7 @@ impl Stream {
         Some(requests)
     }
 
+    // The caller of the request at that place: one of its own, or the one of all.
     fn caller(self, alloc: Global, place: u32) -> Option<Name> {
         if self.has_many_callers() {
             numbered(alloc, "caller", place)
@@ -113,6 +114,7 @@ impl Stream {
         }
     }
 
+    // The number of the request at that place among those of its caller.
     fn number(self, place: u32) -> Option<Number> {
         if self.has_many_callers() {
             Number::new(1)
@@ -121,6 +123,7 @@ impl Stream {
         }
     }
 
+    // The command of the request at that place.
     fn command(self, alloc: Global, place: u32) -> Option<Command> {
         let service = self.service(alloc, place)?;
         let text = self.text(alloc, place, service.as_str()).ok()?;

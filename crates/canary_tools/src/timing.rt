@@ -20,6 +20,7 @@ pub struct Batch {
     pub wanted: u32,
 }
 
+// Does the work so many times, and returns how often it came out as wanted.
 fn repeat<W: Work>(alloc: Global, work: &mut W, rounds: u32) -> u32 {
     let mut wanted = 0u32;
     for _ in 0..rounds {

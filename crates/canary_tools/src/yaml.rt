@@ -70,6 +70,7 @@ fn documents(alloc: Global, bytes: &[u8]) -> Result<String, Fault> {
     Ok(text)
 }
 
+// Appends a document: its first line and its value, in a list.
 fn push_document(alloc: Global, text: &mut String, document: &Document) -> Result<(), Fault> {
     let value = document.value.to_string(alloc)?;
     write!(text, "[{},{value}]", document.line)?;
@@ -97,6 +98,7 @@ fn place(alloc: Global, list: &[Value]) -> Result<String, Fault> {
     Ok(format!(in alloc; "{line}:{column}")?)
 }
 
+// The step that this value is: a text is a key, a number is a place of a sequence.
 fn step_of(step: &Value) -> Step<'_> {
     match step.as_str() {
         Some(key) => Step::Key(key),
@@ -104,6 +106,7 @@ fn step_of(step: &Value) -> Step<'_> {
     }
 }
 
+// The bytes that hexadecimal digits spell, two digits each.
 fn bytes_of(alloc: Global, digits: &[u8]) -> Result<Vec<u8>, Fault> {
     let mut bytes = Vec::new(alloc);
     for pair in digits.chunks(2) {

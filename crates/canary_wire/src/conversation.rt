@@ -25,7 +25,7 @@ use std::alloc::Global;
 use std::io::{Read, Write};
 
 // The most messages that are answered at a stretch, so that the others have their turn.
-const MOST_STEPS: u32 = 64;
+const MOST_MESSAGES_A_TURN: u32 = 64;
 
 /// How long a turn goes on, and whether it answers queries. Whoever gives the turns decides it.
 pub trait Pace {
@@ -319,7 +319,7 @@ impl Conversation {
             × (clock.new ≡ clock.old) × (book.new ≡ book.old) }
     {
         let mut step = self.advance(alloc, routes, clock, book, pace);
-        'steps: for _ in 1..MOST_STEPS {
+        'steps: for _ in 1..MOST_MESSAGES_A_TURN {
             if step != Step::Answered || self.owes() >= self.most_owed || !pace.goes_on() {
                 return step;
             }

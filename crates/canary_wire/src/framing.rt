@@ -106,6 +106,7 @@ impl Named {
         }
     }
 
+    // Whether there is a value at all.
     fn is_any(self) -> bool
         ensures { (buf : List ℕ) (values : List (List ℕ))
             → Shows buf self values → result ≡ has_any values }

@@ -104,10 +104,12 @@ impl Write for Owed {
 
     ghost contents = { λ o. Some (bytes_owed o) };
 
+    // Adds the bytes after those that are still to be written; an error if memory is refused.
     fn write(&mut self, buf: &[u8]) -> std::io::Result<usize> {
         self.bytes.write(buf)
     }
 
+    // Does nothing: `write_to` sends the bytes.
     fn flush(&mut self) -> std::io::Result<()> {
         Ok(())
     }

@@ -23,6 +23,7 @@ pub(crate) enum Response {
 }
 
 impl Response {
+    // The status of the reply, which is 503 if memory was refused.
     fn status(&self) -> StatusCode
         ensures { result ≡ response_status self.now }
     {
@@ -33,6 +34,7 @@ impl Response {
         }
     }
 
+    // The body of the reply, in JSON.
     fn body(&self) -> &str
         ensures { result.now ≡ response_body self.now }
     {
@@ -114,6 +116,7 @@ fn reply_head(status: StatusCode, size: usize, allow: &str, is_last: bool) -> Ar
     head
 }
 
+// The reason phrase of a status with which a desk answers; empty for any other.
 fn reason(status: u16) -> &'static str
     ensures is { result.now ≡ reason_of status }
     ensures short { length result.now ≤ 21 }
@@ -132,6 +135,7 @@ fn reason(status: u16) -> &'static str
     }
 }
 
+// The line, or an empty text if it is left out.
 fn line_if(stands: bool, line: &str) -> &str
     ensures is { result.now ≡ line_if stands line.now }
     ensures short { length result.now ≤ length line.now }
@@ -158,6 +162,7 @@ fn write_both<W: Write>(
     write_all(writer, body.as_bytes())
 }
 
+// Writes all of the bytes, by several writes if need be.
 fn write_all<W: Write>(writer: &mut W, text: &[u8]) -> Result<(), WriteFault>
     ensures { Writes (W.contents writer.old) (W.contents writer.new) text.now result }
 {

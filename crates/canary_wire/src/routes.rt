@@ -136,6 +136,7 @@ impl PathParts<'_> {
     }
 }
 
+// The name of a caller or a service in a path, or `BadName`.
 fn name_of(bytes: &[u8]) -> Result<Name, Rejection>
     ensures ok { IfOk result (λ name. (name ≡ bytes.now) × IsTrue (is_name name)) }
     ensures err { IfErr result (λ rejection. (rejection ≡ Rejection.BadName)
@@ -144,6 +145,7 @@ fn name_of(bytes: &[u8]) -> Result<Name, Rejection>
     Name::read(bytes).ok_or(Rejection::BadName)
 }
 
+// The number of a request or a run in a path, or `BadNumber`.
 fn number_of(digits: &[u8]) -> Result<Number, Rejection>
     ensures ok { IfOk result (SpellsNumber digits.now) }
     ensures err { IfErr result (λ rejection. (rejection ≡ Rejection.BadNumber)
@@ -165,6 +167,7 @@ fn split(route: Route, path: &[u8]) -> Option<PathParts<'_>>
     }
 }
 
+// The caller and the number in the path of a request; none if it is another path.
 fn split_request(path: &[u8]) -> Option<PathParts<'_>>
     ensures { MatchOption result
         ((caller number : List ℕ) → ¬ (IsSplit path.now (request caller number)))
@@ -175,6 +178,7 @@ fn split_request(path: &[u8]) -> Option<PathParts<'_>>
     Some(PathParts::Request(caller, number))
 }
 
+// The name in the path of a service; none if it is another path.
 fn split_service(path: &[u8]) -> Option<PathParts<'_>>
     ensures { MatchOption result ((name : List ℕ) → ¬ (IsSplit path.now (service name)))
         (λ parts. IsSplit path.now (target_of parts)) }
@@ -183,6 +187,7 @@ fn split_service(path: &[u8]) -> Option<PathParts<'_>>
     Some(PathParts::Service(name))
 }
 
+// The name in the path of a history; none if it is another path.
 fn split_history(path: &[u8]) -> Option<PathParts<'_>>
     ensures { MatchOption result ((name : List ℕ) → ¬ (IsSplit path.now (history name)))
         (λ parts. IsSplit path.now (target_of parts)) }
@@ -195,6 +200,7 @@ fn split_history(path: &[u8]) -> Option<PathParts<'_>>
     }
 }
 
+// The name and the number in the path of a run; none if it is another path.
 fn split_run(path: &[u8]) -> Option<PathParts<'_>>
     ensures { MatchOption result
         ((name number : List ℕ) → ¬ (IsSplit path.now (run name number)))
@@ -251,6 +257,7 @@ fn before(text: &[u8], byte: u8) -> &[u8]
     }
 }
 
+// The index of the first byte that is this one, if there is one.
 fn place_of(text: &[u8], byte: u8) -> Option<usize>
     ensures { result ≡ position (λ b. b == byte) text.now }
 {

@@ -10,6 +10,7 @@ struct BehindName<'a, R> {
 }
 
 impl<R: Env> Env for BehindName<'_, R> {
+    // The word at this place after the program's name: that of the process one place later.
     fn arg(&self, i: usize, buf: &mut [u8]) -> Result<usize, FillError> {
         match i.checked_add(1) {
             Some(place) => self.process.arg(place, buf),
@@ -17,10 +18,12 @@ impl<R: Env> Env for BehindName<'_, R> {
         }
     }
 
+    // The variable of this name, as the process has it.
     fn var(&self, name: &str, buf: &mut [u8]) -> Result<usize, FillError> {
         self.process.var(name, buf)
     }
 
+    // The variable at this place, as the process has it.
     fn var_at(&self, i: usize, buf: &mut [u8]) -> Result<usize, FillError> {
         self.process.var_at(i, buf)
     }

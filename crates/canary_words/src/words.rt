@@ -507,6 +507,7 @@ fn limits_of(serve: &ArgMatches<'_>) -> AskedLimits
 }
 
 impl fmt::Display for WordsFault {
+    // Writes the text of help or of a mistake as it is, or that memory was refused.
     fn fmt<W: fmt::Write>(&self, f: &mut fmt::Formatter<W>) -> fmt::Result {
         match self {
             WordsFault::Help(text) | WordsFault::Usage(text) => f.write_str(text.as_str()),

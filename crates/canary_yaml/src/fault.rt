@@ -104,12 +104,14 @@ impl Why {
 }
 
 impl From<AllocError> for Fault {
+    // A refused allocation is `Memory`.
     fn from(_: AllocError) -> Fault {
         Fault::Memory
     }
 }
 
 impl<T: Drop> From<AllocFailed<T>> for Fault {
+    // The same if a value found no room, which is dropped.
     fn from(_: AllocFailed<T>) -> Fault {
         Fault::Memory
     }
