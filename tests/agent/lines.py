@@ -11,6 +11,8 @@ from replies import want_plain
 from rows import ESCAPES, GREATEST, LESS, NAN
 from world import Wrong, expect
 
+# What the agent says of a line that it does not take.
+INVALID_LINE = "a line of --values is no SERVICE METRIC VALUE of these files"
 # Of a kind that no agent asks.
 OTHER = {"datadog": {"query": "avg:errors"}}
 # What lines say, and what is reported: of `result`, of a place, of places, and of all there is.
@@ -111,7 +113,10 @@ def try_no_values(world):
         wait_until("a result", lambda: reported_of(desk, "one"), 10)
         time.sleep(5)
         expect("the last of three lines, once", reported_of(desk, "one"), ["300000"])
+        # A last line that is too long and has no end is said, as each other one is.
+        write(b"one m " + b"9" * 5000)
         agent.process.stdin.close()
+        agent.wait_said(INVALID_LINE)
         agent.wait_said("ended")
         time.sleep(2)
         expect("said once", agent.errors().count("ended"), 1)

@@ -10,7 +10,7 @@ TABLE = "## A new command\n"
 CASE = re.compile(r"PromoteFull|promoteFull|promote-full")
 COMMENT = re.compile(r"//.*|--.*")
 # Tests and worked rows have the command as any other text.
-NO_CASES = re.compile(r"/canary_(?:tests|bench)/|/(?:Delivery)?Rows\w*\.antt$")
+NO_CASES = re.compile(r"/canary_(?:test_once|tools)/|/(?:Delivery)?Rows\w*\.antt$")
 CRATE = re.compile(r"^(canary_\w+): *")
 
 

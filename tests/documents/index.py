@@ -3,7 +3,7 @@
 
 A crate's page says `**The contract that matters:**` and then the contract, whose first sentence
 stands in the table of docs/PROOFS.md ("By crate"), which this script makes, and in that of
-docs/ARCHITECTURE.md, in which the script makes the column "Its one contract".
+docs/ARCHITECTURE.md, in which the script makes all but the column "Stands on".
 
     tests/documents/index.py            checks both tables
     tests/documents/index.py --write    writes them
@@ -21,13 +21,19 @@ PROOFS, ARCHITECTURE = "docs/PROOFS.md", "docs/ARCHITECTURE.md"
 HEAD = "## By crate\n"
 FAMILIES = ["# rules", "# store", "# HTTP", "# client", "# programs", "# tests"]
 ROW = re.compile(r"^\| (canary_\w+) \| (.*) \| (.*) \|$")
+HEADS = "| Crate | Its one contract | Stands on |"
 
 
-def crates_of(root):
-    """The crates that have a page, the lowest first."""
-    lines = (root / "crates.txt").read_text(encoding="utf-8").split("\n")
-    names = [line.partition(":")[0] for line in lines if line and not line.startswith("#")]
-    return [name for name in names if (root / "crates" / name / "README.md").exists()]
+def families_of(root):
+    """The families, each by its name with the crates that have a page, the lowest first."""
+    families, crates = {}, []
+    for line in (root / "crates.txt").read_text(encoding="utf-8").split("\n"):
+        name = line.partition(":")[0]
+        if line in FAMILIES:
+            crates = families.setdefault(line.removeprefix("# "), [])
+        elif name and not line.startswith("#") and (root / "crates" / name / "README.md").exists():
+            crates.append(name)
+    return {family: crates for family, crates in families.items() if crates}
 
 
 def contract_of(root, crate):
@@ -38,33 +44,38 @@ def contract_of(root, crate):
     return " ".join(sentence[1].split()) if mark and sentence else None
 
 
-def proofs_with(text, contracts):
+def contracts_of(root):
+    """The contract of each crate that has a page."""
+    return {crate: contract_of(root, crate)
+            for crates in families_of(root).values() for crate in crates}
+
+
+def proofs_with(text, families, contracts):
     """The text of docs/PROOFS.md with the table of these contracts."""
     front, head, rest = text.partition(HEAD)
     kept, table, end = re.split(r"^(\| Crate \|.*\n(?:\|.*\n)*)", rest, maxsplit=1, flags=re.M)
     table = "| Crate | Its one contract |\n|---|---|\n"
-    for crate, contract in contracts.items():
-        table += f"| [{crate}](../crates/{crate}/README.md) | {contract} |\n"
+    for family, crates in families.items():
+        table += f"| **{family}** | |\n"
+        for crate in crates:
+            table += f"| [{crate}](../crates/{crate}/README.md) | {contracts[crate]} |\n"
     return front + head + kept + table + end
 
 
-def rows_of(text):
-    """The lines of the table of crates in docs/ARCHITECTURE.md, each with its place."""
+def architecture_with(text, families, contracts):
+    """The text of docs/ARCHITECTURE.md with the table of these contracts, and with what its own
+    table says that each crate stands on."""
     lines = text.split("\n")
-    begin = lines.index("| Crate | Its one contract | Stands on |") + 2
-    for at, line in enumerate(lines[begin:], begin):
-        row = ROW.match(line)
-        if not row:
-            return
-        yield at, row
-
-
-def architecture_with(text, contracts):
-    """The text of docs/ARCHITECTURE.md with these contracts in its table of crates."""
-    lines = text.split("\n")
-    for at, row in rows_of(text):
-        lines[at] = f"| {row[1]} | {contracts.get(row[1])} | {row[3]} |"
-    return "\n".join(lines)
+    begin = lines.index(HEADS) + 2
+    end = next(at for at in range(begin, len(lines)) if not lines[at].startswith("|"))
+    rows = [ROW.match(line) for line in lines[begin:end]]
+    stands_on = {row[1]: row[3] for row in rows if row}
+    table = []
+    for family, crates in families.items():
+        table.append(f"| **{family}** | | |")
+        for crate in crates:
+            table.append(f"| {crate} | {contracts[crate]} | {stands_on.get(crate, '?')} |")
+    return "\n".join(lines[:begin] + table + lines[end:])
 
 
 def faults_of_list(root):
@@ -86,7 +97,7 @@ def faults_of_list(root):
 def faults_of(root):
     """Each fault as a page, a line and what is wrong."""
     yield from faults_of_list(root)
-    contracts = {crate: contract_of(root, crate) for crate in crates_of(root)}
+    families, contracts = families_of(root), contracts_of(root)
     for crate, contract in contracts.items():
         if contract is None:
             yield f"crates/{crate}/README.md", 1, f"no sentence follows {MARK}"
@@ -94,14 +105,11 @@ def faults_of(root):
         return
     for name, made in ((PROOFS, proofs_with), (ARCHITECTURE, architecture_with)):
         text = (root / name).read_text(encoding="utf-8")
-        wanted = made(text, contracts).split("\n")
+        wanted = made(text, families, contracts).split("\n")
         for number, (line, want) in enumerate(zip(text.split("\n"), wanted), 1):
-            if line != want:
+            if line != want or want.endswith(" | ? |"):
                 yield name, number, "the table of crates is not that of tests/documents/index.py"
                 break
-    named = [row[1] for _, row in rows_of((root / ARCHITECTURE).read_text(encoding="utf-8"))]
-    if sorted(named) != sorted(contracts):
-        yield ARCHITECTURE, 1, "its table of crates has others than crates.txt, or not each once"
 
 
 def main():
@@ -109,10 +117,10 @@ def main():
         for fault in faults_of(ROOT):
             sys.exit("{}:{}: {}".format(*fault))
         return
-    contracts = {crate: contract_of(ROOT, crate) for crate in crates_of(ROOT)}
+    families, contracts = families_of(ROOT), contracts_of(ROOT)
     for name, made in ((PROOFS, proofs_with), (ARCHITECTURE, architecture_with)):
         text = (ROOT / name).read_text(encoding="utf-8")
-        (ROOT / name).write_text(made(text, contracts), encoding="utf-8")
+        (ROOT / name).write_text(made(text, families, contracts), encoding="utf-8")
 
 
 if __name__ == "__main__":

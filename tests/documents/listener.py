@@ -7,9 +7,9 @@ import re
 PAGE = "crates/canary_listen/README.md"
 ENUMS = {
     "Awaited": "crates/canary_listen/src/wait.rt",
-    "Fate": "crates/canary_listen/src/client.rt",
-    "Part": "crates/canary_listen/src/client.rt",
-    "Stage": "crates/canary_wire/src/conversation.rt",
+    "AfterTurn": "crates/canary_listen/src/client.rt",
+    "TurnKind": "crates/canary_listen/src/client.rt",
+    "ConversationState": "crates/canary_wire/src/conversation.rt",
     "Wants": "crates/canary_wire/src/conversation.rt",
 }
 HEAD = "| State | Set by |"

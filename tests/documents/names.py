@@ -45,11 +45,14 @@ def has_name(file, name):
 
 def fault_of_path(root, crate, names):
     """What is wrong with such a path of modules and names."""
-    file = root / "crates" / crate / "src" / f"{names[0]}.rt"
-    if not file.exists():
+    folder, path, names = root / "crates" / crate / "src", crate, list(names)
+    while names and (folder / f"{names[0]}.rt").exists():
+        file, folder, path = folder / f"{names[0]}.rt", folder / names[0], f"{path}::{names[0]}"
+        names.pop(0)
+    if path == crate:
         return f"there is no module {crate}::{names[0]}"
-    lacking = [name for name in names[1:] if not has_name(file, name)]
-    return f"{crate}::{names[0]} has no {lacking[0]}" if lacking else None
+    lacking = [name for name in names if not has_name(file, name)]
+    return f"{path} has no {lacking[0]}" if lacking else None
 
 
 def families(root):

@@ -13,7 +13,7 @@ from pages import Page
 COLUMNS = {1: ("specs", ".antt"), 2: ("src", ".rt"), 3: ("proofs", ".antt")}
 HEADS = ["Rule", "Definition", "Code", "Proof", "Test", "Edit"]
 CRATE = re.compile(r"\bcanary_\w+")
-TESTS = ("canary_tests",)
+TESTS = ("canary_test_once",)
 
 
 def rows_of(page):

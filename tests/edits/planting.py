@@ -6,8 +6,8 @@ import re
 import bodies
 import cutting
 
-# The functions whose clauses are laws, if the crate has any; they call no other.
-LAWS = "src/laws.rt"
+# The files of the functions whose clauses are laws; they call laws alone.
+LAWS = re.compile(r"src/(\w*laws)\.rt")
 # A line beside the functions in whose place another one only adds something: a comment, an import.
 ADDS = re.compile(r"\s*//|use ")
 
@@ -23,6 +23,7 @@ class Source:
         homes = bodies.homes_of(self.texts)
         self.functions = {path: bodies.functions_of(path, text, homes)
                           for path, text in self.texts.items()}
+        self.laws = sorted(it[1] for it in map(LAWS.fullmatch, self.texts) if it)
 
     def planted(self, edits):
         """The texts of the files that the bugs change, with all of them."""
@@ -46,7 +47,7 @@ class Source:
         texts, cut = {**self.texts, **self.planted(edits)}, []
         cycles = cycles_of(kept)
         for path, functions in self.functions.items():
-            gone = [it for it in functions if (path, it) not in kept and path != LAWS
+            gone = [it for it in functions if (path, it) not in kept and not LAWS.fullmatch(path)
                     and not cycles & cycles_of([(path, it)])]
             texts[path] = cutting.cut_off(texts[path], gone)
             cut += [(path, it) for it in gone]
@@ -58,7 +59,7 @@ class Source:
     def beside(self, edit):
         """The functions with a body of each file of code in which the bug changes more than bodies.
         """
-        return {(path, it) for path in edit.beyond if path != LAWS
+        return {(path, it) for path in edit.beyond if not LAWS.fullmatch(path)
                 for it in self.functions.get(path, ()) if it.body < it.last}
 
 

@@ -13,9 +13,10 @@ import verdicts
 LOT = 24
 
 
-def words_only(functions, laws=False):
-    """The words that ask a check for these functions, each with its file, and for the laws."""
-    names = sorted({it.module + it.name for _, it in functions}) + ["laws"] * laws
+def words_only(functions, laws=()):
+    """The words that ask a check for these functions, each with its file, and for these modules of
+    laws."""
+    names = sorted({it.module + it.name for _, it in functions}) + list(laws)
     return [word for name in names for word in ("--only", name)]
 
 
@@ -62,10 +63,10 @@ class Trial:
             kit.link(f"{self.crate.folder}/out/incremental", f"{room}/kept")
             return self.check(edit.name, texts, kept=f"{room}/kept")
 
-    def check_some(self, log, edits, also=(), laws=False):
+    def check_some(self, log, edits, also=(), laws=()):
         """What a check says of the functions that the bugs change and of those of `also`, of which
-        each has its file, and of the laws, if they are asked for. In a lean trial a bug may be
-        planted in a copy."""
+        each has its file, and of these modules of laws. In a lean trial a bug may be planted in a
+        copy."""
         kept = {it for edit in edits for it in edit.changed} | set(also)
         if not self.is_lean:
             with checks.room_for(self.crate) as room:
@@ -171,7 +172,7 @@ class Trial:
         """Tries a bug that changes more than bodies: in a lean trial on the laws and the functions
         that it changes, then on all functions beside it, and on the whole crate if neither tells
         enough."""
-        laws, beside = planting.LAWS in self.source.texts, self.source.beside(edit)
+        laws, beside = self.source.laws, self.source.beside(edit)
         for also, is_told in ((set(), laws or edit.changed), (beside, beside - edit.changed)):
             if self.is_lean and is_told:
                 lines = self.check_some(edit.name, [edit], also, laws)
@@ -200,8 +201,8 @@ class Trial:
 
     def check_laws(self):
         """Settles the laws as they are: a lean trial in which one has no proof says nothing."""
-        if self.is_lean and planting.LAWS in self.source.texts:
-            lines = self.check_some("laws", [], laws=True)
+        if self.is_lean and self.source.laws:
+            lines = self.check_some("laws", [], laws=self.source.laws)
             verdict, said = verdicts.of_all(lines)
             if verdict != verdicts.PROVED:
                 self.settle("the laws as they are", verdicts.UNSOUND, "alone", said)

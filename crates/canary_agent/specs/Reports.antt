@@ -7,17 +7,17 @@ use Rattle.canary_plan.specs.declared.command.Command.TheVariants as command
 use Rattle.canary_plan.specs.declared.report.Entry.{Entry}
 use Rattle.canary_plan.specs.declared.report.Report.{Report}
 use Rattle.canary_canonical.specs.Texts.{command_text}
-use Rattle.canary_journal.specs.declared.entry.Wish.{Wish}
-use Rattle.canary_journal.specs.Journals.{JournalValue, asks}
-use Rattle.canary_sending.specs.declared.network.Heard.{Heard}
-use Rattle.canary_sending.specs.Sending.{IsAskedBy}
+use Rattle.canary_client_journal.specs.declared.entry.Wish.{Wish}
+use Rattle.canary_client_journal.specs.Journals.{JournalValue, asks}
+use Rattle.canary_client_journal.specs.declared.network.Heard.{Heard}
+use Rattle.canary_client_journal.specs.Sending.{IsAskedBy}
 use Rattle.canary_client.specs.Beginning.{IsSettledSo}
 use Rattle.canary_measure.specs.declared.measured.Measured.{Measured}
 use Rattle.canary_measure.specs.Measures.{measured_of}
 use Rattle.canary_measure.specs.Results.{IsOutcomeOf}
-use Rattle.canary_fetch.specs.declared.fault.Fault.{Fault}
-use Rattle.canary_fetch.specs.declared.reply.Reply.{Reply}
-use Rattle.canary_provider.specs.declared.plan.Answer.{Answer}
+use Rattle.canary_fetch.specs.declared.fault.ExchangeFault.{ExchangeFault}
+use Rattle.canary_fetch.specs.declared.reply.HttpReply.{HttpReply}
+use Rattle.canary_provider.specs.declared.plan.ReplyFormat.{ReplyFormat}
 use Rattle.canary_provider.specs.Answers.{IsMeasured}
 use Rattle.canary_agent.specs.declared.plan.Served.{Served}
 use Rattle.canary_agent.specs.declared.taken.Came.{Came}
@@ -28,7 +28,7 @@ use Rattle.canary_agent.specs.Plans.{IsPlanned}
 -- What came of a provider's reply.
 
 -- what its body says was measured; or nothing, if it says nothing
-abbrev pub IsCame : Answer → ℕ → List ℕ → Came → Type 0
+abbrev pub IsCame : ReplyFormat → ℕ → List ℕ → Came → Type 0
 IsCame answer status body (came.Measured m) = IsMeasured answer status body m
 IsCame answer status body (came.Failed text) =
     (m : Measured) → IsMeasured answer status body m → ⊥
@@ -39,7 +39,7 @@ IsFailed (came.Measured m) = ⊥
 IsFailed (came.Failed text) = ⊤
 
 -- what came of a message: that of its reply; without a reply nothing was measured
-abbrev pub IsCameOf : Answer → Result Reply Fault → Came → Type 0
+abbrev pub IsCameOf : ReplyFormat → Result HttpReply ExchangeFault → Came → Type 0
 IsCameOf answer (Ok reply) c = IsCame answer reply.status reply.body.items c
 IsCameOf answer (Err fault) c = IsFailed c
 
@@ -90,7 +90,8 @@ abbrev pub with_command : JournalValue → Command → JournalValue
 with_command j c = asks j (wish_of c)
 
 -- a command was settled by a reply of the desk to it, which the journal has
-abbrev pub IsCommandSettled : (List ℕ → Heard → Type 0) → JournalValue → Command → JournalValue → Type 0
+abbrev pub IsCommandSettled : (List ℕ → Heard → Type 0) → JournalValue → Command → JournalValue
+    → Type 0
 IsCommandSettled was_told old c new = IsSettledSo was_told (with_command old c) new
 
 -- a message of a command
@@ -98,12 +99,14 @@ abbrev pub IsSentFor : (List ℕ → Heard → Type 0) → JournalValue → Comm
 IsSentFor was_told j c m = IsAskedBy was_told (with_command j c) m
 
 -- a message of a report of these
-abbrev pub IsSentForReport : (List ℕ → Heard → Type 0) → JournalValue → Served → ℕ → List Taken → List ℕ → Type 0
+abbrev pub IsSentForReport : (List ℕ → Heard → Type 0) → JournalValue → Served → ℕ → List Taken
+    → List ℕ → Type 0
 IsSentForReport was_told j served run taken m =
     (r : Report) × IsReportOf served run taken r × IsSentFor was_told j (command.Report r) m
 
 -- a report of these was settled
-abbrev pub IsReported : (List ℕ → Heard → Type 0) → JournalValue → Served → ℕ → List Taken → JournalValue → Type 0
+abbrev pub IsReported : (List ℕ → Heard → Type 0) → JournalValue → Served → ℕ → List Taken
+    → JournalValue → Type 0
 IsReported was_told old served run taken new =
     (r : Report) × IsReportOf served run taken r
     × IsCommandSettled was_told old (command.Report r) new

@@ -1,14 +1,14 @@
 //! `agent`: measurements by themselves.
-use crate::ended::Ended;
-use crate::manner::Manner;
-use crate::reader::Reader;
-use crate::rounds::{Named, Rounds};
+use crate::ended::AgentStop;
+use crate::options::AgentOptions;
+use crate::reader::LineReader;
+use crate::rounds::{AgentInputs, Rounds};
 use canary_base::lists::Text;
 use canary_base::names::Name;
-use canary_client::outcome::{Outcome, Stop, say};
-use canary_client::place::{given_or, place_of};
+use canary_cli_words::words::AgentCall;
+use canary_client::endpoint::{endpoint_of, given_or};
+use canary_client::outcome::{ClientExit, Stop, say};
 use canary_client::tcp::Tcp;
-use canary_words::words::AgentCall;
 use std::fs::DirBuilder;
 use std::io::{Read, Write};
 use std::os::unix::fs::DirBuilderExt;
@@ -30,7 +30,7 @@ pub fn agent<R: Read, W: Write, F: Write>(
     output: &mut W,
     errors: &mut F,
     is_terminal: bool,
-) -> Outcome {
+) -> ClientExit {
     match try_agent(rt, &call, input, output, errors, is_terminal) {
         Ok(outcome) => outcome,
         Err(ended) => {
@@ -48,19 +48,19 @@ fn try_agent<R: Read, W: Write, F: Write>(
     output: &mut W,
     errors: &mut F,
     is_terminal: bool,
-) -> Result<Outcome, Ended> {
+) -> Result<ClientExit, AgentStop> {
     if call.files.as_slice().is_empty() {
-        return Err(Ended::NoFiles);
+        return Err(AgentStop::NoFiles);
     }
-    let place = place_of(rt, &call.desk)?;
+    let place = endpoint_of(rt, &call.desk)?;
     let folder = folder_of(rt, call)?;
     let reader = reader_of(rt, &call.values)?;
-    let named = Named {
+    let named = AgentInputs {
         files: &call.files,
         health: &call.health,
         prefix: prefix_of(&call.caller)?,
     };
-    let manner = Manner {
+    let manner = AgentOptions {
         folder: folder.as_str(),
         is_once: call.is_once || call.is_dry_run,
         is_dry_run: call.is_dry_run,
@@ -77,12 +77,12 @@ fn go_on<R: Read, W: Write, F: Write>(
     rt: &HostRuntime,
     rounds: Rounds,
     network: Tcp<'_>,
-    named: &Named<'_>,
-    manner: &Manner<'_>,
+    named: &AgentInputs<'_>,
+    manner: &AgentOptions<'_>,
     input: &mut R,
     output: &mut W,
     errors: &mut F,
-) -> Result<Outcome, Ended> {
+) -> Result<ClientExit, AgentStop> {
     let (mut rounds, mut network) = (rounds, network);
     for _ in 0..u64::MAX {
         let ended = rounds.go(rt, &mut network, named, manner, input, output, errors)?;
@@ -90,18 +90,18 @@ fn go_on<R: Read, W: Write, F: Write>(
             return Ok(outcome);
         }
     }
-    Err(Ended::Stopped(Stop::TimeOut))
+    Err(AgentStop::Stopped(Stop::TimeOut))
 }
 
 // The folder of the journals, which is made if it is not there; none is needed if nothing is
 // reported.
-fn folder_of(rt: &HostRuntime, call: &AgentCall) -> Result<Text, Ended> {
+fn folder_of(rt: &HostRuntime, call: &AgentCall) -> Result<Text, AgentStop> {
     if call.is_dry_run {
         return Ok(Text::of(String::new(rt.alloc())));
     }
     let folder = match given_or(rt, &call.journals, "CANARY_JOURNALS")? {
         Some(folder) if !folder.as_str().is_empty() => folder,
-        _ => return Err(Ended::NoJournals),
+        _ => return Err(AgentStop::NoJournals),
     };
     let made = DirBuilder::new()
         .recursive(true)
@@ -109,28 +109,28 @@ fn folder_of(rt: &HostRuntime, call: &AgentCall) -> Result<Text, Ended> {
         .create(rt, folder.as_str());
     match made {
         Ok(()) => Ok(folder),
-        Err(_) => Err(Ended::Folder),
+        Err(_) => Err(AgentStop::Folder),
     }
 }
 
 // The reader of another program's values, if the call names one; `Values` if it does not open.
-fn reader_of(rt: &HostRuntime, values: &Option<Text>) -> Result<Option<Reader>, Ended> {
+fn reader_of(rt: &HostRuntime, values: &Option<Text>) -> Result<Option<LineReader>, AgentStop> {
     let Some(name) = values else {
         return Ok(None);
     };
-    match Reader::open(rt, name.as_str()) {
+    match LineReader::open(rt, name.as_str()) {
         Ok(reader) => Ok(Some(reader)),
-        Err(_) => Err(Ended::Values),
+        Err(_) => Err(AgentStop::Values),
     }
 }
 
 // What callers' names begin with: a name itself.
-fn prefix_of(caller: &Option<Text>) -> Result<&str, Ended> {
+fn prefix_of(caller: &Option<Text>) -> Result<&str, AgentStop> {
     let Some(caller) = caller else {
         return Ok(PREFIX);
     };
     match Name::read(caller.as_str().as_bytes()) {
         Some(_) => Ok(caller.as_str()),
-        None => Err(Ended::Stopped(Stop::BadCaller)),
+        None => Err(AgentStop::Stopped(Stop::BadCaller)),
     }
 }

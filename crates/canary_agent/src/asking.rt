@@ -5,7 +5,7 @@ use canary_base::error::Memory;
 use canary_client::outcome::Stop;
 use canary_fetch::address::Address;
 use canary_fetch::fetcher::{FetchFault, Fetcher};
-use canary_fetch::query::{Answer, StartFault};
+use canary_fetch::query::{FetchCompletion, StartFault};
 use canary_provider::message::message_of;
 use canary_provider::plan::Provider;
 use std::net::SocketAddr;
@@ -25,7 +25,7 @@ const TAKEN: &str = "no answer: another message to a provider has this token";
 
 // A host that was looked up, with a port.
 #[derive(Drop)]
-struct Place {
+struct ResolvedHost {
     host: String,
     port: u16,
     address: Option<SocketAddr>,
@@ -34,28 +34,28 @@ struct Place {
 
 /// Messages to providers that are under way.
 #[derive(Drop)]
-pub(crate) struct Asking {
+pub(crate) struct ProviderClient {
     fetcher: Fetcher,
-    places: Vec<Place>,
+    places: Vec<ResolvedHost>,
     next: usize,
 }
 
 /// What came of asking a provider, at once.
 #[derive(Drop)]
-pub(crate) enum Asked {
+pub(crate) enum AskResult {
     /// This message is under way.
     Message(Message),
     /// Nothing is asked.
     Failed(Came),
 }
 
-impl Asking {
+impl ProviderClient {
     /// None.
     ///
     /// # Errors
     /// `Poll` if the system tells nothing of connections; `Memory`.
-    pub(crate) fn new(rt: &HostRuntime) -> Result<Asking, FetchFault> {
-        Ok(Asking {
+    pub(crate) fn new(rt: &HostRuntime) -> Result<ProviderClient, FetchFault> {
+        Ok(ProviderClient {
             fetcher: Fetcher::new(rt, MOST)?,
             places: Vec::new(rt.alloc()),
             next: 0,
@@ -72,17 +72,17 @@ impl Asking {
         provider: Provider,
         limit: u64,
         now: u64,
-    ) -> Result<Asked, Stop> {
+    ) -> Result<AskResult, Stop> {
         let Some(address) = self.address_of(rt, provider.address.as_str(), now)? else {
-            return Ok(Asked::Failed(failed(rt.alloc(), NO_ADDRESS)?));
+            return Ok(AskResult::Failed(failed(rt.alloc(), NO_ADDRESS)?));
         };
         let message = message_of(rt.alloc(), &provider)?;
         let (token, limit) = (self.next, Duration::from_millis(limit));
         self.next = token.wrapping_add(1);
         match self.fetcher.start(rt, token, address, message, limit) {
-            Ok(()) => Ok(Asked::Message(Message::new(token, provider))),
+            Ok(()) => Ok(AskResult::Message(Message::new(token, provider))),
             Err(StartFault::Memory) => Err(Stop::Memory),
-            Err(StartFault::Taken) => Ok(Asked::Failed(failed(rt.alloc(), TAKEN)?)),
+            Err(StartFault::Taken) => Ok(AskResult::Failed(failed(rt.alloc(), TAKEN)?)),
         }
     }
 
@@ -95,7 +95,7 @@ impl Asking {
     }
 
     /// An answer that was not given yet.
-    pub(crate) fn answer(&mut self) -> Option<Answer> {
+    pub(crate) fn answer(&mut self) -> Option<FetchCompletion> {
         self.fetcher.answer()
     }
 
@@ -122,7 +122,7 @@ impl Asking {
     }
 }
 
-impl Place {
+impl ResolvedHost {
     // Whether this is the place of the address, by host and port; its path does not count.
     fn is_of(&self, address: &Address<'_>) -> bool {
         self.host.as_str() == address.host && self.port == address.port
@@ -130,10 +130,10 @@ impl Place {
 }
 
 // Looks a host up. That it has no address is remembered, too, but for a shorter time.
-fn looked_up(rt: &HostRuntime, address: &Address<'_>, now: u64) -> Result<Place, Memory> {
+fn looked_up(rt: &HostRuntime, address: &Address<'_>, now: u64) -> Result<ResolvedHost, Memory> {
     let found = address.resolve(rt).ok();
     let time = if found.is_some() { KNOWN } else { UNKNOWN };
-    Ok(Place {
+    Ok(ResolvedHost {
         host: String::from_str(rt.alloc(), address.host)?,
         port: address.port,
         address: found,

@@ -1,28 +1,28 @@
 //! A service that is attended: looked at, measured and reported.
 ghost use Rattle.std.specs.Prelude.{◌≡◌, Contains, IfSome, IsTrue};
-ghost use Rattle.canary_sending.specs.Networks.{GoesOn};
+ghost use Rattle.canary_client_journal.specs.Networks.{GoesOn};
 ghost use Rattle.canary_client.specs.Promises.{IsQuery};
 ghost use Rattle.canary_agent.specs.Lateness.{IsTooLate};
 
-use crate::asking::Asking;
+use crate::asking::ProviderClient;
 use crate::beginning::{Begun, shortest_limit, start, taking_of, with_asked};
 use crate::ended::worse;
 use crate::journal::OpenJournal;
 use crate::late::{Lateness, Sightings, is_late, is_too_late, seconds_late};
 use crate::look::{Due, Looked, look};
-use crate::manner::Manner;
+use crate::options::AgentOptions;
 use crate::pauses::{NEVER, is_away, look_after, look_at, pause_after};
-use crate::plan::{Metric, Served};
+use crate::plan::{PlannedMetric, Served};
 use crate::taken::{Came, failed};
 use crate::taking::Takings;
 use crate::telling::{say_late, show_asked, show_last, show_wish};
-use crate::values::Values;
+use crate::values::UnreportedValues;
 use canary_base::error::Memory;
 use canary_base::names::{Label, Name};
 use canary_base::numbers::Number;
-use canary_client::outcome::{Outcome, Stop, say};
-use canary_fetch::query::Outcome as Fetched;
-use canary_sending::network::Network;
+use canary_client::outcome::{ClientExit, Stop, say};
+use canary_client_journal::network::Network;
+use canary_fetch::query::FetchResult as Fetched;
 use std::alloc::Global;
 use std::io::Write;
 
@@ -51,7 +51,7 @@ pub(crate) struct Attended {
     sightings: Sightings,
     // The run of which a measurement was so late that the service was aborted.
     aborted: Option<Number>,
-    outcome: Outcome,
+    outcome: ClientExit,
 }
 
 impl Attended {
@@ -69,7 +69,7 @@ impl Attended {
             lateness: Lateness::new(alloc),
             sightings: Sightings::new(alloc),
             aborted: None,
-            outcome: Outcome::Done,
+            outcome: ClientExit::Done,
         }
     }
 
@@ -91,7 +91,7 @@ impl Attended {
     }
 
     /// What the call comes to by it.
-    pub(crate) fn outcome(&self) -> Outcome {
+    pub(crate) fn outcome(&self) -> ClientExit {
         self.outcome
     }
 
@@ -113,12 +113,12 @@ impl Attended {
     ///
     /// # Errors
     /// `Output` if the output failed; `Memory`.
-    pub(crate) fn attend<N: Network, W: Write, F: Write>(
+    pub(crate) fn visit<N: Network, W: Write, F: Write>(
         &mut self,
         rt: &HostRuntime,
         network: &mut N,
-        manner: &Manner<'_>,
-        asking: &mut Asking,
+        manner: &AgentOptions<'_>,
+        asking: &mut ProviderClient,
         now: u64,
         output: &mut W,
         errors: &mut F,
@@ -142,13 +142,13 @@ impl Attended {
         }
     }
 
-    // One look, for `attend`: settles what is pending, looks, and aborts or begins to measure.
+    // One look, for `visit`: settles what is pending, looks, and aborts or begins to measure.
     fn try_attend<N: Network, W: Write, F: Write>(
         &mut self,
         rt: &HostRuntime,
         network: &mut N,
-        manner: &Manner<'_>,
-        asking: &mut Asking,
+        manner: &AgentOptions<'_>,
+        asking: &mut ProviderClient,
         now: u64,
         output: &mut W,
         errors: &mut F,
@@ -175,8 +175,8 @@ impl Attended {
         &mut self,
         rt: &HostRuntime,
         network: &mut N,
-        manner: &Manner<'_>,
-        asking: &mut Asking,
+        manner: &AgentOptions<'_>,
+        asking: &mut ProviderClient,
         now: u64,
         output: &mut W,
         errors: &mut F,
@@ -193,8 +193,8 @@ impl Attended {
     fn begin_all<W: Write, F: Write>(
         &mut self,
         rt: &HostRuntime,
-        manner: &Manner<'_>,
-        asking: &mut Asking,
+        manner: &AgentOptions<'_>,
+        asking: &mut ProviderClient,
         looked: &Looked,
         now: u64,
         output: &mut W,
@@ -211,7 +211,7 @@ impl Attended {
         &mut self,
         rt: &HostRuntime,
         network: &mut N,
-        manner: &Manner<'_>,
+        manner: &AgentOptions<'_>,
         output: &mut W,
     ) -> Result<(), Stop> {
         let journal = match self.journal.take() {
@@ -242,7 +242,7 @@ impl Attended {
     }
 
     // The run of a measurement for which the service is to be aborted.
-    fn run_given_up(&self, manner: &Manner<'_>, looked: &Looked, now: u64) -> Option<Number>
+    fn run_given_up(&self, manner: &AgentOptions<'_>, looked: &Looked, now: u64) -> Option<Number>
         ensures { IfSome result (λ run. (due : Due) × Contains looked.now.due.items due
             × (due.run ≡ run) × IsTooLate manner.now.abort_late looked.now.moment due) }
     {
@@ -258,7 +258,7 @@ impl Attended {
     // Whether a measurement that is too late is given up. What can be measured is measured first:
     // so the agent has to have had the time for that, with the desk there. If each service is
     // looked at once, a measurement is given up that nothing measures.
-    fn is_given_up(&self, manner: &Manner<'_>, due: &Due, now: u64) -> bool {
+    fn is_given_up(&self, manner: &AgentOptions<'_>, due: &Due, now: u64) -> bool {
         if self.aborted == Some(due.run) || self.takings.has(due.run, &due.metric) {
             return false;
         }
@@ -273,7 +273,7 @@ impl Attended {
         &mut self,
         alloc: Global,
         network: &mut N,
-        manner: &Manner<'_>,
+        manner: &AgentOptions<'_>,
         run: Number,
         output: &mut W,
     ) -> Result<(), Stop> {
@@ -291,8 +291,8 @@ impl Attended {
     fn begin<W: Write, F: Write>(
         &mut self,
         rt: &HostRuntime,
-        manner: &Manner<'_>,
-        asking: &mut Asking,
+        manner: &AgentOptions<'_>,
+        asking: &mut ProviderClient,
         looked: &Looked,
         due: &Due,
         now: u64,
@@ -309,7 +309,7 @@ impl Attended {
         match start(rt, asking, &self.served, looked, due, now)? {
             Begun::Unknown => self.tell_unknown(rt.alloc(), due, errors),
             Begun::Nowhere => {
-                self.outcome = worse(self.outcome, Outcome::Refused);
+                self.outcome = worse(self.outcome, ClientExit::Refused);
                 Ok(())
             }
             Begun::Awaited(limit) => {
@@ -330,7 +330,7 @@ impl Attended {
         due: &Due,
         errors: &mut F,
     ) -> Result<(), Stop> {
-        self.outcome = worse(self.outcome, Outcome::Refused);
+        self.outcome = worse(self.outcome, ClientExit::Refused);
         if self.unknown.as_slice().contains(&due.metric) {
             return Ok(());
         }
@@ -355,7 +355,7 @@ impl Attended {
     pub(crate) fn take_values(
         &mut self,
         alloc: Global,
-        values: &mut Values,
+        values: &mut UnreportedValues,
         now: u64,
     ) -> Result<(), Memory> {
         let mut place = 0;
@@ -375,7 +375,7 @@ impl Attended {
     fn value_for(
         &self,
         alloc: Global,
-        values: &mut Values,
+        values: &mut UnreportedValues,
         place: usize,
         now: u64,
     ) -> Result<Option<Came>, Memory> {
@@ -405,7 +405,7 @@ impl Attended {
         &mut self,
         rt: &HostRuntime,
         network: &mut N,
-        manner: &Manner<'_>,
+        manner: &AgentOptions<'_>,
         now: u64,
         output: &mut W,
         errors: &mut F,
@@ -430,7 +430,7 @@ impl Attended {
         &mut self,
         alloc: Global,
         network: &mut N,
-        manner: &Manner<'_>,
+        manner: &AgentOptions<'_>,
         run: Number,
         now: u64,
         output: &mut W,
@@ -458,7 +458,7 @@ impl Attended {
     fn trouble<F: Write>(
         &mut self,
         alloc: Global,
-        manner: &Manner<'_>,
+        manner: &AgentOptions<'_>,
         stop: Stop,
         now: u64,
         errors: &mut F,
@@ -484,7 +484,7 @@ impl Attended {
 }
 
 // The seconds from one measurement of a metric to the next, if the files say so.
-fn interval_of(metric: &Metric) -> Option<u32> {
+fn interval_of(metric: &PlannedMetric) -> Option<u32> {
     metric.interval
 }
 
@@ -492,7 +492,7 @@ fn interval_of(metric: &Metric) -> Option<u32> {
 fn settled<N: Network, W: Write>(
     alloc: Global,
     network: &mut N,
-    manner: &Manner<'_>,
+    manner: &AgentOptions<'_>,
     journal: OpenJournal,
     output: &mut W,
 ) -> Result<OpenJournal, Stop> {

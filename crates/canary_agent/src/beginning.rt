@@ -1,8 +1,8 @@
 //! How a measurement begins, and what comes of it.
-use crate::asking::{Asked, Asking};
+use crate::asking::{AskResult, ProviderClient};
 use crate::look::{Due, Looked};
-use crate::plan::{Metric, Served, Source};
-use crate::query::Query;
+use crate::plan::{MetricSource, PlannedMetric, Served};
+use crate::query::ProviderQuery;
 use crate::taken::failed;
 use crate::taking::{Taking, limit_of};
 use canary_base::numbers::Number;
@@ -18,7 +18,7 @@ pub(crate) enum Begun {
     /// Another program gives it, within so many milliseconds.
     Awaited(u64),
     /// A provider is asked, for so many milliseconds at most.
-    Asked(Asked, u64),
+    Asked(AskResult, u64),
 }
 
 /// The time after which the first of a run's measurements that are due ends.
@@ -35,9 +35,9 @@ pub(crate) fn shortest_limit(served: &Served, looked: &Looked, run: Number) -> u
 }
 
 // The milliseconds that a measurement may take, by its metric and what its provider's query says.
-fn limit_for(metric: &Metric) -> u64 {
+fn limit_for(metric: &PlannedMetric) -> u64 {
     match &metric.source {
-        Source::Provider(query) => limit_of(metric, query.seconds),
+        MetricSource::Provider(query) => limit_of(metric, query.seconds),
         _ => limit_of(metric, None),
     }
 }
@@ -45,7 +45,7 @@ fn limit_for(metric: &Metric) -> u64 {
 /// Begins a measurement: asks its provider, if it has one.
 pub(crate) fn start(
     rt: &HostRuntime,
-    asking: &mut Asking,
+    asking: &mut ProviderClient,
     served: &Served,
     looked: &Looked,
     due: &Due,
@@ -56,27 +56,27 @@ pub(crate) fn start(
     };
     let limit = limit_for(metric);
     match &metric.source {
-        Source::Provider(query) => {
+        MetricSource::Provider(query) => {
             let asked = ask(rt, asking, query, looked, limit, now)?;
             Ok(Begun::Asked(asked, limit))
         }
-        Source::Lines => Ok(Begun::Awaited(limit)),
-        Source::Nowhere => Ok(Begun::Nowhere),
+        MetricSource::Lines => Ok(Begun::Awaited(limit)),
+        MetricSource::Nowhere => Ok(Begun::Nowhere),
     }
 }
 
 // Asks a provider, with the versions of the service that were found.
 fn ask(
     rt: &HostRuntime,
-    asking: &mut Asking,
-    query: &Query,
+    asking: &mut ProviderClient,
+    query: &ProviderQuery,
     looked: &Looked,
     limit: u64,
     now: u64,
-) -> Result<Asked, Stop> {
+) -> Result<AskResult, Stop> {
     match query.provider(rt.alloc(), looked.latest.as_str(), looked.stable.as_str())? {
         Ok(provider) => asking.ask(rt, provider, limit, now),
-        Err(refusal) => Ok(Asked::Failed(failed(rt.alloc(), refusal.text())?)),
+        Err(refusal) => Ok(AskResult::Failed(failed(rt.alloc(), refusal.text())?)),
     }
 }
 
@@ -102,11 +102,11 @@ pub(crate) fn taking_of(
 }
 
 /// The same, once its provider was asked.
-pub(crate) fn with_asked(taking: Taking, asked: Asked) -> Taking {
+pub(crate) fn with_asked(taking: Taking, asked: AskResult) -> Taking {
     let mut taking = taking;
     match asked {
-        Asked::Message(message) => taking.message = Some(message),
-        Asked::Failed(came) => taking.came = Some(came),
+        AskResult::Message(message) => taking.message = Some(message),
+        AskResult::Failed(came) => taking.came = Some(came),
     }
     taking
 }

@@ -1,11 +1,11 @@
 //! Why a call of the agent ends.
 use canary_base::error::Memory;
-use canary_client::outcome::{Outcome, Stop};
+use canary_client::outcome::{ClientExit, Stop};
 use std::alloc::{AllocError, AllocFailed};
 
 /// Why a call of the agent ends.
 #[derive(Clone, Copy, Debug, PartialEq, Eq)]
-pub(crate) enum Ended {
+pub(crate) enum AgentStop {
     /// As a call of the client does.
     Stopped(Stop),
     /// No folder of journals is given.
@@ -24,75 +24,76 @@ pub(crate) enum Ended {
     Connections,
 }
 
-impl Ended {
+impl AgentStop {
     /// How the call ends.
-    pub(crate) fn outcome(self) -> Outcome {
+    pub(crate) fn outcome(self) -> ClientExit {
         match self {
-            Ended::Stopped(stop) => stop.outcome(),
-            Ended::NoJournals | Ended::NoFiles => Outcome::Words,
-            Ended::Manifests | Ended::NoService => Outcome::Words,
-            Ended::Folder | Ended::Values | Ended::Connections => Outcome::Local,
+            AgentStop::Stopped(stop) => stop.outcome(),
+            AgentStop::NoJournals | AgentStop::NoFiles => ClientExit::Words,
+            AgentStop::Manifests | AgentStop::NoService => ClientExit::Words,
+            AgentStop::Folder | AgentStop::Values | AgentStop::Connections => ClientExit::Local,
         }
     }
 
     /// The sentence that says so.
     pub(crate) fn sentence(self) -> &'static str {
         match self {
-            Ended::Stopped(stop) => stop.sentence(),
-            Ended::NoJournals => {
+            AgentStop::Stopped(stop) => stop.sentence(),
+            AgentStop::NoJournals => {
                 "a folder of journals has to be given: --journals FOLDER or CANARY_JOURNALS"
             }
-            Ended::Folder => "the folder of the journals cannot be made",
-            Ended::NoFiles => "give files or folders of Argo's manifests",
-            Ended::Manifests => "nothing is measured: these manifests are not translated",
-            Ended::NoService => "nothing is measured: these files have no Rollout to measure for",
-            Ended::Values => "the file with values cannot be read",
-            Ended::Connections => "the system tells nothing of connections",
+            AgentStop::Folder => "the folder of the journals cannot be made",
+            AgentStop::NoFiles => "give files or folders of Argo's manifests",
+            AgentStop::Manifests => "nothing is measured: these manifests are not translated",
+            AgentStop::NoService =>
+                "nothing is measured: these files have no Rollout to measure for",
+            AgentStop::Values => "the file with values cannot be read",
+            AgentStop::Connections => "the system tells nothing of connections",
         }
     }
 }
 
-impl From<Stop> for Ended {
+impl From<Stop> for AgentStop {
     // A stop of the client ends the call as it ends one there.
-    fn from(stop: Stop) -> Ended {
-        Ended::Stopped(stop)
+    fn from(stop: Stop) -> AgentStop {
+        AgentStop::Stopped(stop)
     }
 }
 
-impl From<Memory> for Ended {
+impl From<Memory> for AgentStop {
     // A refused allocation ends the call as `Stop::Memory`.
-    fn from(_: Memory) -> Ended {
-        Ended::Stopped(Stop::Memory)
+    fn from(_: Memory) -> AgentStop {
+        AgentStop::Stopped(Stop::Memory)
     }
 }
 
-impl From<AllocError> for Ended {
+impl From<AllocError> for AgentStop {
     // The same of an allocation of the standard library.
-    fn from(_: AllocError) -> Ended {
-        Ended::Stopped(Stop::Memory)
+    fn from(_: AllocError) -> AgentStop {
+        AgentStop::Stopped(Stop::Memory)
     }
 }
 
-impl<T: Drop> From<AllocFailed<T>> for Ended {
+impl<T: Drop> From<AllocFailed<T>> for AgentStop {
     // The same if a value found no room, which is dropped.
-    fn from(_: AllocFailed<T>) -> Ended {
-        Ended::Stopped(Stop::Memory)
+    fn from(_: AllocFailed<T>) -> AgentStop {
+        AgentStop::Stopped(Stop::Memory)
     }
 }
 
 /// The worse of two outcomes.
-pub(crate) fn worse(one: Outcome, other: Outcome) -> Outcome {
+pub(crate) fn worse(one: ClientExit, other: ClientExit) -> ClientExit {
     if rank(one) < rank(other) { other } else { one }
 }
 
 // How bad an outcome is, from 0 on, for `worse`.
-fn rank(outcome: Outcome) -> u8 {
+fn rank(outcome: ClientExit) -> u8 {
     match outcome {
-        Outcome::Done => 0,
-        Outcome::Refused | Outcome::RowsRefused | Outcome::Held | Outcome::Late => 1,
-        Outcome::Pending => 2,
-        Outcome::Contradiction => 3,
-        Outcome::Words => 4,
-        Outcome::Local => 5,
+        ClientExit::Done => 0,
+        ClientExit::Refused | ClientExit::RowsRefused | ClientExit::Held | ClientExit::Late => 1,
+        ClientExit::Pending => 2,
+        ClientExit::Contradiction => 3,
+        ClientExit::Words => 4,
+        ClientExit::Local => 5,
     }
 }

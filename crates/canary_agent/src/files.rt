@@ -10,7 +10,7 @@ const ENDINGS: [&str; 3] = [".yaml", ".yml", ".json"];
 
 /// A file as it was seen: its name, and what changes if it does.
 #[derive(Drop)]
-struct Seen {
+struct FileStamp {
     name: String,
     device: u64,
     node: u64,
@@ -22,7 +22,7 @@ struct Seen {
 /// Files as they were seen, in the order of their names in each folder.
 #[derive(Drop)]
 pub(crate) struct Files {
-    list: Vec<Seen>,
+    list: Vec<FileStamp>,
 }
 
 impl Files {
@@ -81,7 +81,7 @@ impl Files {
     // Adds a file as it is now, with zeros in the place of what the system does not say of it.
     fn add_file(&mut self, rt: &HostRuntime, name: String) -> Result<(), Memory> {
         let seen = match fs::metadata(rt, name.as_str()) {
-            Ok(found) => Seen {
+            Ok(found) => FileStamp {
                 name,
                 device: found.dev(),
                 node: found.ino(),
@@ -89,7 +89,7 @@ impl Files {
                 seconds: found.mtime(),
                 nanoseconds: found.mtime_nsec(),
             },
-            Err(_) => Seen {
+            Err(_) => FileStamp {
                 name,
                 device: 0,
                 node: 0,
@@ -103,9 +103,9 @@ impl Files {
     }
 }
 
-impl Seen {
+impl FileStamp {
     // Whether the file was the same at the other look: its name, inode, size and time of change.
-    fn is_as(&self, other: &Seen) -> bool {
+    fn is_as(&self, other: &FileStamp) -> bool {
         self.name.as_str() == other.name.as_str()
             && self.device == other.device
             && self.node == other.node

@@ -1,6 +1,6 @@
 //! The journal of a service, in its file.
 ghost use Rattle.std.proofs.Props.{props};
-ghost use Rattle.canary_sending.specs.Keeping.{IsKept};
+ghost use Rattle.canary_client_journal.specs.Keeping.{IsKept};
 
 use crate::plan::Served;
 use crate::reporting;
@@ -9,11 +9,11 @@ use canary_base::names::Name;
 use canary_base::numbers::Number;
 use canary_client::journals::{device_at, journal_on, settled};
 use canary_client::outcome::Stop;
-use canary_journal::entry::Kept;
-use canary_records::device::Device;
-use canary_records::file::FileDevice;
-use canary_sending::kept::KeptJournal;
-use canary_sending::network::Network;
+use canary_client_journal::entry::SettledNumber;
+use canary_client_journal::kept::KeptJournal;
+use canary_client_journal::network::Network;
+use canary_client_records::device::Device;
+use canary_client_records::file::FileDevice;
 use std::alloc::Global;
 use std::fs;
 
@@ -78,7 +78,7 @@ impl OpenJournal {
     }
 
     /// What was settled last.
-    pub(crate) fn last(&self) -> Option<&Kept> {
+    pub(crate) fn last(&self) -> Option<&SettledNumber> {
         self.kept.journal.kept().last()
     }
 

@@ -20,7 +20,7 @@ const GRACE: u64 = 60_000;
 
 // A late measurement that was said.
 #[derive(Clone, Copy, Debug)]
-struct Told {
+struct LateNotice {
     run: Number,
     metric: Label,
     // When it may be said again, in milliseconds of the call.
@@ -30,7 +30,7 @@ struct Told {
 /// What was said of late measurements of a service.
 #[derive(Drop)]
 pub(crate) struct Lateness {
-    told: Vec<Told>,
+    told: Vec<LateNotice>,
 }
 
 impl Lateness {
@@ -52,7 +52,7 @@ impl Lateness {
             }
         }
         if !is_told {
-            self.told.push(Told {
+            self.told.push(LateNotice {
                 run: due.run,
                 metric: due.metric,
                 again_at: now.saturating_add(AGAIN),

@@ -2,12 +2,12 @@
 //!
 //! Callers may rest on this: a report says of each measurement what canary_measure makes of what
 //! was measured, by the label of the desk's run, or a failure; a label that the plan does not have
-//! is in no report; and what is sent stands in the service's journal before, by canary_sending.
-//! What providers, the desk and the network do, no clause says.
+//! is in no report; and what is sent stands in the service's journal before, by
+//! canary_client_journal. What providers, the desk and the network do, no clause says.
 //!
 //! In use (canary_cli, src/perform.rt):
 //!
-//!     Asked::Agent(call) => agent(rt, call, input, output, errors, is_terminal),
+//!     ClientCall::Agent(call) => agent(rt, call, input, output, errors, is_terminal),
 #![tactic(auto)]
 
 pub mod agent;
@@ -21,7 +21,7 @@ mod journal;
 mod late;
 mod lines;
 pub mod look;
-mod manner;
+mod options;
 mod pauses;
 pub mod plan;
 mod planning;

@@ -3,9 +3,9 @@ use crate::look::Due;
 use canary_base::error::Memory;
 use canary_base::names::Name;
 use canary_client::outcome::{Stop, show};
+use canary_client_journal::entry::SettledNumber;
 use canary_decimal::shown::{Shown, Units};
-use canary_journal::entry::Kept;
-use canary_markup::shown::{Form, shown};
+use canary_page_html::shown::{TextKind, shown};
 use canary_provider::plan::Provider;
 use serde_json::Value;
 use std::alloc::Global;
@@ -20,7 +20,7 @@ use std::str;
 /// `Output` if the output failed; `Memory`.
 pub(crate) fn show_settled<W: Write>(
     alloc: Global,
-    kept: &Kept,
+    kept: &SettledNumber,
     output: &mut W,
     is_terminal: bool,
 ) -> Result<(), Stop> {
@@ -122,7 +122,7 @@ fn plain_line(
     let value = value_text(alloc, entry, label.units)?;
     let (service, name, value) = (text_at(report, "service"), label.name, value.as_str());
     let line = format!(in alloc; "{service} {name} {value} {ending}")?;
-    shown(alloc, line.as_str().trim_end(), Form::Line)
+    shown(alloc, line.as_str().trim_end(), TextKind::Line)
 }
 
 // The value of a measurement as people read it, or why there is none.
@@ -187,7 +187,7 @@ fn json_line(
     push_member(alloc, &mut line, "service", report.get("service"))?;
     push_member(alloc, &mut line, "taken", entry.get("taken"))?;
     line.push_str("}")?;
-    shown(alloc, line.as_str(), Form::Json)
+    shown(alloc, line.as_str(), TextKind::Json)
 }
 
 // Appends a member, if it is there.
@@ -240,7 +240,7 @@ fn abort_text(alloc: Global, service: &str, reply: &Value) -> Result<String, Mem
         None => text_at(reply, "code"),
     };
     let line = format!(in alloc; "{service} abort {ending}")?;
-    shown(alloc, line.as_str(), Form::Line)
+    shown(alloc, line.as_str(), TextKind::Line)
 }
 
 // The line of an abort for programs: an object of the service and the reply's code and status.
@@ -250,7 +250,7 @@ fn abort_json(alloc: Global, abort: &Value, reply: &Value) -> Result<String, Mem
     push_member(alloc, &mut line, "code", reply.get("code"))?;
     push_member(alloc, &mut line, "status", reply.get("status"))?;
     line.push_str("}")?;
-    shown(alloc, line.as_str(), Form::Json)
+    shown(alloc, line.as_str(), TextKind::Json)
 }
 
 // ---- of what would be asked
@@ -291,7 +291,7 @@ fn ask_text(
     let name = Shown::or_whole(due.metric.as_str()).name;
     let service = service.as_str();
     let line = format!(in alloc; "{service} {name} asks {place}: {asked}")?;
-    shown(alloc, line.as_str(), Form::Line)
+    shown(alloc, line.as_str(), TextKind::Line)
 }
 
 // The line for programs of what a provider would be asked: an object with the metric's label.
@@ -308,7 +308,7 @@ fn ask_json(
     push_text(alloc, &mut line, "of", place)?;
     push_text(alloc, &mut line, "service", service.as_str())?;
     line.push_str("}")?;
-    shown(alloc, line.as_str(), Form::Json)
+    shown(alloc, line.as_str(), TextKind::Json)
 }
 
 // Appends a member that is a text, as a JSON string.

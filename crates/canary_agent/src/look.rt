@@ -1,5 +1,5 @@
 //! What a desk waits for of a service.
-ghost use Rattle.canary_sending.specs.Networks.{GoesOn};
+ghost use Rattle.canary_client_journal.specs.Networks.{GoesOn};
 ghost use Rattle.canary_client.specs.Promises.{IsQuery};
 
 use canary_base::moments::Moment;
@@ -7,7 +7,7 @@ use canary_base::names::{Label, Name};
 use canary_base::numbers::Number;
 use canary_client::outcome::Stop;
 use canary_client::query::value_at;
-use canary_sending::network::Network;
+use canary_client_journal::network::Network;
 use serde_json::Value;
 use std::alloc::Global;
 

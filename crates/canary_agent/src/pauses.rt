@@ -11,7 +11,7 @@ const ABSENT: u64 = 5_000;
 const MOST: u64 = 5_000;
 
 // The longest pause before one is looked at again that could not be.
-const LONGEST_PAUSE: u64 = 30_000;
+const MAX_PAUSE: u64 = 30_000;
 
 /// When one is looked at that is not looked at any more.
 pub(crate) const NEVER: u64 = u64::MAX;
@@ -29,7 +29,7 @@ pub(crate) fn pause_after(stop: Stop, pause: u64) -> u64 {
     if stop == Stop::NoService {
         return ABSENT;
     }
-    pause.saturating_mul(2).max(IDLE).min(LONGEST_PAUSE)
+    pause.saturating_mul(2).max(IDLE).min(MAX_PAUSE)
 }
 
 /// When a service is looked at again of which a report was settled: at once, or after a second if

@@ -2,15 +2,15 @@
 ghost use Rattle.std.specs.Prelude.{Contains, IfSome, IsTrue};
 ghost use Rattle.canary_agent.specs.Plans.{IsOf, IsNamed, IsPlanned};
 
-use crate::query::Query;
+use crate::query::ProviderQuery;
 use canary_base::names::{Label, Name};
 use canary_measure::label::form_of;
 
 /// Where what is measured of a metric comes from.
 #[derive(Drop)]
-pub enum Source {
+pub enum MetricSource {
     /// A provider, which is asked so.
-    Provider(Query),
+    Provider(ProviderQuery),
     /// The lines of another program.
     Lines,
     /// Nowhere: its provider is not asked, and no other program gives lines.
@@ -19,7 +19,7 @@ pub enum Source {
 
 /// A metric of a service.
 #[derive(Drop)]
-pub struct Metric {
+pub struct PlannedMetric {
     /// Its label at the desk, by the files.
     pub label: Label,
     /// Its name in the manifest.
@@ -27,7 +27,7 @@ pub struct Metric {
     /// How long it is from one measurement to the next, in seconds, if the files say so.
     pub interval: Option<u32>,
     /// Where what is measured comes from.
-    pub source: Source,
+    pub source: MetricSource,
 }
 
 /// A service, and what is measured of it.
@@ -36,7 +36,7 @@ pub struct Served {
     /// Its name.
     pub name: Name,
     /// Its metrics.
-    pub metrics: Vec<Metric>,
+    pub metrics: Vec<PlannedMetric>,
 }
 
 /// What is measured.
@@ -46,12 +46,12 @@ pub struct Plan {
     pub services: Vec<Served>,
 }
 
-impl Metric {
+impl PlannedMetric {
     // Whether a provider or another program measures it.
     fn is_measured(&self) -> bool {
         match &self.source {
-            Source::Provider(_) | Source::Lines => true,
-            Source::Nowhere => false,
+            MetricSource::Provider(_) | MetricSource::Lines => true,
+            MetricSource::Nowhere => false,
         }
     }
 }
@@ -69,7 +69,7 @@ fn is_named(label: &Label, name: &str) -> bool
 impl Served {
     /// The metric that a run of the desk calls by that label: the one that has it, or the only one
     /// of which it is the name with another ending.
-    pub fn metric(&self, label: &Label) -> Option<&Metric>
+    pub fn metric(&self, label: &Label) -> Option<&PlannedMetric>
         ensures { IfSome result (λ metric.
             Contains self.now.metrics.items metric.now × IsOf metric.now label.now) }
     {
@@ -84,7 +84,7 @@ impl Served {
     pub fn awaited(&self, metric: &str) -> Option<Label> {
         for known in &self.metrics {
             let is_named = known.label.as_str() == metric || known.name.as_str() == metric;
-            if is_named && let Source::Lines = known.source {
+            if is_named && let MetricSource::Lines = known.source {
                 return Some(known.label);
             }
         }
@@ -111,7 +111,7 @@ impl Served {
 }
 
 // The metric with that label.
-fn labelled<'a>(metrics: &'a [Metric], label: &Label) -> Option<&'a Metric>
+fn labelled<'a>(metrics: &'a [PlannedMetric], label: &Label) -> Option<&'a PlannedMetric>
     ensures { IfSome result (λ metric. Contains metrics.now metric.now
         × IsOf metric.now label.now) }
 {
@@ -124,7 +124,7 @@ fn labelled<'a>(metrics: &'a [Metric], label: &Label) -> Option<&'a Metric>
 }
 
 // The metric of which that label is the name with an ending, if it is of no other one.
-fn only_named<'a>(metrics: &'a [Metric], label: &Label) -> Option<&'a Metric>
+fn only_named<'a>(metrics: &'a [PlannedMetric], label: &Label) -> Option<&'a PlannedMetric>
     ensures { IfSome result (λ metric. Contains metrics.now metric.now
         × IsOf metric.now label.now) }
 {

@@ -1,8 +1,8 @@
 //! What is measured, read from files of manifests.
 use crate::files::Files;
-use crate::plan::{Metric, Plan, Served, Source};
-use crate::query::Query;
-use canary_argo_files::reading::{Manifests, ReadFault, read_files};
+use crate::plan::{MetricSource, Plan, PlannedMetric, Served};
+use crate::query::ProviderQuery;
+use canary_argo_files::reading::{FileReadFault, Manifests, read_files};
 use canary_argo_files::translated::{Translated, translate};
 use canary_base::durations::Seconds;
 use canary_base::error::Memory;
@@ -11,7 +11,7 @@ use canary_base::names::{Label, Name};
 use canary_client::outcome::{say, say_lines, say_of};
 use canary_convert::conversion::Converted;
 use canary_convert::work::{Made, Planned};
-use canary_markup::shown::{Form, shown};
+use canary_page_html::shown::{TextKind, shown};
 use serde_json::Value;
 use std::alloc::Global;
 use std::io::Write;
@@ -35,8 +35,8 @@ pub(crate) fn plan_in<F: Write>(
     let mut nothing: &[u8] = &[];
     match read_files(rt, names.as_slice(), &mut nothing) {
         Ok(manifests) => plan_of(alloc, &manifests, has_lines, errors),
-        Err(ReadFault::Memory) => Err(Memory),
-        Err(ReadFault::File(index)) => {
+        Err(FileReadFault::Memory) => Err(Memory),
+        Err(FileReadFault::File(index)) => {
             say_unread(alloc, names.as_slice(), index, errors);
             Ok(None)
         }
@@ -91,7 +91,7 @@ fn metrics_of<F: Write>(
     service: Name,
     has_lines: bool,
     errors: &mut F,
-) -> Result<Vec<Metric>, Memory> {
+) -> Result<Vec<PlannedMetric>, Memory> {
     let mut metrics = Vec::new(alloc);
     for planned in &made.plan {
         if planned.service.as_str() == service.as_str()
@@ -100,7 +100,7 @@ fn metrics_of<F: Write>(
             let interval = interval_of(alloc, made.templates.as_slice(), planned)?;
             let source = source_of(alloc, planned, has_lines, errors)?;
             let name = String::from_str(alloc, planned.metric.as_str())?;
-            metrics.push(Metric {
+            metrics.push(PlannedMetric {
                 label,
                 name,
                 interval,
@@ -118,16 +118,16 @@ fn source_of<F: Write>(
     planned: &Planned,
     has_lines: bool,
     errors: &mut F,
-) -> Result<Source, Memory> {
-    let why = match Query::read(alloc, planned)? {
-        Ok(query) => return Ok(Source::Provider(query)),
+) -> Result<MetricSource, Memory> {
+    let why = match ProviderQuery::read(alloc, planned)? {
+        Ok(query) => return Ok(MetricSource::Provider(query)),
         Err(why) => why,
     };
     if has_lines {
-        return Ok(Source::Lines);
+        return Ok(MetricSource::Lines);
     }
     say(errors, refusal_line(alloc, planned, why)?.as_str());
-    Ok(Source::Nowhere)
+    Ok(MetricSource::Nowhere)
 }
 
 // The line that says why a provider is not asked: SERVICE METRIC, its kind, and why.
@@ -135,7 +135,7 @@ fn refusal_line(alloc: Global, planned: &Planned, why: &str) -> Result<String, M
     let (service, metric) = (planned.service.as_str(), planned.metric.as_str());
     let kind = planned.kind.as_str();
     let line = format!(in alloc; "{service} {metric}: {kind}: {why}")?;
-    shown(alloc, line.as_str(), Form::Line)
+    shown(alloc, line.as_str(), TextKind::Line)
 }
 
 // The interval of a metric of the desk's templates.

@@ -2,7 +2,7 @@
 use canary_base::error::Memory;
 use canary_convert::work::Planned;
 use canary_provider::plan::Provider;
-use canary_provider::refusal::Refusal;
+use canary_provider::refusal::ProviderRefusal;
 use serde_json::Value;
 use std::alloc::Global;
 
@@ -22,7 +22,7 @@ struct Argument {
 
 /// What a provider is asked. It may have a secret: print nothing of it.
 #[derive(Drop)]
-pub struct Query {
+pub struct ProviderQuery {
     kind: String,
     json: String,
     arguments: Vec<Argument>,
@@ -30,7 +30,7 @@ pub struct Query {
     pub seconds: Option<u64>,
 }
 
-impl Query {
+impl ProviderQuery {
     /// What is asked by a plan; or why nothing is.
     ///
     /// # Errors
@@ -38,11 +38,11 @@ impl Query {
     pub(crate) fn read(
         alloc: Global,
         planned: &Planned,
-    ) -> Result<Result<Query, &'static str>, Memory> {
+    ) -> Result<Result<ProviderQuery, &'static str>, Memory> {
         let Some(arguments) = arguments_in(alloc, planned.late.as_str())? else {
             return Ok(Err(SECRET));
         };
-        let mut query = Query {
+        let mut query = ProviderQuery {
             kind: String::from_str(alloc, planned.kind.as_str())?,
             json: String::from_str(alloc, planned.provider.as_str())?,
             arguments,
@@ -65,7 +65,7 @@ impl Query {
         alloc: Global,
         latest: &str,
         stable: &str,
-    ) -> Result<Result<Provider, Refusal>, Memory> {
+    ) -> Result<Result<Provider, ProviderRefusal>, Memory> {
         let json = self.filled(alloc, latest, stable)?;
         Provider::read(alloc, self.kind.as_str(), json.as_str())
     }

@@ -18,26 +18,26 @@ const STANDARD_INPUT: RawFd = 0;
 const INPUT_PIECE: usize = 16_384;
 
 /// The most bytes of a line.
-pub(crate) const MOST_LINE: usize = 4_096;
+pub(crate) const MAX_LINE: usize = 4_096;
 
 // What says whether a descriptor has bytes to read.
 #[derive(Drop)]
-struct Gate {
+struct ReadPoll {
     poll: Poll,
     events: Events<Global>,
     descriptor: RawFd,
 }
 
-impl Gate {
+impl ReadPoll {
     // The gate of a descriptor; none if the system has none for it, as for a file, of which a read
     // never waits.
-    fn new<R: Net + AllocGlobal>(rt: &R, descriptor: RawFd) -> Option<Gate> {
+    fn new<R: Net + AllocGlobal>(rt: &R, descriptor: RawFd) -> Option<ReadPoll> {
         let poll = Poll::new(rt).ok()?;
         let events = Events::with_capacity(rt.alloc(), 1).ok()?;
         poll.registry()
             .register(&mut SourceFd(&descriptor), Token(0), Interest::READABLE)
             .ok()?;
-        Some(Gate {
+        Some(ReadPoll {
             poll,
             events,
             descriptor,
@@ -66,9 +66,9 @@ enum Origin {
 
 /// The lines of another program.
 #[derive(Drop)]
-pub(crate) struct Reader {
+pub(crate) struct LineReader {
     origin: Origin,
-    gate: Option<Gate>,
+    gate: Option<ReadPoll>,
     held: Vec<u8>,
     // Whether the line that is held is too long, so that the rest of it is left out.
     is_too_long: bool,
@@ -77,7 +77,7 @@ pub(crate) struct Reader {
 
 /// What a reader has.
 #[derive(Drop)]
-pub(crate) enum Told {
+pub(crate) enum ReadLine {
     /// A line, without its end.
     Line(Vec<u8>),
     /// That a line was too long.
@@ -88,20 +88,20 @@ pub(crate) enum Told {
     Nothing,
 }
 
-impl Reader {
+impl LineReader {
     /// The lines of the file of this name, a regular file or a FIFO; `-` is standard input, which
     /// `input` then has to be.
     ///
     /// # Errors
     /// What the system answers.
-    pub(crate) fn open(rt: &HostRuntime, name: &str) -> io::Result<Reader> {
+    pub(crate) fn open(rt: &HostRuntime, name: &str) -> io::Result<LineReader> {
         let origin = origin_of(rt, name)?;
         let descriptor = match &origin {
             Origin::Input => STANDARD_INPUT,
             Origin::File(file) => file.as_raw_fd(),
         };
-        Ok(Reader {
-            gate: Gate::new(rt, descriptor),
+        Ok(LineReader {
+            gate: ReadPoll::new(rt, descriptor),
             origin,
             held: Vec::new(rt.alloc()),
             is_too_long: false,
@@ -117,50 +117,50 @@ impl Reader {
         &mut self,
         alloc: Global,
         input: &mut R,
-    ) -> Result<Told, AllocError> {
+    ) -> Result<ReadLine, AllocError> {
         for _ in 0..u64::MAX {
             if let Some(end) = self.held.as_slice().iter().position(|byte| *byte == b'\n') {
                 return self.line_to(alloc, end);
             }
             self.shorten();
             if self.is_ended || !self.is_open() {
-                return Ok(Told::Nothing);
+                return Ok(ReadLine::Nothing);
             }
             match self.read(input)? {
                 Some(0) if self.gate.is_some() => return self.rest(alloc),
-                Some(0) | None => return Ok(Told::Nothing),
+                Some(0) | None => return Ok(ReadLine::Nothing),
                 Some(_) => {}
             }
         }
-        Ok(Told::Nothing)
+        Ok(ReadLine::Nothing)
     }
 
     // The last line, if it has no end; else that no more comes.
-    fn rest(&mut self, alloc: Global) -> Result<Told, AllocError> {
+    fn rest(&mut self, alloc: Global) -> Result<ReadLine, AllocError> {
         if self.held.is_empty() && !self.is_too_long {
             self.is_ended = true;
-            return Ok(Told::End);
+            return Ok(ReadLine::End);
         }
         let end = self.held.len();
         self.line_to(alloc, end)
     }
 
     // The line up to this place, which is held no more.
-    fn line_to(&mut self, alloc: Global, end: usize) -> Result<Told, AllocError> {
+    fn line_to(&mut self, alloc: Global, end: usize) -> Result<ReadLine, AllocError> {
         let held = self.held.as_slice();
         let line = Vec::from_slice(alloc, held.get(..end).unwrap_or(&[]))?;
         let rest = Vec::from_slice(alloc, held.get(end.saturating_add(1)..).unwrap_or(&[]))?;
         self.held = rest;
-        if self.is_too_long || line.len() > MOST_LINE {
+        if self.is_too_long || line.len() > MAX_LINE {
             self.is_too_long = false;
-            return Ok(Told::TooLong);
+            return Ok(ReadLine::TooLong);
         }
-        Ok(Told::Line(line))
+        Ok(ReadLine::Line(line))
     }
 
     // Forgets a line that is too long already.
     fn shorten(&mut self) {
-        if self.held.len() > MOST_LINE {
+        if self.held.len() > MAX_LINE {
             self.held.clear();
             self.is_too_long = true;
         }

@@ -1,8 +1,8 @@
 //! Reports of what was taken, over any network and any device.
 ghost use Rattle.std.specs.Prelude.{◌≡◌, ◌<◌, ◌≤◌, length, IfOk, IfSome, OnOk};
 ghost use Rattle.canary_plan.specs.declared.command.Command.TheVariants.{Abort};
-ghost use Rattle.canary_sending.specs.Keeping.{IsKept};
-ghost use Rattle.canary_sending.specs.Networks.{GoesOn};
+ghost use Rattle.canary_client_journal.specs.Keeping.{IsKept};
+ghost use Rattle.canary_client_journal.specs.Networks.{GoesOn};
 ghost use Rattle.canary_agent.specs.Reports.{wish_of, IsOutcomeFor, IsEntryOf};
 ghost use Rattle.canary_agent.specs.Reports.{IsWithEntry, AreEntriesOf};
 ghost use Rattle.canary_agent.specs.Reports.{IsReportOf, IsCommandSettled, IsSentFor};
@@ -14,18 +14,18 @@ use canary_base::error::Memory;
 use canary_base::lists::Listed;
 use canary_base::names::{Label, Name};
 use canary_base::numbers::Number;
-use canary_canonical::plain::MOST_ENTRIES;
+use canary_canonical::plain::MAX_ENTRIES;
 use canary_canonical::writing;
 use canary_client::journals::asked;
 use canary_client::outcome::Stop;
+use canary_client_journal::entry::Wish;
+use canary_client_journal::kept::KeptJournal;
+use canary_client_journal::network::Network;
+use canary_client_records::device::Device;
 use canary_condition::outcome::Outcome;
-use canary_journal::entry::Wish;
 use canary_measure::reported;
 use canary_plan::command::Command;
 use canary_plan::report::{Entry, Report};
-use canary_records::device::Device;
-use canary_sending::kept::KeptJournal;
-use canary_sending::network::Network;
 use std::alloc::Global;
 
 /// Reports what was taken of a run of a service, while nothing is pending: the report stands on the
@@ -141,7 +141,7 @@ fn entries_of(alloc: Global, served: &Served, taken: &[Taken]) -> Result<Listed<
 {
     let mut entries = Listed::of(Vec::new(alloc));
     for place in 0..taken.len() {
-        if entries.as_slice().len() == MOST_ENTRIES {
+        if entries.as_slice().len() == MAX_ENTRIES {
             return Ok(entries);
         }
         entries = with_entry(alloc, served, &taken[place], entries)?;

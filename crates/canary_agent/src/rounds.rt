@@ -1,26 +1,26 @@
 //! Rounds over services: each has its turn when its time has come.
 ghost use Rattle.std.specs.Prelude.{IsTrue};
-ghost use Rattle.canary_sending.specs.Networks.{GoesOn};
+ghost use Rattle.canary_client_journal.specs.Networks.{GoesOn};
 ghost use Rattle.canary_client.specs.Promises.{IsQuery};
 
-use crate::asking::Asking;
+use crate::asking::ProviderClient;
 use crate::attended::Attended;
-use crate::ended::{Ended, worse};
+use crate::ended::{AgentStop, worse};
 use crate::files::Files;
 use crate::health::touch;
-use crate::manner::Manner;
+use crate::options::AgentOptions;
 use crate::plan::{Plan, Served};
 use crate::planning::plan_in;
-use crate::reader::{Reader, Told};
-use crate::values::{Said, Values, measured_in};
+use crate::reader::{LineReader, ReadLine};
+use crate::values::{Said, UnreportedValues, measured_in};
 use crate::watch::Watch;
 use canary_base::error::Memory;
 use canary_base::lists::{Listed, Text};
 use canary_base::names::{Label, Name};
-use canary_client::outcome::{Outcome, Stop, say, say_of};
+use canary_client::outcome::{ClientExit, Stop, say, say_of};
+use canary_client_journal::network::Network;
 use canary_fetch::fetcher::FetchFault;
-use canary_markup::shown::{Form, shown};
-use canary_sending::network::Network;
+use canary_page_html::shown::{TextKind, shown};
 use std::alloc::Global;
 use std::io::{Read, Write};
 use std::{mem, str};
@@ -29,10 +29,10 @@ use std::{mem, str};
 const LONGEST: u64 = 1_000;
 
 // The most lines of another program that are read in a round.
-const MOST_LINES: u32 = 1_000;
+const MAX_LINES: u32 = 1_000;
 
 // The most bytes that are shown of a line that is none.
-const MOST_SHOWN: usize = 200;
+const MAX_SHOWN: usize = 200;
 
 const UNTOUCHED: &str = "the file of --health cannot be touched";
 
@@ -46,22 +46,22 @@ const NO_LINE: &str = "a line of --values is no SERVICE METRIC VALUE of these fi
 #[derive(Drop)]
 pub(crate) struct Rounds {
     list: Vec<Attended>,
-    asking: Asking,
+    asking: ProviderClient,
     files: Files,
     // When the files are looked at next, in milliseconds of the call.
     files_at: u64,
-    reader: Option<Reader>,
-    values: Values,
+    reader: Option<LineReader>,
+    values: UnreportedValues,
     // When the watchdog's file is touched next, and whether it could not be.
     touch_at: u64,
     is_untouched: bool,
     watch: Watch,
-    outcome: Outcome,
+    outcome: ClientExit,
 }
 
 /// What the words of a call name, with what its callers' names begin with.
 #[derive(Clone, Copy)]
-pub(crate) struct Named<'a> {
+pub(crate) struct AgentInputs<'a> {
     pub(crate) files: &'a Listed<Text>,
     pub(crate) health: &'a Option<Text>,
     pub(crate) prefix: &'a str,
@@ -75,14 +75,14 @@ impl Rounds {
     /// none; `Connections`, `Clock`; `Memory`.
     pub(crate) fn new<F: Write>(
         rt: &HostRuntime,
-        named: &Named<'_>,
-        reader: Option<Reader>,
+        named: &AgentInputs<'_>,
+        reader: Option<LineReader>,
         errors: &mut F,
-    ) -> Result<Rounds, Ended> {
+    ) -> Result<Rounds, AgentStop> {
         let alloc = rt.alloc();
         let files = Files::look(rt, named.files.as_slice())?;
         let Some(plan) = plan_in(rt, &files, reader.is_some(), errors)? else {
-            return Err(Ended::Manifests);
+            return Err(AgentStop::Manifests);
         };
         let mut rounds = Rounds {
             list: Vec::new(alloc),
@@ -90,15 +90,15 @@ impl Rounds {
             files,
             files_at: LONGEST,
             reader,
-            values: Values::new(alloc),
+            values: UnreportedValues::new(alloc),
             touch_at: 0,
             is_untouched: false,
             watch: Watch::new(rt)?,
-            outcome: Outcome::Done,
+            outcome: ClientExit::Done,
         };
         rounds.serve(alloc, named.prefix, plan, errors)?;
         if rounds.list.is_empty() {
-            return Err(Ended::NoService);
+            return Err(AgentStop::NoService);
         }
         Ok(rounds)
     }
@@ -135,7 +135,7 @@ impl Rounds {
             Some(caller) => self.list.push(Attended::new(alloc, served, caller))?,
             None => {
                 let service = served.name;
-                self.outcome = Outcome::Words;
+                self.outcome = ClientExit::Words;
                 say(
                     errors,
                     format!(in alloc; "{service}: {NO_CALLER}")?.as_str(),
@@ -155,12 +155,12 @@ impl Rounds {
         &mut self,
         rt: &HostRuntime,
         network: &mut N,
-        named: &Named<'_>,
-        manner: &Manner<'_>,
+        named: &AgentInputs<'_>,
+        manner: &AgentOptions<'_>,
         input: &mut R,
         output: &mut W,
         errors: &mut F,
-    ) -> Result<Option<Outcome>, Ended>
+    ) -> Result<Option<ClientExit>, AgentStop>
         ensures dry { IsTrue manner.now.is_dry_run → GoesOn N.was_sent N.was_told N.was_unanswered
             network.old network.new IsQuery }
     {
@@ -169,7 +169,7 @@ impl Rounds {
             self.look_at_files(rt, named, now, errors)?;
         }
         self.read_lines(rt.alloc(), now, input, errors)?;
-        self.attend(rt, network, manner, now, output, errors)?;
+        self.visit(rt, network, manner, now, output, errors)?;
         self.touch(rt, named.health, now, errors);
         if manner.is_once && self.list.iter().all(Attended::is_done) {
             return Ok(Some(self.ended()));
@@ -183,7 +183,7 @@ impl Rounds {
     fn look_at_files<F: Write>(
         &mut self,
         rt: &HostRuntime,
-        named: &Named<'_>,
+        named: &AgentInputs<'_>,
         now: u64,
         errors: &mut F,
     ) -> Result<(), Memory> {
@@ -210,15 +210,15 @@ impl Rounds {
         input: &mut R,
         errors: &mut F,
     ) -> Result<(), Memory> {
-        for _ in 0..MOST_LINES {
+        for _ in 0..MAX_LINES {
             let Some(reader) = &mut self.reader else {
                 return Ok(());
             };
             match reader.next(alloc, input)? {
-                Told::Line(line) => self.read_line(alloc, line.as_slice(), now, errors)?,
-                Told::TooLong => say_no_line(alloc, b"", errors)?,
-                Told::End => say(errors, ENDED),
-                Told::Nothing => return Ok(()),
+                ReadLine::Line(line) => self.read_line(alloc, line.as_slice(), now, errors)?,
+                ReadLine::TooLong => say_no_line(alloc, b"", errors)?,
+                ReadLine::End => say(errors, ENDED),
+                ReadLine::Nothing => return Ok(()),
             }
         }
         Ok(())
@@ -259,11 +259,11 @@ impl Rounds {
 
     // Has each service its turn. If the desk is away, that takes time: the others have theirs in
     // the next rounds.
-    fn attend<N: Network, W: Write, F: Write>(
+    fn visit<N: Network, W: Write, F: Write>(
         &mut self,
         rt: &HostRuntime,
         network: &mut N,
-        manner: &Manner<'_>,
+        manner: &AgentOptions<'_>,
         now: u64,
         output: &mut W,
         errors: &mut F,
@@ -274,7 +274,7 @@ impl Rounds {
         for attended in self.list.iter_mut() {
             attended.take_values(rt.alloc(), &mut self.values, now)?;
             let is_there = attended.report(rt, network, manner, now, output, errors)?
-                && attended.attend(rt, network, manner, &mut self.asking, now, output, errors)?;
+                && attended.visit(rt, network, manner, &mut self.asking, now, output, errors)?;
             if !is_there {
                 return Ok(());
             }
@@ -305,7 +305,7 @@ impl Rounds {
     }
 
     // Waits until a provider answers, or the time of a service has come.
-    fn wait(&mut self, rt: &HostRuntime) -> Result<(), Ended> {
+    fn wait(&mut self, rt: &HostRuntime) -> Result<(), AgentStop> {
         let now = self.watch.now(rt)?;
         let mut left = LONGEST;
         for attended in &self.list {
@@ -333,7 +333,7 @@ impl Rounds {
     }
 
     // How a call ends that looked at each service once.
-    fn ended(&self) -> Outcome {
+    fn ended(&self) -> ClientExit {
         let mut outcome = self.outcome;
         for attended in &self.list {
             outcome = worse(outcome, attended.outcome());
@@ -372,18 +372,18 @@ fn serving(attended: Attended, served: Served) -> Attended {
 }
 
 // What providers are asked with, while nothing is under way; or how the call ends without it.
-fn asking(rt: &HostRuntime) -> Result<Asking, Ended> {
-    match Asking::new(rt) {
+fn asking(rt: &HostRuntime) -> Result<ProviderClient, AgentStop> {
+    match ProviderClient::new(rt) {
         Ok(asking) => Ok(asking),
         Err(fault) => Err(ended_by(fault)),
     }
 }
 
 // How the call ends by a fault of what providers are asked with.
-fn ended_by(fault: FetchFault) -> Ended {
+fn ended_by(fault: FetchFault) -> AgentStop {
     match fault {
-        FetchFault::Poll => Ended::Connections,
-        FetchFault::Memory => Ended::Stopped(Stop::Memory),
+        FetchFault::Poll => AgentStop::Connections,
+        FetchFault::Memory => AgentStop::Stopped(Stop::Memory),
     }
 }
 
@@ -396,9 +396,9 @@ fn caller_of(alloc: Global, prefix: &str, service: Name) -> Result<Option<Name>,
 
 // Says that a line is none, and how it begins.
 fn say_no_line<F: Write>(alloc: Global, line: &[u8], errors: &mut F) -> Result<(), Memory> {
-    let front = line.get(..line.len().min(MOST_SHOWN)).unwrap_or(&[]);
+    let front = line.get(..line.len().min(MAX_SHOWN)).unwrap_or(&[]);
     let front = String::from_utf8_lossy(alloc, front)?;
-    let front = shown(alloc, front.as_str(), Form::Line)?;
+    let front = shown(alloc, front.as_str(), TextKind::Line)?;
     let front = front.as_str();
     say(errors, format!(in alloc; "{NO_LINE}: {front}")?.as_str());
     Ok(())

@@ -8,10 +8,10 @@ use canary_base::moments::Moment;
 use canary_base::names::Label;
 use canary_base::numbers::Number;
 use canary_condition::outcome::FailureText;
-use canary_fetch::fault::Fault;
-use canary_fetch::query::Outcome;
+use canary_fetch::fault::ExchangeFault;
+use canary_fetch::query::FetchResult;
 use canary_measure::measured::Measured;
-use canary_provider::plan::Answer;
+use canary_provider::plan::ReplyFormat;
 use canary_provider::reply::measured_of;
 use std::alloc::Global;
 
@@ -41,7 +41,7 @@ pub struct Taken {
 ///
 /// # Errors
 /// `Memory` if an allocation was refused.
-pub fn came_of(alloc: Global, answer: &Answer, outcome: &Outcome) -> Result<Came, Memory>
+pub fn came_of(alloc: Global, answer: &ReplyFormat, outcome: &FetchResult) -> Result<Came, Memory>
     ensures { IfOk result (IsCameOf answer.now outcome.now) }
 {
     match outcome {
@@ -56,7 +56,7 @@ pub fn came_of(alloc: Global, answer: &Answer, outcome: &Outcome) -> Result<Came
 /// `Memory` if an allocation was refused.
 pub fn came_of_reply(
     alloc: Global,
-    answer: &Answer,
+    answer: &ReplyFormat,
     status: u16,
     body: &[u8],
 ) -> Result<Came, Memory>
@@ -82,14 +82,14 @@ pub fn failed(alloc: Global, text: &str) -> Result<Came, Memory>
 }
 
 // What is reported of a message that has no reply.
-fn text_of(fault: Fault) -> &'static str {
+fn text_of(fault: ExchangeFault) -> &'static str {
     match fault {
-        Fault::Refused => "no answer: no connection to the provider could be made",
-        Fault::Timeout => "timeout: the provider gave no whole reply in time",
-        Fault::Cut => "the connection to the provider ended before its reply was whole",
-        Fault::TooLong => "the reply of the provider is too long",
-        Fault::NotHttp => "the reply of the provider is not HTTP/1.1",
-        Fault::Coded => "the reply of the provider is compressed",
-        Fault::Memory => "the agent had no memory for the reply of the provider",
+        ExchangeFault::Refused => "no answer: no connection to the provider could be made",
+        ExchangeFault::Timeout => "timeout: the provider gave no whole reply in time",
+        ExchangeFault::Cut => "the connection to the provider ended before its reply was whole",
+        ExchangeFault::TooLong => "the reply of the provider is too long",
+        ExchangeFault::NotHttp => "the reply of the provider is not HTTP/1.1",
+        ExchangeFault::Coded => "the reply of the provider is compressed",
+        ExchangeFault::Memory => "the agent had no memory for the reply of the provider",
     }
 }

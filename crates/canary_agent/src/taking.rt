@@ -2,14 +2,14 @@
 ghost use Rattle.std.specs.Prelude.{◌≡◌, ◌≤◌, IfOk, filter, filter_map};
 ghost use Rattle.canary_agent.specs.Takings.{IsPart, is_left, taken_of};
 
-use crate::plan::Metric;
+use crate::plan::PlannedMetric;
 use crate::taken::{Came, Taken, came_of};
 use canary_base::error::Memory;
 use canary_base::moments::Moment;
 use canary_base::names::Label;
 use canary_base::numbers::Number;
-use canary_fetch::query::Outcome as Fetched;
-use canary_provider::plan::{Answer, Provider};
+use canary_fetch::query::FetchResult as Fetched;
+use canary_provider::plan::{Provider, ReplyFormat};
 use std::alloc::Global;
 use std::mem;
 
@@ -22,7 +22,7 @@ pub(crate) struct Message {
     // What it is known by.
     token: usize,
     // How its reply is read.
-    answer: Answer,
+    answer: ReplyFormat,
 }
 
 impl Message {
@@ -63,7 +63,7 @@ impl Taking {
     }
 
     // How the reply to the message of this token is read, if it is asked for by it.
-    fn answer_to(&self, token: usize) -> Option<&Answer> {
+    fn answer_to(&self, token: usize) -> Option<&ReplyFormat> {
         match &self.message {
             Some(message) if message.token == token => Some(&message.answer),
             _ => None,
@@ -178,8 +178,8 @@ impl Takings {
         let mut found = Vec::new(alloc);
         for taking in list {
             match part_of(taking, run) {
-                Part::There(taken) => found.push(taken)?,
-                Part::Left(taking) => self.list.push(taking)?,
+                TakeResult::There(taken) => found.push(taken)?,
+                TakeResult::Left(taking) => self.list.push(taking)?,
             }
         }
         Ok(found)
@@ -203,17 +203,17 @@ impl Takings {
 
 // A measurement, by whether it is taken out.
 #[derive(Drop)]
-enum Part {
+enum TakeResult {
     There(Taken),
     Left(Taking),
 }
 
 // What came of a measurement, if it is of this run and something came; else the measurement.
-fn part_of(taking: Taking, run: Number) -> Part
+fn part_of(taking: Taking, run: Number) -> TakeResult
     ensures { IsPart run taking result }
 {
     if taking.run != run {
-        return Part::Left(taking);
+        return TakeResult::Left(taking);
     }
     let Taking {
         metric,
@@ -227,13 +227,13 @@ fn part_of(taking: Taking, run: Number) -> Part
         ..
     } = taking;
     match came {
-        Some(came) => Part::There(Taken {
+        Some(came) => TakeResult::There(Taken {
             metric,
             ordinal,
             moment,
             came,
         }),
-        None => Part::Left(Taking {
+        None => TakeResult::Left(Taking {
             run,
             metric,
             ordinal,
@@ -249,7 +249,7 @@ fn part_of(taking: Taking, run: Number) -> Part
 
 /// How long a measurement of a metric may take, in milliseconds: its interval at most, 30 seconds,
 /// and what its provider's plan says; a second at least.
-pub(crate) fn limit_of(metric: &Metric, seconds: Option<u64>) -> u64 {
+pub(crate) fn limit_of(metric: &PlannedMetric, seconds: Option<u64>) -> u64 {
     let interval = match metric.interval {
         Some(interval) => in_milliseconds(u64::from(interval)),
         None => LONGEST,

@@ -2,8 +2,8 @@
 use crate::journal::OpenJournal;
 use crate::lines::{show_ask, show_settled, show_wished};
 use crate::look::{Due, Looked};
-use crate::manner::Manner;
-use crate::plan::{Served, Source};
+use crate::options::AgentOptions;
+use crate::plan::{MetricSource, Served};
 use crate::reporting::report_of;
 use crate::taken::Taken;
 use canary_base::error::Memory;
@@ -38,7 +38,7 @@ pub(crate) fn say_late<F: Write>(
 pub(crate) fn show_last<W: Write>(
     alloc: Global,
     journal: &OpenJournal,
-    manner: &Manner<'_>,
+    manner: &AgentOptions<'_>,
     output: &mut W,
 ) -> Result<(), Stop> {
     match journal.last() {
@@ -56,13 +56,13 @@ pub(crate) fn show_asked<W: Write>(
     served: &Served,
     looked: &Looked,
     due: &Due,
-    manner: &Manner<'_>,
+    manner: &AgentOptions<'_>,
     output: &mut W,
 ) -> Result<(), Stop> {
     let Some(metric) = served.metric(&due.metric) else {
         return Ok(());
     };
-    let Source::Provider(query) = &metric.source else {
+    let MetricSource::Provider(query) = &metric.source else {
         return Ok(());
     };
     match query.provider(alloc, looked.latest.as_str(), looked.stable.as_str())? {
@@ -87,7 +87,7 @@ pub(crate) fn show_wish<W: Write>(
     served: &Served,
     run: Number,
     taken: &[Taken],
-    manner: &Manner<'_>,
+    manner: &AgentOptions<'_>,
     output: &mut W,
 ) -> Result<(), Stop> {
     let Some(report) = report_of(alloc, served, run, taken)? else {

@@ -80,7 +80,7 @@ fn given_in(alloc: Global, text: &str) -> Result<Option<Given>, Memory> {
 
 // A value that was not reported yet.
 #[derive(Drop)]
-struct Value {
+struct UnreportedValue {
     service: Name,
     metric: Label,
     measured: Measured,
@@ -90,14 +90,14 @@ struct Value {
 
 /// The last value of each metric that was not reported yet.
 #[derive(Drop)]
-pub(crate) struct Values {
-    list: Vec<Value>,
+pub(crate) struct UnreportedValues {
+    list: Vec<UnreportedValue>,
 }
 
-impl Values {
+impl UnreportedValues {
     /// None.
-    pub(crate) fn new(alloc: Global) -> Values {
-        Values {
+    pub(crate) fn new(alloc: Global) -> UnreportedValues {
+        UnreportedValues {
             list: Vec::new(alloc),
         }
     }
@@ -115,7 +115,7 @@ impl Values {
         now: u64,
     ) -> Result<(), Memory> {
         let _ = self.take(alloc, service, metric, now)?;
-        self.list.push(Value {
+        self.list.push(UnreportedValue {
             service,
             metric,
             measured,
@@ -146,8 +146,8 @@ impl Values {
 }
 
 // What was measured, unless it came before this moment of the call.
-fn measured_since(value: Value, since: u64) -> Option<Measured> {
-    let Value {
+fn measured_since(value: UnreportedValue, since: u64) -> Option<Measured> {
+    let UnreportedValue {
         measured,
         came_at,
         ..

@@ -24,8 +24,8 @@ use Rattle.canary_argo.specs.declared.condition.Item.{Item}
 use Rattle.canary_argo.specs.declared.condition.Item.TheVariants.{Or as OrItem, And as AndItem, Not as NotItem, Open as OpenGroup, Close as CloseGroup, Compare as CompareItem, NaN as NaNItem, Inf as InfItem}
 use Rattle.canary_argo.specs.declared.condition.Function.{Function}
 use Rattle.canary_argo.specs.declared.condition.Function.TheVariants.{Plain, AsFloat, AsInt, Default}
-use Rattle.canary_argo.specs.declared.condition.Place.{Place}
-use Rattle.canary_argo.specs.declared.condition.Place.TheVariants.{Whole, Item as ItemPlace, Length as LengthPlace}
+use Rattle.canary_argo.specs.declared.condition.ResultPart.{ResultPart}
+use Rattle.canary_argo.specs.declared.condition.ResultPart.TheVariants.{Whole, Item as ItemPlace, Length as LengthPlace}
 use Rattle.canary_argo.specs.declared.condition.Test.{Test}
 use Rattle.canary_argo.specs.declared.form.Form.{Form}
 use Rattle.canary_argo.specs.declared.form.Shape.{Shape}
@@ -146,7 +146,7 @@ none_by true o a e = absurd (none-some a e)
 none_by false o a e = (refl, e)
 
 -- what the desk asks for `isNaN`
-pub nan_is : (form : Form) (p : Place) (a : DeskAtom) → nan_atom form p ≡ Some a → ((has_nan form.beside && not (has_null form.beside)) ≡ true) × ((x : Operand) × ((desk_value form.shape p ≡ Some x) × (a ≡ OneTest (record { operand = x; comparison = Equal; constant = nan }))))
+pub nan_is : (form : Form) (p : ResultPart) (a : DeskAtom) → nan_atom form p ≡ Some a → ((has_nan form.beside && not (has_null form.beside)) ≡ true) × ((x : Operand) × ((desk_value form.shape p ≡ Some x) × (a ≡ OneTest (record { operand = x; comparison = Equal; constant = nan }))))
 nan_is form p a e = let found = atom_by (has_nan form.beside && not (has_null form.beside)) (nan_at (desk_value form.shape p)) a e in (found.0, nan_made (desk_value form.shape p) a found.1)
 
 inf_made : (o : Option Operand) (a : DeskAtom) → inf_at o ≡ Some a → (x : Operand) × ((o ≡ Some x) × (a ≡ Either (record { operand = x; comparison = Equal; constant = infinite }) (record { operand = x; comparison = Equal; constant = minus_infinite })))
@@ -154,10 +154,10 @@ inf_made None a e = absurd (none-some a e)
 inf_made (Some x) a e = (x, (refl, sym (same_Some (Either (record { operand = x; comparison = Equal; constant = infinite }) (record { operand = x; comparison = Equal; constant = minus_infinite })) a e)))
 
 -- and for `isInf`
-pub inf_is : (form : Form) (p : Place) (a : DeskAtom) → inf_atom form p ≡ Some a → ((has_infinite form.beside && not (has_null form.beside)) ≡ true) × ((x : Operand) × ((desk_value form.shape p ≡ Some x) × (a ≡ Either (record { operand = x; comparison = Equal; constant = infinite }) (record { operand = x; comparison = Equal; constant = minus_infinite }))))
+pub inf_is : (form : Form) (p : ResultPart) (a : DeskAtom) → inf_atom form p ≡ Some a → ((has_infinite form.beside && not (has_null form.beside)) ≡ true) × ((x : Operand) × ((desk_value form.shape p ≡ Some x) × (a ≡ Either (record { operand = x; comparison = Equal; constant = infinite }) (record { operand = x; comparison = Equal; constant = minus_infinite }))))
 inf_is form p a e = let found = atom_by (has_infinite form.beside && not (has_null form.beside)) (inf_at (desk_value form.shape p)) a e in (found.0, inf_made (desk_value form.shape p) a found.1)
 
-value_small : (shape : Shape) (p : Place) (o : Operand) → desk_value shape p ≡ Some o → SmallOperand o
+value_small : (shape : Shape) (p : ResultPart) (o : Operand) → desk_value shape p ≡ Some o → SmallOperand o
 value_small shape LengthPlace o e = absurd (none-some o e)
 value_small shape Whole o e = place_small shape Whole o e
 value_small shape (ItemPlace i) o e = place_small shape (ItemPlace i) o e
@@ -186,7 +186,7 @@ either_small law form x y a e =
     let (t, (u, (found, (more, is)))) = either_are (desk_test form x) (desk_test form y) a e in
     subst SmallAtom is (desk_small law form x t found, desk_small law form y u more)
 
-asked_small : ShortConstants → (form : Form) (p : Place) (c : Comparison) (from above : ℤ) (a : DeskAtom) → int_asked form p c from above ≡ Some a → SmallAtom a
+asked_small : ShortConstants → (form : Form) (p : ResultPart) (c : Comparison) (from above : ℤ) (a : DeskAtom) → int_asked form p c from above ≡ Some a → SmallAtom a
 asked_small law form p Equal from above a e = both_small law form (edge_test true p from) (edge_test false p above) a e
 asked_small law form p NotEqual from above a e = either_small law form (edge_test false p from) (edge_test true p above) a e
 asked_small law form p Less from above a e = one_small law form (edge_test false p from) a e
@@ -244,13 +244,13 @@ function_small law (Default d) form t a e = default_small law form d t a e
 compare_small : ShortConstants → (form : Form) (t : Test) (a : DeskAtom) → compare_atom form t ≡ Some a → SmallAtom a
 compare_small law form t a e = function_small law t.look.function form t a e
 
-nan_small : (form : Form) (p : Place) (a : DeskAtom) → nan_atom form p ≡ Some a → SmallAtom a
+nan_small : (form : Form) (p : ResultPart) (a : DeskAtom) → nan_atom form p ≡ Some a → SmallAtom a
 nan_small form p a e =
     let it = nan_is form p a e in
     let small : Small nan = omega arith in
     subst SmallAtom (sym it.1.1.1) (value_small form.shape p it.1.0 it.1.1.0, small)
 
-inf_small : (form : Form) (p : Place) (a : DeskAtom) → inf_atom form p ≡ Some a → SmallAtom a
+inf_small : (form : Form) (p : ResultPart) (a : DeskAtom) → inf_atom form p ≡ Some a → SmallAtom a
 inf_small form p a e =
     let it = inf_is form p a e in
     let high : Small infinite = omega arith in
@@ -330,10 +330,10 @@ some_is (Some a) h = (a, refl)
 pub fit_is : (form : Form) (t : Test) → Fit form (CompareItem t ∷ []) → (a : DeskAtom) × (compare_atom form t ≡ Some a)
 fit_is form t h = some_is (compare_atom form t) (and_parts (is_some (compare_atom form t)) true h).0
 
-pub nan_fit : (form : Form) (p : Place) → Fit form (NaNItem p ∷ []) → (a : DeskAtom) × (nan_atom form p ≡ Some a)
+pub nan_fit : (form : Form) (p : ResultPart) → Fit form (NaNItem p ∷ []) → (a : DeskAtom) × (nan_atom form p ≡ Some a)
 nan_fit form p h = some_is (nan_atom form p) (and_parts (is_some (nan_atom form p)) true h).0
 
-pub inf_fit : (form : Form) (p : Place) → Fit form (InfItem p ∷ []) → (a : DeskAtom) × (inf_atom form p ≡ Some a)
+pub inf_fit : (form : Form) (p : ResultPart) → Fit form (InfItem p ∷ []) → (a : DeskAtom) × (inf_atom form p ≡ Some a)
 inf_fit form p h = some_is (inf_atom form p) (and_parts (is_some (inf_atom form p)) true h).0
 
 abbrev AtomPrints : Option DeskAtom → Type 0
@@ -350,10 +350,10 @@ atom_prints o a e small rest us ends h =
 test_prints : ShortConstants → (form : Form) (t : Test) → Fit form (CompareItem t ∷ []) → Prints form (CompareItem t ∷ [])
 test_prints law form t fit = let (a, e) = fit_is form t fit in atom_prints (compare_atom form t) a e (compare_small law form t a e)
 
-nan_prints : (form : Form) (p : Place) → Fit form (NaNItem p ∷ []) → Prints form (NaNItem p ∷ [])
+nan_prints : (form : Form) (p : ResultPart) → Fit form (NaNItem p ∷ []) → Prints form (NaNItem p ∷ [])
 nan_prints form p fit = let (a, e) = nan_fit form p fit in atom_prints (nan_atom form p) a e (nan_small form p a e)
 
-inf_prints : (form : Form) (p : Place) → Fit form (InfItem p ∷ []) → Prints form (InfItem p ∷ [])
+inf_prints : (form : Form) (p : ResultPart) → Fit form (InfItem p ∷ []) → Prints form (InfItem p ∷ [])
 inf_prints form p fit = let (a, e) = inf_fit form p fit in atom_prints (inf_atom form p) a e (inf_small form p a e)
 
 prints : ShortConstants → (form : Form) (T : Tree) (level : Level) (items : List Item) → SpellsItems T level items → Fit form items → Prints form items

@@ -22,8 +22,8 @@ use Rattle.canary_condition.specs.Tokens.{is_blank, is_word_byte, front_word, is
 use Rattle.canary_decimal.specs.declared.decimal.ShortDecimal.{ShortDecimal}
 use Rattle.canary_decimal.specs.Exactness.{signed, Fraction, IsConstant}
 use Rattle.canary_decimal.specs.Short.{fraction_of, short_constant, ShortConstants}
-use Rattle.canary_argo.specs.declared.condition.Place.{Place}
-use Rattle.canary_argo.specs.declared.condition.Place.TheVariants.{Whole, Item as ItemPlace, Length as LengthPlace}
+use Rattle.canary_argo.specs.declared.condition.ResultPart.{ResultPart}
+use Rattle.canary_argo.specs.declared.condition.ResultPart.TheVariants.{Whole, Item as ItemPlace, Length as LengthPlace}
 use Rattle.canary_argo.specs.declared.condition.Test.{Test}
 use Rattle.canary_argo.specs.declared.form.Form.{Form}
 use Rattle.canary_argo.specs.declared.form.Shape.{Shape}
@@ -245,12 +245,12 @@ small_size : (z : ℤ) → unsigned_abs z < 10 ^ 15 → Small z
 small_size (pos n) h = omega arith
 small_size (negsuc n) h = omega arith
 
-small_at : ShortConstants → (p : Place) (n : ShortDecimal) (places : ℕ) (z : ℤ) → constant_at p n places ≡ Some z → Small z
+small_at : ShortConstants → (p : ResultPart) (n : ShortDecimal) (places : ℕ) (z : ℤ) → constant_at p n places ≡ Some z → Small z
 small_at law Whole n places z e = constant_small z (fraction_of n) places (constant_is law n places z e)
 small_at law (ItemPlace i) n places z e = constant_small z (fraction_of n) places (constant_is law n places z e)
 small_at law LengthPlace n places z e = let parts = length_is n z e in subst Small parts.1.0 (small_size n.whole parts.1.1)
 
-pub place_small : (shape : Shape) (p : Place) (o : Operand) → desk_place shape p ≡ Some o → SmallOperand o
+pub place_small : (shape : Shape) (p : ResultPart) (o : Operand) → desk_place shape p ≡ Some o → SmallOperand o
 place_small One Whole o e = subst SmallOperand (same_Some WholeOperand o e) tt
 place_small One LengthPlace o e = absurd (none-some o e)
 place_small First LengthPlace o e = absurd (none-some o e)

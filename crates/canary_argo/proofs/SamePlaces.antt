@@ -18,8 +18,8 @@ use Rattle.canary_decimal.specs.declared.decimal.ShortDecimal.{ShortDecimal}
 use Rattle.std.proofs.lemmas.Int.{ints}
 use Rattle.canary_decimal.specs.declared.shown.Beside.{Beside}
 use Rattle.canary_decimal.specs.declared.shown.Beside.TheVariants.{Nothing as NothingBeside, NaN as NaNBeside, Infinite as InfiniteBeside, Null as NullBeside}
-use Rattle.canary_argo.specs.declared.condition.Place.{Place}
-use Rattle.canary_argo.specs.declared.condition.Place.TheVariants.{Whole, Item as ItemPlace, Length as LengthPlace}
+use Rattle.canary_argo.specs.declared.condition.ResultPart.{ResultPart}
+use Rattle.canary_argo.specs.declared.condition.ResultPart.TheVariants.{Whole, Item as ItemPlace, Length as LengthPlace}
 use Rattle.canary_argo.specs.declared.form.Shape.{Shape}
 use Rattle.canary_argo.specs.declared.form.Shape.TheVariants.{One as OneShape, First, Several as SeveralShape, Length as LengthShape}
 use Rattle.canary_argo.specs.Meaning.{Given, Measured, given_at, in_order}
@@ -47,11 +47,11 @@ item_alike w n (suc most) (g ∷ gs) (z ∷ zs) zero less h = h.0
 item_alike w n (suc most) (g ∷ gs) (z ∷ zs) (suc i) less h = item_alike w n most gs zs i (omega arith) h.1
 
 -- a value of a list, or the one value
-abbrev IsValue : Place → Type 0
+abbrev IsValue : ResultPart → Type 0
 IsValue LengthPlace = ⊥
 IsValue place = Unit {0}
 
-pub place_alike : (w : Beside) (n : ℕ) (shape : Shape) (p : Place) (o : Operand) (m : Measured) (v : Value) → IsValue p → desk_place shape p ≡ Some o → IsReportedAs w n shape m v → IsAlike w n (operand_value o v) (given_at p m)
+pub place_alike : (w : Beside) (n : ℕ) (shape : Shape) (p : ResultPart) (o : Operand) (m : Measured) (v : Value) → IsValue p → desk_place shape p ≡ Some o → IsReportedAs w n shape m v → IsAlike w n (operand_value o v) (given_at p m)
 place_alike w n shape LengthPlace o m v is e h = absurd is
 place_alike w n OneShape Whole o (One g) (WholeResult z) is e h =
     subst (λ (k : Operand). IsAlike w n (operand_value k (WholeResult z)) (Some g)) (same_Some WholeOperand o e) h
@@ -138,7 +138,7 @@ length_agrees w number t z apart e =
     let own : z *ℤ pos (10 ^ number.places) ≡ z = ap (λ (k : ℕ). z *ℤ pos (10 ^ k)) parts.0 ∙ times_one z in
     (λ c. (ap (λ (a : ℤ). compares c a t) (sym own) ∙ ap (λ (b : ℤ). compares c (z *ℤ pos (10 ^ number.places)) b) (sym whole), ap (λ (b : ℤ). compares c b z) (sym whole) ∙ ap (λ (a : ℤ). compares c (number.whole *ℤ pos (10 ^ 0)) a) (sym own)), λ _. apart)
 
-pub place_agrees : ComparesAsDecimals → ShortConstants → (w : Beside) (n : ℕ) (shape : Shape) (p : Place) (number : ShortDecimal) (o : Operand) (t : ℤ) (m : Measured) (v : Value) → desk_place shape p ≡ Some o → constant_at p number n ≡ Some t → IsReportedAs w n shape m v → Agrees w t (fraction_of number) (operand_value o v) (given_at p m)
+pub place_agrees : ComparesAsDecimals → ShortConstants → (w : Beside) (n : ℕ) (shape : Shape) (p : ResultPart) (number : ShortDecimal) (o : Operand) (t : ℤ) (m : Measured) (v : Value) → desk_place shape p ≡ Some o → constant_at p number n ≡ Some t → IsReportedAs w n shape m v → Agrees w t (fraction_of number) (operand_value o v) (given_at p m)
 place_agrees law short w n shape Whole number o t m v e f h =
     agrees law w t (fraction_of number) n (operand_value o v) (given_at Whole m) (constant_is short number n t f) (place_alike w n shape Whole o m v tt e h)
 place_agrees law short w n shape (ItemPlace i) number o t m v e f h =

@@ -31,8 +31,8 @@ use Rattle.canary_argo.specs.declared.condition.Item.{Item}
 use Rattle.canary_argo.specs.declared.condition.Item.TheVariants.{Or as OrItem, And as AndItem, Not as NotItem, Open as OpenGroup, Close as CloseGroup}
 use Rattle.canary_argo.specs.declared.condition.Function.{Function}
 use Rattle.canary_argo.specs.declared.condition.Function.TheVariants.{Plain, AsFloat, AsInt, Default}
-use Rattle.canary_argo.specs.declared.condition.Place.{Place}
-use Rattle.canary_argo.specs.declared.condition.Place.TheVariants.{Whole, Item as ItemPlace, Length as LengthPlace}
+use Rattle.canary_argo.specs.declared.condition.ResultPart.{ResultPart}
+use Rattle.canary_argo.specs.declared.condition.ResultPart.TheVariants.{Whole, Item as ItemPlace, Length as LengthPlace}
 use Rattle.canary_argo.specs.declared.condition.Test.{Test}
 use Rattle.canary_argo.specs.declared.form.Form.{Form}
 use Rattle.canary_argo.specs.declared.form.Shape.{Shape}
@@ -47,7 +47,7 @@ use Rattle.canary_argo.specs.Tokens.{is_held}
 use Rattle.canary_argo.proofs.Cutting.{edge_reached, edge_missed, whole_asked, whole_compares}
 use Rattle.canary_decimal.proofs.Alike.{pow_over_zero}
 use Rattle.canary_decimal.proofs.Scaling.{compares_scaled}
-use Rattle.canary_argo.specs.declared.condition.Token.{Token}
+use Rattle.canary_argo.specs.declared.condition.ArgoToken.{ArgoToken}
 use Rattle.canary_argo.specs.Spelling.{Spells}
 use Rattle.canary_argo.specs.Tokens.{IsMadeOf}
 use Rattle.canary_argo.specs.Trees.{Tree}
@@ -98,7 +98,7 @@ within_size : (z : ℤ) → unsigned_abs z < 10 ^ 15 → IsWithin z
 within_size (pos n) h = (omega (arith, ints), omega (arith, ints))
 within_size (negsuc n) h = (omega (arith, ints), omega (arith, ints))
 
-within_at : ShortConstants → (p : Place) (number : ShortDecimal) (n : ℕ) (t : ℤ) → constant_at p number n ≡ Some t → IsWithin t
+within_at : ShortConstants → (p : ResultPart) (number : ShortDecimal) (n : ℕ) (t : ℤ) → constant_at p number n ≡ Some t → IsWithin t
 within_at short Whole number n t e = within_constant t (fraction_of number) n (constant_is short number n t e)
 within_at short (ItemPlace i) number n t e = within_constant t (fraction_of number) n (constant_is short number n t e)
 within_at short LengthPlace number n t e = let parts = length_is number t e in subst IsWithin parts.1.0 (within_size number.whole parts.1.1)
@@ -188,7 +188,7 @@ and_true_so true e = e
 and_true_so false e = e
 
 -- a length is given
-given_there : (w : Beside) (t : ℤ) (y : Fraction) (number : Option ℤ) (p : Place) (m : Measured) → (has_null w && is_value p) ≡ false → Agrees w t y number (given_at p m) → IsGiven (given_at p m)
+given_there : (w : Beside) (t : ℤ) (y : Fraction) (number : Option ℤ) (p : ResultPart) (m : Measured) → (has_null w && is_value p) ≡ false → Agrees w t y number (given_at p m) → IsGiven (given_at p m)
 given_there w t y number LengthPlace (One g) none h = tt
 given_there w t y number LengthPlace (Several gs) none h = tt
 given_there w t y number Whole m none h = given_by w t y number (given_at Whole m) (and_true_so (has_null w) none) h
@@ -256,7 +256,7 @@ decimal_at law short form test d m v none e h =
     decimal_by form.beside d.constant (fraction_of test.amount.number) (operand_value d.operand v) (given_at test.look.place m) none (place_agrees law short form.beside form.places form.shape test.look.place test.amount.number d.operand d.constant m v parts.0 parts.1.1 h)
 
 -- what is asked of the value, in Argo's terms
-abbrev int_verdict : Comparison → Place → ℤ → ℤ → Option Given → Verdict3
+abbrev int_verdict : Comparison → ResultPart → ℤ → ℤ → Option Given → Verdict3
 int_verdict Equal p from above g = and_of (test_value (edge_test true p from) g) (test_value (edge_test false p above) g)
 int_verdict NotEqual p from above g = or_of (test_value (edge_test false p from) g) (test_value (edge_test true p above) g)
 int_verdict Less p from above g = test_value (edge_test false p from) g
@@ -275,13 +275,13 @@ or_verdicts false b = refl
 abbrev cut : Fraction → ℤ
 cut x = whole_of x.whole (10 ^ x.places)
 
-reached_so : (p : Place) (k : ℤ) (x : Fraction) → test_value (edge_test true p k) (Some (Decimal x)) ≡ verdict_of_test (int_le k (cut x))
+reached_so : (p : ResultPart) (k : ℤ) (x : Fraction) → test_value (edge_test true p k) (Some (Decimal x)) ≡ verdict_of_test (int_le k (cut x))
 reached_so p k x = ap verdict_of_test (edge_reached k x.whole (10 ^ x.places) (pow_over_zero x.places))
 
-missed_so : (p : Place) (k : ℤ) (x : Fraction) → test_value (edge_test false p k) (Some (Decimal x)) ≡ verdict_of_test (not (int_le k (cut x)))
+missed_so : (p : ResultPart) (k : ℤ) (x : Fraction) → test_value (edge_test false p k) (Some (Decimal x)) ≡ verdict_of_test (not (int_le k (cut x)))
 missed_so p k x = ap verdict_of_test (edge_missed k x.whole (10 ^ x.places) (pow_over_zero x.places))
 
-int_says : (c : Comparison) (p : Place) (from above : ℤ) (x : Fraction) → int_verdict c p from above (Some (Decimal x)) ≡ verdict_of_test (whole_asked c from above (cut x))
+int_says : (c : Comparison) (p : ResultPart) (from above : ℤ) (x : Fraction) → int_verdict c p from above (Some (Decimal x)) ≡ verdict_of_test (whole_asked c from above (cut x))
 int_says Equal p from above x =
     ap (λ (r : Verdict3). and_of r (test_value (edge_test false p above) (Some (Decimal x)))) (reached_so p from x)
     ∙ ap (and_of (verdict_of_test (int_le from (cut x)))) (missed_so p above x) ∙ and_verdicts (int_le from (cut x)) (not (int_le above (cut x)))
@@ -293,7 +293,7 @@ int_says AtMost p from above x = missed_so p above x
 int_says Greater p from above x = reached_so p above x
 int_says AtLeast p from above x = reached_so p from x
 
-int_fault : (c : Comparison) (p : Place) (from above : ℤ) → int_verdict c p from above None ≡ Fault
+int_fault : (c : Comparison) (p : ResultPart) (from above : ℤ) → int_verdict c p from above None ≡ Fault
 int_fault Equal p from above = refl
 int_fault NotEqual p from above = refl
 int_fault Less p from above = refl
@@ -326,7 +326,7 @@ int_given test (Some MinusInfinite) h = absurd h
 int_given test (Some Nothing) h = absurd h
 
 -- the desk's value of what is asked, and no value but a decimal
-abbrev IntSo : Form → Place → Comparison → ℤ → ℤ → DeskAtom → Measured → Value → Type 0
+abbrev IntSo : Form → ResultPart → Comparison → ℤ → ℤ → DeskAtom → Measured → Value → Type 0
 IntSo form p c from above a m v =
     (value (atom_shape a) v ≡ int_verdict c p from above (given_at p m)) × IsDecimal (given_at p m)
 
@@ -349,7 +349,7 @@ either_so law short form x y a m v none e h =
     let second = edge_so law short form y u m v none more h in
     (ap (λ (k : DeskAtom). value (atom_shape k) v) (sym is) ∙ ap (λ (r : Verdict3). or_of r (value (compare_of (Some u)) v)) first ∙ ap (or_of (test_value x (given_at x.look.place m))) second, decimal_at law short form x t m v none found h)
 
-int_asked_so : ComparesAsDecimals → ShortConstants → (form : Form) (p : Place) (c : Comparison) (from above : ℤ) (a : DeskAtom) (m : Measured) (v : Value) → has_nan form.beside ≡ false → int_asked form p c from above ≡ Some a → IsReported form m v → IntSo form p c from above a m v
+int_asked_so : ComparesAsDecimals → ShortConstants → (form : Form) (p : ResultPart) (c : Comparison) (from above : ℤ) (a : DeskAtom) (m : Measured) (v : Value) → has_nan form.beside ≡ false → int_asked form p c from above ≡ Some a → IsReported form m v → IntSo form p c from above a m v
 int_asked_so law short form p Equal from above a m v none e h = both_so law short form (edge_test true p from) (edge_test false p above) a m v none e h
 int_asked_so law short form p NotEqual from above a m v none e h = either_so law short form (edge_test false p from) (edge_test true p above) a m v none e h
 int_asked_so law short form p Less from above a m v none e h = one_so law short form (edge_test false p from) a m v none e h
@@ -488,7 +488,7 @@ null_only NaNBeside e = absurd (false≢true e)
 null_only InfiniteBeside e = absurd (false≢true e)
 null_only NullBeside e = refl
 
-value_alike : (w : Beside) (n : ℕ) (shape : Shape) (p : Place) (o : Operand) (m : Measured) (v : Value) → desk_value shape p ≡ Some o → IsReportedAs w n shape m v → IsAlike w n (operand_value o v) (given_at p m)
+value_alike : (w : Beside) (n : ℕ) (shape : Shape) (p : ResultPart) (o : Operand) (m : Measured) (v : Value) → desk_value shape p ≡ Some o → IsReportedAs w n shape m v → IsAlike w n (operand_value o v) (given_at p m)
 value_alike w n shape LengthPlace o m v e h = absurd (none-some o e)
 value_alike w n shape Whole o m v e h = place_alike w n shape Whole o m v tt e h
 value_alike w n shape (ItemPlace i) o m v e h = place_alike w n shape (ItemPlace i) o m v tt e h
@@ -527,7 +527,7 @@ nan_value_so w n (Some z) (Some Infinite) has none h = ap (λ (k : ℤ). compare
 nan_value_so w n (Some z) (Some MinusInfinite) has none h = ap (λ (k : ℤ). compared Equal (Some k) (Some nan)) h.1
 nan_value_so w n (Some z) (Some Nothing) has none h = absurd (false≢true (sym none ∙ h.0))
 
-nan_so : (form : Form) (p : Place) (a : DeskAtom) (m : Measured) (v : Value) → nan_atom form p ≡ Some a → IsReported form m v → value (atom_tree (nan_atom form p)) v ≡ nan_value (given_at p m)
+nan_so : (form : Form) (p : ResultPart) (a : DeskAtom) (m : Measured) (v : Value) → nan_atom form p ≡ Some a → IsReported form m v → value (atom_tree (nan_atom form p)) v ≡ nan_value (given_at p m)
 nan_so form p a m v e h =
     let it = nan_is form p a e in
     let has = and_parts (has_nan form.beside) (not (has_null form.beside)) it.0 in
@@ -559,7 +559,7 @@ inf_value_so n (Some z) (Some Infinite) h = ap (λ (k : ℤ). or_of (compared Eq
 inf_value_so n (Some z) (Some MinusInfinite) h = ap (λ (k : ℤ). or_of (compared Equal (Some k) (Some infinite)) (compared Equal (Some k) (Some minus_infinite))) h.1
 inf_value_so n (Some z) (Some Nothing) h = absurd (false≢true h.0)
 
-inf_so : (form : Form) (p : Place) (a : DeskAtom) (m : Measured) (v : Value) → inf_atom form p ≡ Some a → IsReported form m v → value (atom_tree (inf_atom form p)) v ≡ inf_value (given_at p m)
+inf_so : (form : Form) (p : ResultPart) (a : DeskAtom) (m : Measured) (v : Value) → inf_atom form p ≡ Some a → IsReported form m v → value (atom_tree (inf_atom form p)) v ≡ inf_value (given_at p m)
 inf_so form p a m v e h =
     let it = inf_is form p a e in
     let has = and_parts (has_infinite form.beside) (not (has_null form.beside)) it.0 in
@@ -617,6 +617,6 @@ translated law short form items signs other text closed (_, ts, e, (_, spelled))
     (T, h, desk_tree form T, (len, us, f, (limits, desk)), same_value law short form T AtOr items h fit)
 
 -- so has a text that is made of the tokens of such groups
-pub translation : (text : List ℕ) (form : Form) (ts : List Token) (items : List Item) (out : List ℕ) → IsMadeOf text ts → ts ≡ all_tokens items → IsTranslated items form out → IsTranslation text form out
+pub translation : (text : List ℕ) (form : Form) (ts : List ArgoToken) (items : List Item) (out : List ℕ) → IsMadeOf text ts → ts ≡ all_tokens items → IsTranslated items form out → IsTranslation text form out
 translation text form ts items out made own (T, h, desk, condition, same) =
     (ts, T, made, subst (Spells T AtOr) (sym own) (spelled_tokens T AtOr items h), desk, condition, same)

@@ -15,7 +15,8 @@ shape_text (Several most) = 112 ∷ decimal most
 shape_text (Length most) = 108 ∷ decimal most
 
 abbrev pub suffix_of : Form → List ℕ
-suffix_of form = codes ".e" ++ (decimal form.places ++ (beside_text form.beside ++ shape_text form.shape))
+suffix_of form = codes ".e"
+    ++ (decimal form.places ++ (beside_text form.beside ++ shape_text form.shape))
 
 -- whether the first value of a list is a length
 abbrev pub has_length : Shape → Bool

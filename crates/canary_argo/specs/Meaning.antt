@@ -9,8 +9,8 @@ use Rattle.canary_decimal.specs.Exactness.{Fraction, compares_exactly}
 use Rattle.canary_decimal.specs.Short.{fraction_of}
 use Rattle.canary_argo.specs.declared.condition.Function.{Function}
 use Rattle.canary_argo.specs.declared.condition.Function.TheVariants.{Plain, AsFloat, AsInt, Default}
-use Rattle.canary_argo.specs.declared.condition.Place.{Place}
-use Rattle.canary_argo.specs.declared.condition.Place.TheVariants.{Whole, Item, Length}
+use Rattle.canary_argo.specs.declared.condition.ResultPart.{ResultPart}
+use Rattle.canary_argo.specs.declared.condition.ResultPart.TheVariants.{Whole, Item, Length}
 use Rattle.canary_argo.specs.declared.condition.Test.{Test}
 use Rattle.canary_argo.specs.Trees.{Tree}
 use Rattle.canary_argo.specs.Trees.Tree.{Or, And, Not, Bracket, Compare, IsNaN, IsInf}
@@ -29,7 +29,7 @@ pub data Measured : Type 0 where
   Several : (values : List Given) → Measured
 
 -- the value at a place, or the length of a list, or none
-abbrev pub given_at : Place → Measured → Option Given
+abbrev pub given_at : ResultPart → Measured → Option Given
 given_at Whole (One g) = Some g
 given_at Whole (Several gs) = None
 given_at (Item i) (One g) = None

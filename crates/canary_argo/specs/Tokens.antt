@@ -9,8 +9,8 @@ use Rattle.canary_decimal.specs.declared.decimal.ShortDecimal.{ShortDecimal}
 use Rattle.canary_decimal.specs.Exactness.{Fraction, signed}
 use Rattle.canary_decimal.specs.Short.{short_of}
 use Rattle.canary_decimal.specs.Reader.{spelled}
-use Rattle.canary_argo.specs.declared.condition.Token.{Token}
-use Rattle.canary_argo.specs.declared.condition.Token.TheVariants.{Compares, OrSign, AndSign, NotSign, Open, Close, OpenItem, CloseItem, ResultWord, AsFloatWord, AsIntWord, DefaultWord, LenWord, NaNWord, InfWord, Comma, Number}
+use Rattle.canary_argo.specs.declared.condition.ArgoToken.{ArgoToken}
+use Rattle.canary_argo.specs.declared.condition.ArgoToken.TheVariants.{Compares, OrSign, AndSign, NotSign, Open, Close, OpenItem, CloseItem, ResultWord, AsFloatWord, AsIntWord, DefaultWord, LenWord, NaNWord, InfWord, Comma, Number}
 
 -- a space, a tab, LF or CR
 abbrev pub is_blank : ℕ → Bool
@@ -150,11 +150,11 @@ number_of [] = unsigned_number false []
 number_of (b ∷ word) =
     if b == 45 then unsigned_number true word else unsigned_number false (b ∷ word)
 
-abbrev pub number_token : List ℕ → Option Token
+abbrev pub number_token : List ℕ → Option ArgoToken
 number_token word = option_map (λ (d : ShortDecimal). Number d) (number_of word)
 
 -- the token of a word that is no number
-abbrev pub keyword_token : List ℕ → Option Token
+abbrev pub keyword_token : List ℕ → Option ArgoToken
 keyword_token word =
     if bytes_eq word (codes "result") then Some ResultWord
     else (if bytes_eq word (codes "and") then Some AndSign
@@ -168,7 +168,7 @@ keyword_token word =
     else (if bytes_eq word (codes "default") then Some DefaultWord else None)))))))))
 
 -- the symbol of two bytes
-abbrev pub long_symbol : ℕ → ℕ → Option Token
+abbrev pub long_symbol : ℕ → ℕ → Option ArgoToken
 long_symbol a b =
     if a == 61 && b == 61 then Some (Compares Equal)
     else (if a == 33 && b == 61 then Some (Compares NotEqual)
@@ -178,7 +178,7 @@ long_symbol a b =
     else (if a == 124 && b == 124 then Some OrSign else None)))))
 
 -- the symbol of one byte
-abbrev pub short_symbol : ℕ → Option Token
+abbrev pub short_symbol : ℕ → Option ArgoToken
 short_symbol a =
     if a == 60 then Some (Compares Less)
     else (if a == 62 then Some (Compares Greater)
@@ -190,15 +190,16 @@ short_symbol a =
     else (if a == 44 then Some Comma else None)))))))
 
 -- a token, with the text that follows it
-abbrev pub before : List ℕ → Option Token → Option (Token × List ℕ)
-before rest token = option_map (λ (t : Token). (t, rest)) token
+abbrev pub before : List ℕ → Option ArgoToken → Option (ArgoToken × List ℕ)
+before rest token = option_map (λ (t : ArgoToken). (t, rest)) token
 
-abbrev pub or_else : Option (Token × List ℕ) → Option (Token × List ℕ) → Option (Token × List ℕ)
+abbrev pub or_else : Option (ArgoToken × List ℕ) → Option (ArgoToken × List ℕ)
+    → Option (ArgoToken × List ℕ)
 or_else None second = second
 or_else (Some first) second = Some first
 
 -- the symbol at the front, the longest first
-abbrev pub front_symbol : List ℕ → Option (Token × List ℕ)
+abbrev pub front_symbol : List ℕ → Option (ArgoToken × List ℕ)
 front_symbol [] = None
 front_symbol (a ∷ []) = before [] (short_symbol a)
 front_symbol (a ∷ b ∷ text) =
@@ -206,7 +207,7 @@ front_symbol (a ∷ b ∷ text) =
 
 -- The token at the front of a text that begins with no blank, and what follows it. A `-` belongs
 -- to the number that follows it directly.
-abbrev pub front_token : List ℕ → Option (Token × List ℕ)
+abbrev pub front_token : List ℕ → Option (ArgoToken × List ℕ)
 front_token [] = None
 front_token (b ∷ text) =
     if is_ascii_digit b || b == 46
@@ -217,15 +218,15 @@ front_token (b ∷ text) =
     then before (after_word (b ∷ text)) (keyword_token (front_word (b ∷ text)))
     else front_symbol (b ∷ text)))
 
-abbrev pub IsFront : List ℕ → Token → List ℕ → Type 0
+abbrev pub IsFront : List ℕ → ArgoToken → List ℕ → Type 0
 IsFront text t rest = front_token text ≡ Some (t, rest)
 
 -- a text that begins with no blank is these tokens, with blanks between them and after them
-abbrev pub HasTokens : List ℕ → List Token → Type 0
+abbrev pub HasTokens : List ℕ → List ArgoToken → Type 0
 HasTokens text [] = text ≡ []
 HasTokens text (t ∷ ts) =
     (rest : List ℕ) × IsFront text t rest × HasTokens (unblanked rest) ts
 
 -- the text is these tokens
-abbrev pub IsMadeOf : List ℕ → List Token → Type 0
+abbrev pub IsMadeOf : List ℕ → List ArgoToken → Type 0
 IsMadeOf text ts = HasTokens (unblanked text) ts

@@ -17,8 +17,8 @@ use Rattle.canary_argo.specs.declared.condition.Item.{Item}
 use Rattle.canary_argo.specs.declared.condition.Item.TheVariants.{Or, And, Not, Open, Close, Compare, NaN, Inf}
 use Rattle.canary_argo.specs.declared.condition.Function.{Function}
 use Rattle.canary_argo.specs.declared.condition.Function.TheVariants.{Plain, AsFloat, AsInt, Default}
-use Rattle.canary_argo.specs.declared.condition.Place.{Place}
-use Rattle.canary_argo.specs.declared.condition.Place.TheVariants.{Whole, Item as ItemPlace, Length as LengthPlace}
+use Rattle.canary_argo.specs.declared.condition.ResultPart.{ResultPart}
+use Rattle.canary_argo.specs.declared.condition.ResultPart.TheVariants.{Whole, Item as ItemPlace, Length as LengthPlace}
 use Rattle.canary_argo.specs.declared.condition.Test.{Test}
 use Rattle.canary_argo.specs.declared.form.Form.{Form}
 use Rattle.canary_argo.specs.declared.form.Shape.{Shape}
@@ -33,10 +33,10 @@ use Rattle.canary_argo.specs.Reporting.{nan, minus_infinite, infinite, null, has
 use Rattle.canary_argo.specs.Tokens.{IsMadeOf, is_held}
 use Rattle.canary_argo.specs.Spelling.{IsArgo}
 use Rattle.canary_argo.specs.Trees.{Tree}
-use Rattle.canary_argo.specs.declared.condition.Token.{Token}
+use Rattle.canary_argo.specs.declared.condition.ArgoToken.{ArgoToken}
 
 -- the operand for a place, if the shape has it
-abbrev pub desk_place : Shape → Place → Option Operand
+abbrev pub desk_place : Shape → ResultPart → Option Operand
 desk_place One Whole = Some WholeOperand
 desk_place First (ItemPlace i) = if i == 0 then Some WholeOperand else None
 desk_place (Several most) (ItemPlace i) =
@@ -70,7 +70,7 @@ length_of d =
     if d.places == 0 && nat_lt (unsigned_abs d.whole) (10 ^ 15) then Some d.whole else None
 
 -- the constant that a place is compared with
-abbrev pub constant_at : Place → ShortDecimal → ℕ → Option ℤ
+abbrev pub constant_at : ResultPart → ShortDecimal → ℕ → Option ℤ
 constant_at LengthPlace d places = length_of d
 constant_at place d places = constant_of d places
 
@@ -108,7 +108,7 @@ abbrev pub guarded : Bool → Option DeskTest → Option DeskAtom
 guarded with_nan None = None
 guarded with_nan (Some t) = Some (guarded_by (with_nan && is_below t.comparison) t)
 
-abbrev pub is_value : Place → Bool
+abbrev pub is_value : ResultPart → Bool
 is_value LengthPlace = false
 is_value place = true
 
@@ -140,7 +140,7 @@ abbrev pub edge_sign : Bool → ℤ → Comparison
 edge_sign true k = if int_lt (pos 0) k then AtLeast else Greater
 edge_sign false k = if int_lt (pos 0) k then Less else AtMost
 
-abbrev pub edge_test : Bool → Place → ℤ → Test
+abbrev pub edge_test : Bool → ResultPart → ℤ → Test
 edge_test reaches place k =
     record {
       look = record { place = place; function = Plain; bracketed = false };
@@ -167,7 +167,7 @@ either_test (Some t) None = None
 either_test (Some t) (Some u) = Some (Either t u)
 
 -- what is asked of the value, by the least numbers from a constant on and above it
-abbrev pub int_asked : Form → Place → Comparison → ℤ → ℤ → Option DeskAtom
+abbrev pub int_asked : Form → ResultPart → Comparison → ℤ → ℤ → Option DeskAtom
 int_asked form place Equal from above =
     both_tests (desk_test form (edge_test true place from))
     (desk_test form (edge_test false place above))
@@ -188,7 +188,7 @@ int_atom form t =
     else None
 
 -- the operand for a place that is no length
-abbrev pub desk_value : Shape → Place → Option Operand
+abbrev pub desk_value : Shape → ResultPart → Option Operand
 desk_value shape LengthPlace = None
 desk_value shape place = desk_place shape place
 
@@ -243,7 +243,7 @@ nan_at None = None
 nan_at (Some o) = Some (OneTest (record { operand = o; comparison = Equal; constant = nan }))
 
 -- what the desk asks for `isNaN` of a place
-abbrev pub nan_atom : Form → Place → Option DeskAtom
+abbrev pub nan_atom : Form → ResultPart → Option DeskAtom
 nan_atom form place =
     if has_nan form.beside && not (has_null form.beside) then nan_at (desk_value form.shape place)
     else None
@@ -255,7 +255,7 @@ inf_at (Some o) =
     (record { operand = o; comparison = Equal; constant = minus_infinite }))
 
 -- what the desk asks for `isInf` of a place
-abbrev pub inf_atom : Form → Place → Option DeskAtom
+abbrev pub inf_atom : Form → ResultPart → Option DeskAtom
 inf_atom form place =
     if has_infinite form.beside && not (has_null form.beside)
     then inf_at (desk_value form.shape place) else None
@@ -354,5 +354,5 @@ IsTranslated items form translated =
 -- THE THEOREM: the text is a condition of Argo's, the other one a desk's, and they say the same
 abbrev pub IsTranslation : List ℕ → Form → List ℕ → Type 0
 IsTranslation text form translated =
-    (ts : List Token) × (argo : Tree) × IsMadeOf text ts × IsArgo ts argo
+    (ts : List ArgoToken) × (argo : Tree) × IsMadeOf text ts × IsArgo ts argo
     × (desk : DeskTree) × IsConditionText translated desk × SaysTheSame form argo desk

@@ -4,7 +4,7 @@ use canary_decimal::decimal::ShortDecimal;
 
 /// What a condition looks at in what was measured.
 #[derive(Clone, Copy)]
-pub enum Place {
+pub enum ResultPart {
     /// `result`: the one value.
     Whole,
     /// `result[i]`: the value at that place, from 0, of a list.
@@ -29,7 +29,7 @@ pub enum Function {
 /// A value that was measured, as a comparison has it.
 #[derive(Clone, Copy)]
 pub struct Look {
-    pub place: Place,
+    pub place: ResultPart,
     pub function: Function,
     /// Whether brackets stand round it.
     pub bracketed: bool,
@@ -55,7 +55,7 @@ pub struct Test {
 
 /// A token of a condition.
 #[derive(Clone, Copy)]
-pub enum Token {
+pub enum ArgoToken {
     /// `==`, `!=`, `<`, `<=`, `>` or `>=`.
     Compares(Comparison),
     /// `||` or `or`.
@@ -102,7 +102,7 @@ pub enum Item {
     Close,
     Compare(Test),
     /// `isNaN(..)`.
-    NaN(Place),
+    NaN(ResultPart),
     /// `isInf(..)`.
-    Inf(Place),
+    Inf(ResultPart),
 }

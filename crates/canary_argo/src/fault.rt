@@ -5,7 +5,7 @@ use std::alloc::AllocFailed;
 
 /// What a condition has that is not translated.
 #[derive(Clone, Copy, Debug, PartialEq, Eq)]
-pub enum Refusal {
+pub enum UnsupportedSyntax {
     /// A byte that begins nothing of a condition.
     Byte,
     /// A number in another form, or with more than 15 digits, or with more than 17 after the point.
@@ -65,90 +65,94 @@ pub enum Refusal {
     Length,
 }
 
-impl Refusal {
+impl UnsupportedSyntax {
     /// What it is, and what to write.
     pub fn text(self) -> &'static str {
         match self {
-            Refusal::Byte => "no condition of Argo has that here",
-            Refusal::Number => "this number: write 15 digits at most, as 0.95",
-            Refusal::Arithmetic => "arithmetic: do it in the query",
-            Refusal::Text => "a text: have the query give 1 or 0, and compare with 1",
-            Refusal::Member => "a member: put the path into the provider's jsonPath",
-            Refusal::Pipe => "a pipe: do it in the query",
-            Refusal::Choice => "a choice: write default(result, 0) for ??, and no ? :",
-            Refusal::Argument => "an argument without a value: give it one in the Rollout's args",
-            Refusal::In => "in: write result == 1 || result == 2, and so on",
-            Refusal::Matching => "a text: have the query give 1 or 0, and compare with 1",
-            Refusal::Truth => "a truth: have the query give 1 or 0, and write == 1",
-            Refusal::Nil => "nil: write default(result, 0) at each value, or leave it out",
-            Refusal::Function => "this function: do it in the query",
-            Refusal::Name => "a name: a condition knows result alone",
-            Refusal::TwoResults => "two results: put their quotient or difference into the query",
-            Refusal::TwoNumbers => "two numbers: leave the comparison out",
-            Refusal::Chain => "a chain: write 1 < result && result < 5",
-            Refusal::NotBeforeComparison => "! before a comparison: write !(result > 5)",
-            Refusal::Place => {
+            UnsupportedSyntax::Byte => "no condition of Argo has that here",
+            UnsupportedSyntax::Number => "this number: write 15 digits at most, as 0.95",
+            UnsupportedSyntax::Arithmetic => "arithmetic: do it in the query",
+            UnsupportedSyntax::Text => "a text: have the query give 1 or 0, and compare with 1",
+            UnsupportedSyntax::Member => "a member: put the path into the provider's jsonPath",
+            UnsupportedSyntax::Pipe => "a pipe: do it in the query",
+            UnsupportedSyntax::Choice => "a choice: write default(result, 0) for ??, and no ? :",
+            UnsupportedSyntax::Argument =>
+                "an argument without a value: give it one in the Rollout's args",
+            UnsupportedSyntax::In => "in: write result == 1 || result == 2, and so on",
+            UnsupportedSyntax::Matching => "a text: have the query give 1 or 0, and compare with 1",
+            UnsupportedSyntax::Truth => "a truth: have the query give 1 or 0, and write == 1",
+            UnsupportedSyntax::Nil =>
+                "nil: write default(result, 0) at each value, or leave it out",
+            UnsupportedSyntax::Function => "this function: do it in the query",
+            UnsupportedSyntax::Name => "a name: a condition knows result alone",
+            UnsupportedSyntax::TwoResults =>
+                "two results: put their quotient or difference into the query",
+            UnsupportedSyntax::TwoNumbers => "two numbers: leave the comparison out",
+            UnsupportedSyntax::Chain => "a chain: write 1 < result && result < 5",
+            UnsupportedSyntax::NotBeforeComparison => "! before a comparison: write !(result > 5)",
+            UnsupportedSyntax::Place => {
                 "this place of a list: write result[0], up to result[15]; with len(result), to [14]"
             }
-            Refusal::Comparison => "a comparison is wanted here, as result[0] >= 0.95",
-            Refusal::Brackets => "signs or brackets that do not fit together",
-            Refusal::Shape => "result beside result[0]: write one of the two",
-            Refusal::Range => "this number is too large for the digits after the points",
-            Refusal::Fraction => "a length is whole: write a whole number",
-            Refusal::AsInt => "asInt beside isNaN or isInf: leave asInt out",
-            Refusal::Default => "default beside a value without it: write it at each value",
-            Refusal::DefaultPlace => {
+            UnsupportedSyntax::Comparison => "a comparison is wanted here, as result[0] >= 0.95",
+            UnsupportedSyntax::Brackets => "signs or brackets that do not fit together",
+            UnsupportedSyntax::Shape => "result beside result[0]: write one of the two",
+            UnsupportedSyntax::Range => "this number is too large for the digits after the points",
+            UnsupportedSyntax::Fraction => "a length is whole: write a whole number",
+            UnsupportedSyntax::AsInt => "asInt beside isNaN or isInf: leave asInt out",
+            UnsupportedSyntax::Default =>
+                "default beside a value without it: write it at each value",
+            UnsupportedSyntax::DefaultPlace => {
                 "default of a place, which gives the whole result in Argo: write default(result, 0)"
             }
-            Refusal::Length => "this condition is too long: write it shorter",
+            UnsupportedSyntax::Length => "this condition is too long: write it shorter",
         }
     }
 }
 
 /// What is not translated, and at which byte of the condition.
 #[derive(Clone, Copy, Debug, PartialEq, Eq)]
-pub struct Finding {
-    pub why: Refusal,
+pub struct SyntaxFinding {
+    pub why: UnsupportedSyntax,
     pub at: usize,
 }
 
 /// Why a condition is not translated.
 #[derive(Clone, Copy, Debug, PartialEq, Eq)]
-pub enum Fault {
+pub enum TranslationFault {
     /// An allocation was refused.
     Memory,
     /// It has this.
-    Refused(Finding),
+    Refused(SyntaxFinding),
 }
 
-impl Fault {
+impl TranslationFault {
     // It has this, at that place.
-    pub(crate) fn refused(why: Refusal, at: usize) -> Fault {
-        Fault::Refused(Finding { why, at })
+    pub(crate) fn refused(why: UnsupportedSyntax, at: usize) -> TranslationFault {
+        TranslationFault::Refused(SyntaxFinding { why, at })
     }
 }
 
-impl From<ConditionFault> for Fault {
+impl From<ConditionFault> for TranslationFault {
     // What the desk's parser finds, at place 0: `Brackets` for syntax, `Length` for a limit.
-    fn from(fault: ConditionFault) -> Fault {
+    fn from(fault: ConditionFault) -> TranslationFault {
         match fault {
-            ConditionFault::Memory => Fault::Memory,
-            ConditionFault::Syntax => Fault::refused(Refusal::Brackets, 0),
-            _ => Fault::refused(Refusal::Length, 0),
+            ConditionFault::Memory => TranslationFault::Memory,
+            ConditionFault::Syntax => TranslationFault::refused(UnsupportedSyntax::Brackets, 0),
+            _ => TranslationFault::refused(UnsupportedSyntax::Length, 0),
         }
     }
 }
 
-impl From<Memory> for Fault {
+impl From<Memory> for TranslationFault {
     // A refused allocation, as the fault of a translation.
-    fn from(_: Memory) -> Fault {
-        Fault::Memory
+    fn from(_: Memory) -> TranslationFault {
+        TranslationFault::Memory
     }
 }
 
-impl<T: Drop> From<AllocFailed<T>> for Fault {
+impl<T: Drop> From<AllocFailed<T>> for TranslationFault {
     // A refused allocation, as the fault of a translation; the value that found no room is dropped.
-    fn from(_: AllocFailed<T>) -> Fault {
-        Fault::Memory
+    fn from(_: AllocFailed<T>) -> TranslationFault {
+        TranslationFault::Memory
     }
 }

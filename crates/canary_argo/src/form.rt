@@ -4,8 +4,8 @@ ghost use Rattle.canary_argo.specs.Labels.{shape_text, has_length, suffix_of, un
 ghost use Rattle.canary_argo.specs.Reporting.{has_nan, has_infinite, has_null};
 ghost use Rattle.canary_decimal.specs.Endings.{beside_text, IsEnding, IsShape};
 
-use crate::condition::{Function, Item, Place, Test};
-use crate::fault::{Fault, Refusal};
+use crate::condition::{Function, Item, ResultPart, Test};
+use crate::fault::{TranslationFault, UnsupportedSyntax};
 use crate::{items, lexer};
 use canary_base::error::Memory;
 use canary_condition::outcome;
@@ -14,10 +14,10 @@ use canary_decimal::shown::Beside;
 use std::alloc::Global;
 
 /// The least places of a form.
-pub const LEAST_PLACES: usize = 6;
+pub const MIN_PLACES: usize = 6;
 
 /// The most values of a list.
-pub const MOST_VALUES: u64 = outcome::MOST_VALUES as u64;
+pub const MAX_VALUES: u64 = outcome::MAX_VALUES as u64;
 
 /// Which of the values that were measured are reported.
 #[derive(Clone, Copy, Debug, PartialEq, Eq)]
@@ -68,7 +68,7 @@ impl Needs {
     /// What a metric without conditions looks at.
     pub fn none() -> Needs {
         Needs {
-            places: LEAST_PLACES,
+            places: MIN_PLACES,
             whole: false,
             most: 0,
             length: false,
@@ -88,7 +88,7 @@ impl Needs {
     // With one more comparison.
     fn with(self, test: Test) -> Needs {
         let needs = self.with_place(test.look.place);
-        if matches!(test.look.place, Place::Length) {
+        if matches!(test.look.place, ResultPart::Length) {
             return needs;
         }
         needs
@@ -121,17 +121,17 @@ impl Needs {
     }
 
     // With one more place.
-    fn with_place(self, place: Place) -> Needs {
+    fn with_place(self, place: ResultPart) -> Needs {
         match place {
-            Place::Whole => Needs {
+            ResultPart::Whole => Needs {
                 whole: true,
                 ..self
             },
-            Place::Item(place) => Needs {
+            ResultPart::Item(place) => Needs {
                 most: self.most.max(place.saturating_add(1)),
                 ..self
             },
-            Place::Length => Needs {
+            ResultPart::Length => Needs {
                 length: true,
                 ..self
             },
@@ -169,7 +169,7 @@ impl Needs {
     ///
     /// # Errors
     /// As of `translate`.
-    pub fn with_condition(self, alloc: Global, text: &str) -> Result<Needs, Fault> {
+    pub fn with_condition(self, alloc: Global, text: &str) -> Result<Needs, TranslationFault> {
         let text = text.as_bytes();
         let tokens = lexer::tokens_of(alloc, text)?;
         let items = items::items_of_text(alloc, text, tokens.as_slice())?;
@@ -192,20 +192,20 @@ impl Needs {
     /// The form in which the values are reported. `Shape` if `result` stands beside `result[i]` or
     /// `len(result)`, `Place` if there is no room for a place in a list of 16 values, and `Default`
     /// if a value stands in `default`, and one without it.
-    pub fn form(self) -> Result<Form, Refusal> {
+    pub fn form(self) -> Result<Form, UnsupportedSyntax> {
         if self.default && self.bare {
-            return Err(Refusal::Default);
+            return Err(UnsupportedSyntax::Default);
         }
         if self.whole && (self.length || self.most > 0) {
-            return Err(Refusal::Shape);
+            return Err(UnsupportedSyntax::Shape);
         }
         let room = if self.length {
-            MOST_VALUES - 1
+            MAX_VALUES - 1
         } else {
-            MOST_VALUES
+            MAX_VALUES
         };
         if self.most > room {
-            return Err(Refusal::Place);
+            return Err(UnsupportedSyntax::Place);
         }
         let shape = match self.most {
             most if self.length => Shape::Length(most),
@@ -225,7 +225,7 @@ impl Form {
     /// That of decimals alone, in the least places.
     pub fn plain(shape: Shape) -> Form {
         Form {
-            places: LEAST_PLACES,
+            places: MIN_PLACES,
             shape,
             beside: Beside::Nothing,
         }

@@ -8,8 +8,8 @@ ghost use Rattle.canary_argo.specs.Grouping.{front_test, nan_item, inf_item, tes
 ghost use Rattle.canary_argo.specs.Grouping.{defaulted, front_item};
 ghost use Rattle.canary_argo.specs.Grouping.{all_tokens, is_not, is_test, are_closed};
 
-use crate::condition::{Amount, Function, Item, Look, Place, Test, Token};
-use crate::fault::{Fault, Finding};
+use crate::condition::{Amount, ArgoToken, Function, Item, Look, ResultPart, Test};
+use crate::fault::{SyntaxFinding, TranslationFault};
 use crate::{lexer, naming};
 use canary_condition::condition::Comparison;
 use canary_decimal::decimal::ShortDecimal;
@@ -27,25 +27,25 @@ fn index_of(number: ShortDecimal) -> Option<u64>
 }
 
 // The place that `result` begins, and what follows it.
-pub(crate) fn after_result(tokens: &[Token]) -> (Place, &[Token])
+pub(crate) fn after_result(tokens: &[ArgoToken]) -> (ResultPart, &[ArgoToken])
     ensures { (result.0, result.1.now) ≡ after_result tokens.now }
 {
     if let [
-        Token::OpenItem,
-        Token::Number(number),
-        Token::CloseItem,
+        ArgoToken::OpenItem,
+        ArgoToken::Number(number),
+        ArgoToken::CloseItem,
         rest @ ..,
     ] = tokens
     {
         if let Some(place) = index_of(*number) {
-            return (Place::Item(place), rest);
+            return (ResultPart::Item(place), rest);
         }
     }
-    (Place::Whole, tokens)
+    (ResultPart::Whole, tokens)
 }
 
 // A value without brackets.
-fn plain_look(function: Function, place: Place) -> Look
+fn plain_look(function: Function, place: ResultPart) -> Look
     ensures { result ≡ plain_look function place }
 {
     Look {
@@ -56,72 +56,89 @@ fn plain_look(function: Function, place: Place) -> Look
 }
 
 // The place in a function, and what follows it.
-fn closed(function: Function, place: Place, tokens: &[Token]) -> Option<(Look, &[Token])>
+fn closed(
+    function: Function,
+    place: ResultPart,
+    tokens: &[ArgoToken],
+) -> Option<(Look, &[ArgoToken])>
     ensures { option_map (λ r. (r.0, r.1.now)) result ≡ closed function place tokens.now }
 {
     match tokens {
-        [Token::Close, rest @ ..] => Some((plain_look(function, place), rest)),
+        [ArgoToken::Close, rest @ ..] => Some((plain_look(function, place), rest)),
         _ => None,
     }
 }
 
 // The whole result in `default(..)`, and what follows it.
-fn defaulted(tokens: &[Token]) -> Option<(Look, &[Token])>
+fn defaulted(tokens: &[ArgoToken]) -> Option<(Look, &[ArgoToken])>
     ensures { option_map (λ r. (r.0, r.1.now)) result ≡ defaulted tokens.now }
 {
     match tokens {
-        [Token::Comma, Token::Number(number), Token::Close, rest @ ..] => {
-            Some((plain_look(Function::Default(*number), Place::Whole), rest))
+        [
+            ArgoToken::Comma,
+            ArgoToken::Number(number),
+            ArgoToken::Close,
+            rest @ ..,
+        ] => {
+            Some((
+                plain_look(Function::Default(*number), ResultPart::Whole),
+                rest,
+            ))
         }
         _ => None,
     }
 }
 
 // The value at the front, and what follows it.
-fn front_value(tokens: &[Token]) -> Option<(Look, &[Token])>
+fn front_value(tokens: &[ArgoToken]) -> Option<(Look, &[ArgoToken])>
     ensures { option_map (λ r. (r.0, r.1.now)) result ≡ front_value tokens.now }
 {
     match tokens {
-        [Token::ResultWord, rest @ ..] => {
+        [ArgoToken::ResultWord, rest @ ..] => {
             let (place, rest) = after_result(rest);
             Some((plain_look(Function::Plain, place), rest))
         }
         [
-            Token::AsFloatWord,
-            Token::Open,
-            Token::ResultWord,
+            ArgoToken::AsFloatWord,
+            ArgoToken::Open,
+            ArgoToken::ResultWord,
             rest @ ..,
         ] => {
             let (place, rest) = after_result(rest);
             closed(Function::AsFloat, place, rest)
         }
-        [Token::AsIntWord, Token::Open, Token::ResultWord, rest @ ..] => {
+        [
+            ArgoToken::AsIntWord,
+            ArgoToken::Open,
+            ArgoToken::ResultWord,
+            rest @ ..,
+        ] => {
             let (place, rest) = after_result(rest);
             closed(Function::AsInt, place, rest)
         }
         [
-            Token::DefaultWord,
-            Token::Open,
-            Token::ResultWord,
+            ArgoToken::DefaultWord,
+            ArgoToken::Open,
+            ArgoToken::ResultWord,
             rest @ ..,
         ] => defaulted(rest),
         [
-            Token::LenWord,
-            Token::Open,
-            Token::ResultWord,
-            Token::Close,
+            ArgoToken::LenWord,
+            ArgoToken::Open,
+            ArgoToken::ResultWord,
+            ArgoToken::Close,
             rest @ ..,
-        ] => { Some((plain_look(Function::Plain, Place::Length), rest)) }
+        ] => { Some((plain_look(Function::Plain, ResultPart::Length), rest)) }
         _ => None,
     }
 }
 
 // A value that brackets stand round, and what follows them.
-fn within(look: Look, tokens: &[Token]) -> Option<(Look, &[Token])>
+fn within(look: Look, tokens: &[ArgoToken]) -> Option<(Look, &[ArgoToken])>
     ensures { option_map (λ r. (r.0, r.1.now)) result ≡ within look tokens.now }
 {
     match tokens {
-        [Token::Close, rest @ ..] => {
+        [ArgoToken::Close, rest @ ..] => {
             let look = Look {
                 place: look.place,
                 function: look.function,
@@ -134,7 +151,7 @@ fn within(look: Look, tokens: &[Token]) -> Option<(Look, &[Token])>
 }
 
 // The same from its first token on.
-fn in_brackets(tokens: &[Token]) -> Option<(Look, &[Token])>
+fn in_brackets(tokens: &[ArgoToken]) -> Option<(Look, &[ArgoToken])>
     ensures { option_map (λ r. (r.0, r.1.now)) result ≡ in_brackets (front_value tokens.now) }
 {
     let (look, rest) = front_value(tokens)?;
@@ -142,11 +159,11 @@ fn in_brackets(tokens: &[Token]) -> Option<(Look, &[Token])>
 }
 
 // The value at the front, in brackets or not, and what follows it.
-fn front_look(tokens: &[Token]) -> Option<(Look, &[Token])>
+fn front_look(tokens: &[ArgoToken]) -> Option<(Look, &[ArgoToken])>
     ensures { option_map (λ r. (r.0, r.1.now)) result ≡ front_look tokens.now }
 {
     match tokens {
-        [Token::Open, rest @ ..] => in_brackets(rest),
+        [ArgoToken::Open, rest @ ..] => in_brackets(rest),
         _ => front_value(tokens),
     }
 }
@@ -159,14 +176,17 @@ fn amount_of(bracketed: bool, number: ShortDecimal) -> Amount
 }
 
 // The number at the front, in brackets or not, and what follows it.
-fn front_amount(tokens: &[Token]) -> Option<(Amount, &[Token])>
+fn front_amount(tokens: &[ArgoToken]) -> Option<(Amount, &[ArgoToken])>
     ensures { option_map (λ r. (r.0, r.1.now)) result ≡ front_amount tokens.now }
 {
     match tokens {
-        [Token::Number(number), rest @ ..] => Some((amount_of(false, *number), rest)),
-        [Token::Open, Token::Number(number), Token::Close, rest @ ..] => {
-            Some((amount_of(true, *number), rest))
-        }
+        [ArgoToken::Number(number), rest @ ..] => Some((amount_of(false, *number), rest)),
+        [
+            ArgoToken::Open,
+            ArgoToken::Number(number),
+            ArgoToken::Close,
+            rest @ ..,
+        ] => { Some((amount_of(true, *number), rest)) }
         _ => None,
     }
 }
@@ -184,7 +204,11 @@ fn made(turned: bool, look: Look, comparison: Comparison, amount: Amount) -> Tes
 }
 
 // The comparison of a value with the number that follows its sign, and what follows that.
-fn with_amount(look: Look, comparison: Comparison, tokens: &[Token]) -> Option<(Test, &[Token])>
+fn with_amount(
+    look: Look,
+    comparison: Comparison,
+    tokens: &[ArgoToken],
+) -> Option<(Test, &[ArgoToken])>
     ensures { option_map (λ r. (r.0, r.1.now)) result
         ≡ with_amount look comparison (front_amount tokens.now) }
 {
@@ -193,17 +217,21 @@ fn with_amount(look: Look, comparison: Comparison, tokens: &[Token]) -> Option<(
 }
 
 // The same from the sign on.
-fn after_look(look: Look, tokens: &[Token]) -> Option<(Test, &[Token])>
+fn after_look(look: Look, tokens: &[ArgoToken]) -> Option<(Test, &[ArgoToken])>
     ensures { option_map (λ r. (r.0, r.1.now)) result ≡ after_look look tokens.now }
 {
     match tokens {
-        [Token::Compares(comparison), rest @ ..] => with_amount(look, *comparison, rest),
+        [ArgoToken::Compares(comparison), rest @ ..] => with_amount(look, *comparison, rest),
         _ => None,
     }
 }
 
 // The comparison of a number with the value that follows its sign, and what follows that.
-fn with_look(amount: Amount, comparison: Comparison, tokens: &[Token]) -> Option<(Test, &[Token])>
+fn with_look(
+    amount: Amount,
+    comparison: Comparison,
+    tokens: &[ArgoToken],
+) -> Option<(Test, &[ArgoToken])>
     ensures { option_map (λ r. (r.0, r.1.now)) result
         ≡ with_look amount comparison (front_look tokens.now) }
 {
@@ -212,17 +240,17 @@ fn with_look(amount: Amount, comparison: Comparison, tokens: &[Token]) -> Option
 }
 
 // The same from the sign on.
-fn after_amount(amount: Amount, tokens: &[Token]) -> Option<(Test, &[Token])>
+fn after_amount(amount: Amount, tokens: &[ArgoToken]) -> Option<(Test, &[ArgoToken])>
     ensures { option_map (λ r. (r.0, r.1.now)) result ≡ after_amount amount tokens.now }
 {
     match tokens {
-        [Token::Compares(comparison), rest @ ..] => with_look(amount, *comparison, rest),
+        [ArgoToken::Compares(comparison), rest @ ..] => with_look(amount, *comparison, rest),
         _ => None,
     }
 }
 
 // The comparison with its value first.
-fn look_first(tokens: &[Token]) -> Option<(Test, &[Token])>
+fn look_first(tokens: &[ArgoToken]) -> Option<(Test, &[ArgoToken])>
     ensures { option_map (λ r. (r.0, r.1.now)) result ≡ look_first (front_look tokens.now) }
 {
     let (look, rest) = front_look(tokens)?;
@@ -230,7 +258,7 @@ fn look_first(tokens: &[Token]) -> Option<(Test, &[Token])>
 }
 
 // The comparison at the front, and what follows it.
-fn front_test(tokens: &[Token]) -> Option<(Test, &[Token])>
+fn front_test(tokens: &[ArgoToken]) -> Option<(Test, &[ArgoToken])>
     ensures { option_map (λ r. (r.0, r.1.now)) result ≡ front_test tokens.now }
 {
     match front_amount(tokens) {
@@ -240,17 +268,20 @@ fn front_test(tokens: &[Token]) -> Option<(Test, &[Token])>
 }
 
 // `isInf` of a place, and what follows it.
-fn inf_item(place: Place, tokens: &[Token]) -> Option<(Item, &[Token])>
+fn inf_item(place: ResultPart, tokens: &[ArgoToken]) -> Option<(Item, &[ArgoToken])>
     ensures { option_map (λ r. (r.0, r.1.now)) result ≡ inf_item place tokens.now }
 {
     match tokens {
-        [Token::Close, rest @ ..] => Some((Item::Inf(place), rest)),
+        [ArgoToken::Close, rest @ ..] => Some((Item::Inf(place), rest)),
         _ => None,
     }
 }
 
 // A comparison that begins with a bracket, or the bracket alone, and what follows it.
-fn test_or_open<'a>(tokens: &'a [Token], behind: &'a [Token]) -> Option<(Item, &'a [Token])>
+fn test_or_open<'a>(
+    tokens: &'a [ArgoToken],
+    behind: &'a [ArgoToken],
+) -> Option<(Item, &'a [ArgoToken])>
     ensures { option_map (λ r. (r.0, r.1.now)) result
         ≡ test_or_open (front_test tokens.now) behind.now }
 {
@@ -261,30 +292,40 @@ fn test_or_open<'a>(tokens: &'a [Token], behind: &'a [Token]) -> Option<(Item, &
 }
 
 // `isNaN` of a place, and what follows it.
-fn nan_item(place: Place, tokens: &[Token]) -> Option<(Item, &[Token])>
+fn nan_item(place: ResultPart, tokens: &[ArgoToken]) -> Option<(Item, &[ArgoToken])>
     ensures { option_map (λ r. (r.0, r.1.now)) result ≡ nan_item place tokens.now }
 {
     match tokens {
-        [Token::Close, rest @ ..] => Some((Item::NaN(place), rest)),
+        [ArgoToken::Close, rest @ ..] => Some((Item::NaN(place), rest)),
         _ => None,
     }
 }
 
 // The group at the front, and what follows it.
-fn front_item(tokens: &[Token]) -> Option<(Item, &[Token])>
+fn front_item(tokens: &[ArgoToken]) -> Option<(Item, &[ArgoToken])>
     ensures { option_map (λ r. (r.0, r.1.now)) result ≡ front_item tokens.now }
 {
     match tokens {
-        [Token::OrSign, rest @ ..] => Some((Item::Or, rest)),
-        [Token::AndSign, rest @ ..] => Some((Item::And, rest)),
-        [Token::NotSign, rest @ ..] => Some((Item::Not, rest)),
-        [Token::Open, rest @ ..] => test_or_open(tokens, rest),
-        [Token::Close, rest @ ..] => Some((Item::Close, rest)),
-        [Token::NaNWord, Token::Open, Token::ResultWord, rest @ ..] => {
+        [ArgoToken::OrSign, rest @ ..] => Some((Item::Or, rest)),
+        [ArgoToken::AndSign, rest @ ..] => Some((Item::And, rest)),
+        [ArgoToken::NotSign, rest @ ..] => Some((Item::Not, rest)),
+        [ArgoToken::Open, rest @ ..] => test_or_open(tokens, rest),
+        [ArgoToken::Close, rest @ ..] => Some((Item::Close, rest)),
+        [
+            ArgoToken::NaNWord,
+            ArgoToken::Open,
+            ArgoToken::ResultWord,
+            rest @ ..,
+        ] => {
             let (place, rest) = after_result(rest);
             nan_item(place, rest)
         }
-        [Token::InfWord, Token::Open, Token::ResultWord, rest @ ..] => {
+        [
+            ArgoToken::InfWord,
+            ArgoToken::Open,
+            ArgoToken::ResultWord,
+            rest @ ..,
+        ] => {
             let (place, rest) = after_result(rest);
             inf_item(place, rest)
         }
@@ -296,7 +337,7 @@ fn front_item(tokens: &[Token]) -> Option<(Item, &[Token])>
 }
 
 // The groups of tokens. The place of a fault is that of a token.
-fn items_of(alloc: Global, tokens: &[Token]) -> Result<Vec<Item>, Fault>
+fn items_of(alloc: Global, tokens: &[ArgoToken]) -> Result<Vec<Item>, TranslationFault>
     ensures { IfOk result (λ items. tokens.now ≡ all_tokens items.items) }
 {
     let mut items = Vec::new(alloc);
@@ -304,7 +345,7 @@ fn items_of(alloc: Global, tokens: &[Token]) -> Result<Vec<Item>, Fault>
     while !rest.is_empty() {
         let Some((item, behind)) = front_item(rest) else {
             let at = tokens.len().saturating_sub(rest.len());
-            return Err(Fault::refused(naming::of_tokens(rest, at), at));
+            return Err(TranslationFault::refused(naming::of_tokens(rest, at), at));
         };
         items.push(item)?;
         rest = behind;
@@ -316,8 +357,8 @@ fn items_of(alloc: Global, tokens: &[Token]) -> Result<Vec<Item>, Fault>
 pub(crate) fn items_of_text(
     alloc: Global,
     text: &[u8],
-    tokens: &[Token],
-) -> Result<Vec<Item>, Fault>
+    tokens: &[ArgoToken],
+) -> Result<Vec<Item>, TranslationFault>
     ensures { IfOk result (λ items. tokens.now ≡ all_tokens items.items) }
 {
     match items_of(alloc, tokens) {
@@ -327,11 +368,11 @@ pub(crate) fn items_of_text(
 }
 
 // The fault at the byte of its token.
-fn at_token(alloc: Global, text: &[u8], fault: Fault) -> Fault {
+fn at_token(alloc: Global, text: &[u8], fault: TranslationFault) -> TranslationFault {
     match fault {
-        Fault::Memory => Fault::Memory,
-        Fault::Refused(Finding { why, at }) => {
-            Fault::refused(why, lexer::place_of(alloc, text, at))
+        TranslationFault::Memory => TranslationFault::Memory,
+        TranslationFault::Refused(SyntaxFinding { why, at }) => {
+            TranslationFault::refused(why, lexer::place_of(alloc, text, at))
         }
     }
 }

@@ -15,8 +15,8 @@ ghost use Rattle.canary_argo.specs.Tokens.{keyword_token, long_symbol, short_sym
 ghost use Rattle.canary_argo.specs.Tokens.{before, front_token, IsFront};
 ghost use Rattle.canary_argo.specs.Tokens.{IsMadeOf};
 
-use crate::condition::Token;
-use crate::fault::Fault;
+use crate::condition::ArgoToken;
+use crate::fault::TranslationFault;
 use crate::naming;
 use canary_base::error::Memory;
 use canary_condition::condition::Comparison;
@@ -25,10 +25,10 @@ use canary_decimal::reading::decimal;
 use std::alloc::Global;
 
 // The least number of more than 15 digits.
-pub(crate) const LEAST_TOO_LONG: u64 = 1_000_000_000_000_000;
+pub(crate) const MIN_TOO_LONG: u64 = 1_000_000_000_000_000;
 
 // The most digits after the point of a number.
-const MOST_PLACES: usize = 17;
+const MAX_PLACES: usize = 17;
 
 // Whether it is a space, a tab, LF or CR, which may separate tokens.
 fn is_blank(byte: u8) -> bool
@@ -128,7 +128,7 @@ fn split_signed(text: &[u8]) -> (&[u8], &[u8])
 pub(crate) fn is_held(number: ShortDecimal) -> bool
     ensures { result ≡ is_held number }
 {
-    number.whole.unsigned_abs() < LEAST_TOO_LONG && number.places <= MOST_PLACES
+    number.whole.unsigned_abs() < MIN_TOO_LONG && number.places <= MAX_PLACES
 }
 
 // The number, if it has few enough digits to be translated.
@@ -234,7 +234,7 @@ fn with_hex(number: Option<u64>, byte: u8) -> Option<u64>
         return Some(number);
     }
     let digit = hex_digit(byte)?;
-    if number < LEAST_TOO_LONG {
+    if number < MIN_TOO_LONG {
         Some(number * 16 + digit)
     } else {
         None
@@ -260,7 +260,7 @@ fn whole_number(minus: bool, number: Option<u64>) -> Option<ShortDecimal>
     ensures { result ≡ whole_number minus number }
 {
     let number = number?;
-    if number >= LEAST_TOO_LONG {
+    if number >= MIN_TOO_LONG {
         return None;
     }
     let whole = number as i64;
@@ -293,10 +293,10 @@ fn number_of(alloc: Global, word: &[u8]) -> Result<Option<ShortDecimal>, Memory>
 }
 
 // The token of a number.
-fn token_of(number: Option<ShortDecimal>) -> Option<Token>
-    ensures { result ≡ option_map (λ d. Token.Number d) number }
+fn token_of(number: Option<ShortDecimal>) -> Option<ArgoToken>
+    ensures { result ≡ option_map (λ d. ArgoToken.Number d) number }
 {
-    Some(Token::Number(number?))
+    Some(ArgoToken::Number(number?))
 }
 
 // Whether the word is exactly that keyword, in the same case.
@@ -307,68 +307,68 @@ fn is_same(word: &[u8], keyword: &str) -> bool
 }
 
 // The token of a word that is no number.
-fn keyword_token(word: &[u8]) -> Option<Token>
+fn keyword_token(word: &[u8]) -> Option<ArgoToken>
     ensures { result ≡ keyword_token word.now }
 {
     if is_same(word, "result") {
-        Some(Token::ResultWord)
+        Some(ArgoToken::ResultWord)
     } else if is_same(word, "and") {
-        Some(Token::AndSign)
+        Some(ArgoToken::AndSign)
     } else if is_same(word, "or") {
-        Some(Token::OrSign)
+        Some(ArgoToken::OrSign)
     } else if is_same(word, "not") {
-        Some(Token::NotSign)
+        Some(ArgoToken::NotSign)
     } else if is_same(word, "asFloat") {
-        Some(Token::AsFloatWord)
+        Some(ArgoToken::AsFloatWord)
     } else if is_same(word, "asInt") {
-        Some(Token::AsIntWord)
+        Some(ArgoToken::AsIntWord)
     } else if is_same(word, "len") {
-        Some(Token::LenWord)
+        Some(ArgoToken::LenWord)
     } else if is_same(word, "isNaN") {
-        Some(Token::NaNWord)
+        Some(ArgoToken::NaNWord)
     } else if is_same(word, "isInf") {
-        Some(Token::InfWord)
+        Some(ArgoToken::InfWord)
     } else if is_same(word, "default") {
-        Some(Token::DefaultWord)
+        Some(ArgoToken::DefaultWord)
     } else {
         None
     }
 }
 
 // The symbol that two bytes spell together, if they spell one.
-fn long_symbol(first: u8, second: u8) -> Option<Token>
+fn long_symbol(first: u8, second: u8) -> Option<ArgoToken>
     ensures { result ≡ long_symbol first second }
 {
     match (first, second) {
-        (b'=', b'=') => Some(Token::Compares(Comparison::Equal)),
-        (b'!', b'=') => Some(Token::Compares(Comparison::NotEqual)),
-        (b'<', b'=') => Some(Token::Compares(Comparison::AtMost)),
-        (b'>', b'=') => Some(Token::Compares(Comparison::AtLeast)),
-        (b'&', b'&') => Some(Token::AndSign),
-        (b'|', b'|') => Some(Token::OrSign),
+        (b'=', b'=') => Some(ArgoToken::Compares(Comparison::Equal)),
+        (b'!', b'=') => Some(ArgoToken::Compares(Comparison::NotEqual)),
+        (b'<', b'=') => Some(ArgoToken::Compares(Comparison::AtMost)),
+        (b'>', b'=') => Some(ArgoToken::Compares(Comparison::AtLeast)),
+        (b'&', b'&') => Some(ArgoToken::AndSign),
+        (b'|', b'|') => Some(ArgoToken::OrSign),
         _ => None,
     }
 }
 
 // The symbol that one byte spells alone, if it spells one.
-fn short_symbol(byte: u8) -> Option<Token>
+fn short_symbol(byte: u8) -> Option<ArgoToken>
     ensures { result ≡ short_symbol byte }
 {
     match byte {
-        b'<' => Some(Token::Compares(Comparison::Less)),
-        b'>' => Some(Token::Compares(Comparison::Greater)),
-        b'!' => Some(Token::NotSign),
-        b'(' => Some(Token::Open),
-        b')' => Some(Token::Close),
-        b'[' => Some(Token::OpenItem),
-        b']' => Some(Token::CloseItem),
-        b',' => Some(Token::Comma),
+        b'<' => Some(ArgoToken::Compares(Comparison::Less)),
+        b'>' => Some(ArgoToken::Compares(Comparison::Greater)),
+        b'!' => Some(ArgoToken::NotSign),
+        b'(' => Some(ArgoToken::Open),
+        b')' => Some(ArgoToken::Close),
+        b'[' => Some(ArgoToken::OpenItem),
+        b']' => Some(ArgoToken::CloseItem),
+        b',' => Some(ArgoToken::Comma),
         _ => None,
     }
 }
 
 // The symbol at the front, the longest first, and what follows it.
-fn front_symbol(text: &[u8]) -> Option<(Token, &[u8])>
+fn front_symbol(text: &[u8]) -> Option<(ArgoToken, &[u8])>
     ensures { option_map (λ r. (r.0, r.1.now)) result ≡ front_symbol text.now }
 {
     if let [first, second, rest @ ..] = text {
@@ -383,7 +383,7 @@ fn front_symbol(text: &[u8]) -> Option<(Token, &[u8])>
 }
 
 // A token, and what follows it.
-fn before(rest: &[u8], token: Option<Token>) -> Option<(Token, &[u8])>
+fn before(rest: &[u8], token: Option<ArgoToken>) -> Option<(ArgoToken, &[u8])>
     ensures { option_map (λ r. (r.0, r.1.now)) result ≡ before rest.now token }
 {
     Some((token?, rest))
@@ -394,7 +394,7 @@ fn front_number<'a>(
     alloc: Global,
     text: &[u8],
     rest: &'a [u8],
-) -> Result<Option<(Token, &'a [u8])>, Memory>
+) -> Result<Option<(ArgoToken, &'a [u8])>, Memory>
     ensures { IfOk result (λ found. option_map (λ r. (r.0, r.1.now)) found
         ≡ before rest.now (number_token text.now)) }
 {
@@ -403,7 +403,7 @@ fn front_number<'a>(
 }
 
 // The token at the front of a text that begins with no blank, and what follows it.
-fn front_token(alloc: Global, text: &[u8]) -> Result<Option<(Token, &[u8])>, Memory>
+fn front_token(alloc: Global, text: &[u8]) -> Result<Option<(ArgoToken, &[u8])>, Memory>
     ensures { IfOk result (λ found. option_map (λ r. (r.0, r.1.now)) found
         ≡ front_token text.now) }
 {
@@ -427,7 +427,11 @@ fn front_token(alloc: Global, text: &[u8]) -> Result<Option<(Token, &[u8])>, Mem
 
 // The token at the front of what is left of a text, and what follows it; otherwise what stands
 // there.
-fn next_token<'a>(alloc: Global, text: &[u8], rest: &'a [u8]) -> Result<(Token, &'a [u8]), Fault>
+fn next_token<'a>(
+    alloc: Global,
+    text: &[u8],
+    rest: &'a [u8],
+) -> Result<(ArgoToken, &'a [u8]), TranslationFault>
     ensures { IfOk result (λ found. IsFront rest.now found.0 found.1.now) }
 {
     match front_token(alloc, rest)? {
@@ -437,10 +441,10 @@ fn next_token<'a>(alloc: Global, text: &[u8], rest: &'a [u8]) -> Result<(Token, 
 }
 
 // What stands at the front of what is left of a text, and is no token.
-fn fault_at(text: &[u8], rest: &[u8]) -> Fault {
+fn fault_at(text: &[u8], rest: &[u8]) -> TranslationFault {
     let (word, behind) = split_word(rest);
     let at = text.len().saturating_sub(rest.len());
-    Fault::refused(naming::of_text(rest, word, behind), at)
+    TranslationFault::refused(naming::of_text(rest, word, behind), at)
 }
 
 // The byte where a token begins, of which so many stand before it.
@@ -455,7 +459,7 @@ pub(crate) fn place_of(alloc: Global, text: &[u8], tokens: usize) -> usize {
 }
 
 // The tokens of a text.
-pub(crate) fn tokens_of(alloc: Global, text: &[u8]) -> Result<Vec<Token>, Fault>
+pub(crate) fn tokens_of(alloc: Global, text: &[u8]) -> Result<Vec<ArgoToken>, TranslationFault>
     ensures { IfOk result (λ tokens. IsMadeOf text.now tokens.items) }
 {
     let mut tokens = Vec::new(alloc);

@@ -1,7 +1,7 @@
 //! What stands where a condition of Argo Rollouts is not translated. No clause says which refusal
 //! it is; the tests do.
-use crate::condition::{Function, Item, Place, Token};
-use crate::fault::Refusal;
+use crate::condition::{ArgoToken, Function, Item, ResultPart};
+use crate::fault::UnsupportedSyntax;
 use crate::items::after_result;
 
 // Whether the word is exactly that one, in the same case.
@@ -10,21 +10,21 @@ fn is_same(word: &[u8], other: &str) -> bool {
 }
 
 // What a word is, with the byte that follows it.
-fn of_word(word: &[u8], next: Option<u8>) -> Refusal {
+fn of_word(word: &[u8], next: Option<u8>) -> UnsupportedSyntax {
     if word.contains(&b'.') {
-        Refusal::Member
+        UnsupportedSyntax::Member
     } else if is_same(word, "in") {
-        Refusal::In
+        UnsupportedSyntax::In
     } else if is_matching(word) {
-        Refusal::Matching
+        UnsupportedSyntax::Matching
     } else if is_same(word, "true") || is_same(word, "false") {
-        Refusal::Truth
+        UnsupportedSyntax::Truth
     } else if is_same(word, "nil") || is_same(word, "null") {
-        Refusal::Nil
+        UnsupportedSyntax::Nil
     } else if next == Some(b'(') {
-        Refusal::Function
+        UnsupportedSyntax::Function
     } else {
-        Refusal::Name
+        UnsupportedSyntax::Name
     }
 }
 
@@ -37,45 +37,45 @@ fn is_matching(word: &[u8]) -> bool {
 }
 
 // What a sign is.
-fn of_sign(sign: u8) -> Refusal {
+fn of_sign(sign: u8) -> UnsupportedSyntax {
     match sign {
-        b'+' | b'-' | b'*' | b'/' | b'%' | b'^' => Refusal::Arithmetic,
-        b'"' | b'\'' | b'`' => Refusal::Text,
-        b'|' => Refusal::Pipe,
-        b'?' | b':' => Refusal::Choice,
-        b'{' => Refusal::Argument,
-        _ => Refusal::Byte,
+        b'+' | b'-' | b'*' | b'/' | b'%' | b'^' => UnsupportedSyntax::Arithmetic,
+        b'"' | b'\'' | b'`' => UnsupportedSyntax::Text,
+        b'|' => UnsupportedSyntax::Pipe,
+        b'?' | b':' => UnsupportedSyntax::Choice,
+        b'{' => UnsupportedSyntax::Argument,
+        _ => UnsupportedSyntax::Byte,
     }
 }
 
 // What stands at the front of a text, of which this word and what follows it are a part.
-pub(crate) fn of_text(text: &[u8], word: &[u8], rest: &[u8]) -> Refusal {
+pub(crate) fn of_text(text: &[u8], word: &[u8], rest: &[u8]) -> UnsupportedSyntax {
     match text {
-        [b'.' | b'-', b'0'..=b'9', ..] => Refusal::Number,
-        [b'0'..=b'9', ..] => Refusal::Number,
+        [b'.' | b'-', b'0'..=b'9', ..] => UnsupportedSyntax::Number,
+        [b'0'..=b'9', ..] => UnsupportedSyntax::Number,
         [sign, ..] if word.is_empty() => of_sign(*sign),
         _ => of_word(word, rest.first().copied()),
     }
 }
 
 // Whether a token begins a value.
-fn begins_value(token: Token) -> bool {
+fn begins_value(token: ArgoToken) -> bool {
     matches!(
         token,
-        Token::ResultWord
-            | Token::AsFloatWord
-            | Token::AsIntWord
-            | Token::DefaultWord
-            | Token::LenWord
+        ArgoToken::ResultWord
+            | ArgoToken::AsFloatWord
+            | ArgoToken::AsIntWord
+            | ArgoToken::DefaultWord
+            | ArgoToken::LenWord
     )
 }
 
 // What follows the first comparison sign of some tokens, unless `&&`, `||` or `!` comes first.
-fn behind_sign(tokens: &[Token]) -> Option<&[Token]> {
+fn behind_sign(tokens: &[ArgoToken]) -> Option<&[ArgoToken]> {
     for (at, token) in tokens.iter().enumerate() {
         match *token {
-            Token::Compares(_) => return tokens.get(at.saturating_add(1)..),
-            Token::OrSign | Token::AndSign | Token::NotSign => return None,
+            ArgoToken::Compares(_) => return tokens.get(at.saturating_add(1)..),
+            ArgoToken::OrSign | ArgoToken::AndSign | ArgoToken::NotSign => return None,
             _ => {}
         }
     }
@@ -83,16 +83,16 @@ fn behind_sign(tokens: &[Token]) -> Option<&[Token]> {
 }
 
 // Whether a place of a list follows `result`.
-fn has_place(tokens: &[Token]) -> bool {
-    matches!(after_result(tokens).0, Place::Item(_))
+fn has_place(tokens: &[ArgoToken]) -> bool {
+    matches!(after_result(tokens).0, ResultPart::Item(_))
 }
 
 // Whether `default` stands round a place of a list, before `&&`, `||` or `!`.
-fn has_default_of_place(tokens: &[Token]) -> bool {
+fn has_default_of_place(tokens: &[ArgoToken]) -> bool {
     for (at, token) in tokens.iter().enumerate() {
         match *token {
-            Token::DefaultWord => return is_default_of_place(tokens.get(at..)),
-            Token::OrSign | Token::AndSign | Token::NotSign => return false,
+            ArgoToken::DefaultWord => return is_default_of_place(tokens.get(at..)),
+            ArgoToken::OrSign | ArgoToken::AndSign | ArgoToken::NotSign => return false,
             _ => {}
         }
     }
@@ -100,34 +100,40 @@ fn has_default_of_place(tokens: &[Token]) -> bool {
 }
 
 // Whether the first token, a `DefaultWord`, has a place of a list as its first argument.
-fn is_default_of_place(tokens: Option<&[Token]>) -> bool {
+fn is_default_of_place(tokens: Option<&[ArgoToken]>) -> bool {
     match tokens {
-        Some([_, Token::Open, Token::ResultWord, rest @ ..]) => has_place(rest),
+        Some([_, ArgoToken::Open, ArgoToken::ResultWord, rest @ ..]) => has_place(rest),
         _ => false,
     }
 }
 
 // What stands at the front of tokens where a group must begin, after so many others.
-pub(crate) fn of_tokens(tokens: &[Token], others: usize) -> Refusal {
+pub(crate) fn of_tokens(tokens: &[ArgoToken], others: usize) -> UnsupportedSyntax {
     if has_default_of_place(tokens) {
-        return Refusal::DefaultPlace;
+        return UnsupportedSyntax::DefaultPlace;
     }
     match tokens {
-        [Token::Compares(_), ..] if others > 0 => Refusal::Chain,
-        [Token::Number(_), Token::Compares(_), Token::Number(_), ..] => Refusal::TwoNumbers,
-        [Token::ResultWord, Token::OpenItem, ..] if !has_place(&tokens[1..]) => Refusal::Place,
+        [ArgoToken::Compares(_), ..] if others > 0 => UnsupportedSyntax::Chain,
+        [
+            ArgoToken::Number(_),
+            ArgoToken::Compares(_),
+            ArgoToken::Number(_),
+            ..
+        ] => UnsupportedSyntax::TwoNumbers,
+        [ArgoToken::ResultWord, ArgoToken::OpenItem, ..] if !has_place(&tokens[1..]) =>
+            UnsupportedSyntax::Place,
         [first, ..] if begins_value(*first) => of_value(behind_sign(tokens)),
-        _ => Refusal::Comparison,
+        _ => UnsupportedSyntax::Comparison,
     }
 }
 
 // What follows a value and a comparison sign.
-fn of_value(behind: Option<&[Token]>) -> Refusal {
+fn of_value(behind: Option<&[ArgoToken]>) -> UnsupportedSyntax {
     match behind {
-        None => Refusal::Truth,
-        Some([first, ..]) if begins_value(*first) => Refusal::TwoResults,
-        Some([Token::Open, first, ..]) if begins_value(*first) => Refusal::TwoResults,
-        Some(_) => Refusal::Comparison,
+        None => UnsupportedSyntax::Truth,
+        Some([first, ..]) if begins_value(*first) => UnsupportedSyntax::TwoResults,
+        Some([ArgoToken::Open, first, ..]) if begins_value(*first) => UnsupportedSyntax::TwoResults,
+        Some(_) => UnsupportedSyntax::Comparison,
     }
 }
 
@@ -141,8 +147,8 @@ fn tokens_in(item: Item) -> usize {
     match item {
         Item::Compare(test) => {
             let place = match test.look.place {
-                Place::Whole => 3,
-                Place::Item(_) | Place::Length => 6,
+                ResultPart::Whole => 3,
+                ResultPart::Item(_) | ResultPart::Length => 6,
             };
             let function: usize = match test.look.function {
                 Function::Plain => 0,
@@ -154,7 +160,7 @@ fn tokens_in(item: Item) -> usize {
                 .saturating_add(brackets_in(test.look.bracketed))
                 .saturating_add(brackets_in(test.amount.bracketed))
         }
-        Item::NaN(Place::Whole) | Item::Inf(Place::Whole) => 4,
+        Item::NaN(ResultPart::Whole) | Item::Inf(ResultPart::Whole) => 4,
         Item::NaN(_) | Item::Inf(_) => 7,
         _ => 1,
     }

@@ -9,7 +9,7 @@ ghost use Rattle.canary_argo.specs.Translating.{text_of, fits};
 ghost use Rattle.canary_argo.specs.Translating.{skeleton_text, skeleton_of};
 
 use crate::condition::Item;
-use crate::fault::{Fault, Refusal};
+use crate::fault::{TranslationFault, UnsupportedSyntax};
 use crate::form::Form;
 use crate::translating::{DeskAtom, DeskTest, compare_atom, inf_atom, nan_atom, why_not};
 use canary_base::error::Memory;
@@ -119,13 +119,17 @@ fn push_atom(out: &mut String, atom: DeskAtom) -> Result<(), Memory>
 }
 
 // Appends what the desk asks, if there is something.
-fn push_found(out: &mut String, found: Option<DeskAtom>, why: Refusal) -> Result<(), Fault>
+fn push_found(
+    out: &mut String,
+    found: Option<DeskAtom>,
+    why: UnsupportedSyntax,
+) -> Result<(), TranslationFault>
     ensures text { OnOk result
         (string_bytes out.new ≡ string_bytes out.old ++ atom_text found) }
     ensures fits { OnOk result (is_some found ≡ true) }
 {
     let Some(atom) = found else {
-        return Err(Fault::refused(why, 0));
+        return Err(TranslationFault::refused(why, 0));
     };
     push_atom(out, atom)?;
     Ok(())
@@ -146,31 +150,31 @@ fn sign_words(item: Item) -> &'static str
 }
 
 // Appends words.
-fn push_words(out: &mut String, words: &str) -> Result<(), Fault>
+fn push_words(out: &mut String, words: &str) -> Result<(), TranslationFault>
     ensures { OnOk result (string_bytes out.new ≡ string_bytes out.old ++ words.now) }
 {
     match out.push_str(words) {
         Ok(()) => Ok(()),
-        Err(_) => Err(Fault::Memory),
+        Err(_) => Err(TranslationFault::Memory),
     }
 }
 
 // Appends a group.
-fn push_item(out: &mut String, form: Form, item: Item) -> Result<(), Fault>
+fn push_item(out: &mut String, form: Form, item: Item) -> Result<(), TranslationFault>
     ensures text { OnOk result
         (string_bytes out.new ≡ string_bytes out.old ++ item_text form item) }
     ensures fits { OnOk result (fits form item ≡ true) }
 {
     match item {
         Item::Compare(test) => push_found(out, compare_atom(form, test), why_not(form, test)),
-        Item::NaN(place) => push_found(out, nan_atom(form, place), Refusal::Shape),
-        Item::Inf(place) => push_found(out, inf_atom(form, place), Refusal::Shape),
+        Item::NaN(place) => push_found(out, nan_atom(form, place), UnsupportedSyntax::Shape),
+        Item::Inf(place) => push_found(out, inf_atom(form, place), UnsupportedSyntax::Shape),
         sign => push_words(out, sign_words(sign)),
     }
 }
 
 // The text of the desk's condition for these groups.
-pub(crate) fn text_of(alloc: Global, form: Form, items: &[Item]) -> Result<String, Fault>
+pub(crate) fn text_of(alloc: Global, form: Form, items: &[Item]) -> Result<String, TranslationFault>
     ensures text { IfOk result (λ text. string_bytes text ≡ text_of form items.now) }
     ensures fits { IfOk result (λ _. list_all (fits form) items.now ≡ true) }
 {

@@ -14,12 +14,12 @@ ghost use Rattle.canary_argo.specs.Translating.{desk_value, nan_atom, inf_atom, 
 ghost use Rattle.canary_argo.specs.Translating.{is_not_equal, takes_null, except_null, null_by};
 ghost use Rattle.canary_argo.specs.Translating.{with_null, value_test, default_atom, is_value};
 
-use crate::condition::{Amount, Function, Item, Look, Place, Test};
-use crate::fault::Refusal;
-use crate::form::{Form, MOST_VALUES, Shape, has_infinite, has_nan, has_null};
-use crate::lexer::{LEAST_TOO_LONG, is_held};
+use crate::condition::{Amount, Function, Item, Look, ResultPart, Test};
+use crate::fault::UnsupportedSyntax;
+use crate::form::{Form, MAX_VALUES, Shape, has_infinite, has_nan, has_null};
+use crate::lexer::{MIN_TOO_LONG, is_held};
 use canary_condition::condition::{Comparison, Operand};
-use canary_decimal::decimal::{MOST_PLACES, ShortDecimal};
+use canary_decimal::decimal::{MAX_PLACES, ShortDecimal};
 use canary_decimal::shown::{INFINITE, MINUS_INFINITE, NAN, NULL};
 
 // A comparison of a value that is reported with a constant.
@@ -40,17 +40,17 @@ pub(crate) enum DeskAtom {
 }
 
 // The operand for a place, if the shape has it.
-fn desk_place(shape: Shape, place: Place) -> Option<Operand>
+fn desk_place(shape: Shape, place: ResultPart) -> Option<Operand>
     ensures { result ≡ desk_place shape place }
 {
     match (shape, place) {
-        (Shape::One, Place::Whole) => Some(Operand::Whole),
-        (Shape::First, Place::Item(0)) => Some(Operand::Whole),
-        (Shape::Several(most), Place::Item(place)) if place < most && most <= MOST_VALUES => {
+        (Shape::One, ResultPart::Whole) => Some(Operand::Whole),
+        (Shape::First, ResultPart::Item(0)) => Some(Operand::Whole),
+        (Shape::Several(most), ResultPart::Item(place)) if place < most && most <= MAX_VALUES => {
             Some(Operand::Item(place))
         }
-        (Shape::Length(_), Place::Length) => Some(Operand::Item(0)),
-        (Shape::Length(most), Place::Item(place)) if place < most && most < MOST_VALUES => {
+        (Shape::Length(_), ResultPart::Length) => Some(Operand::Item(0)),
+        (Shape::Length(most), ResultPart::Item(place)) if place < most && most < MAX_VALUES => {
             Some(Operand::Item(place + 1))
         }
         _ => None,
@@ -86,7 +86,7 @@ fn in_turn(is_turned: bool, comparison: Comparison) -> Comparison
 fn constant_of(number: ShortDecimal, places: usize) -> Option<i64>
     ensures { result ≡ constant_of number places }
 {
-    if number.places < places && places <= MOST_PLACES {
+    if number.places < places && places <= MAX_PLACES {
         number.to_constant(places)
     } else {
         None
@@ -97,7 +97,7 @@ fn constant_of(number: ShortDecimal, places: usize) -> Option<i64>
 fn length_of(number: ShortDecimal) -> Option<i64>
     ensures { result ≡ length_of number }
 {
-    if number.places == 0 && number.whole.unsigned_abs() < LEAST_TOO_LONG {
+    if number.places == 0 && number.whole.unsigned_abs() < MIN_TOO_LONG {
         Some(number.whole)
     } else {
         None
@@ -105,11 +105,11 @@ fn length_of(number: ShortDecimal) -> Option<i64>
 }
 
 // The constant that a place is compared with.
-fn constant_at(place: Place, number: ShortDecimal, places: usize) -> Option<i64>
+fn constant_at(place: ResultPart, number: ShortDecimal, places: usize) -> Option<i64>
     ensures { result ≡ constant_at place number places }
 {
     match place {
-        Place::Length => length_of(number),
+        ResultPart::Length => length_of(number),
         _ => constant_of(number, places),
     }
 }
@@ -152,10 +152,10 @@ fn guarded(nan: bool, test: Option<DeskTest>) -> Option<DeskAtom>
 }
 
 // Whether a place is no length.
-fn is_value(place: Place) -> bool
+fn is_value(place: ResultPart) -> bool
     ensures { result ≡ is_value place }
 {
-    !matches!(place, Place::Length)
+    !matches!(place, ResultPart::Length)
 }
 
 // What the desk asks for a comparison that is `Plain` or `AsFloat`; none if it has no such
@@ -247,7 +247,7 @@ fn edge_sign(reaches: bool, number: i64) -> Comparison
 
 // The comparison that says whether the value, cut off towards 0, reaches a whole number, or stays
 // below it.
-fn edge_test(reaches: bool, place: Place, number: i64) -> Test
+fn edge_test(reaches: bool, place: ResultPart, number: i64) -> Test
     requires { unsigned_abs number ≤ 10 ^ 15 }
     ensures { result ≡ edge_test reaches place number }
 {
@@ -291,7 +291,7 @@ fn either_test(first: Option<DeskTest>, second: Option<DeskTest>) -> Option<Desk
 }
 
 // The desk's comparison of a value with such a number.
-fn edge(form: Form, reaches: bool, place: Place, number: i64) -> Option<DeskTest>
+fn edge(form: Form, reaches: bool, place: ResultPart, number: i64) -> Option<DeskTest>
     requires { unsigned_abs number ≤ 10 ^ 15 }
     ensures { result ≡ desk_test form (edge_test reaches place number) }
 {
@@ -302,7 +302,7 @@ fn edge(form: Form, reaches: bool, place: Place, number: i64) -> Option<DeskTest
 // above it.
 fn int_asked(
     form: Form,
-    place: Place,
+    place: ResultPart,
     comparison: Comparison,
     from: i64,
     above: i64,
@@ -348,11 +348,11 @@ fn int_atom(form: Form, test: Test) -> Option<DeskAtom>
 }
 
 // The operand for a place that is no length.
-fn desk_value(shape: Shape, place: Place) -> Option<Operand>
+fn desk_value(shape: Shape, place: ResultPart) -> Option<Operand>
     ensures { result ≡ desk_value shape place }
 {
     match place {
-        Place::Length => None,
+        ResultPart::Length => None,
         _ => desk_place(shape, place),
     }
 }
@@ -464,7 +464,7 @@ pub(crate) fn compare_atom(form: Form, test: Test) -> Option<DeskAtom>
 }
 
 // What the desk asks for `isNaN` of a place.
-pub(crate) fn nan_atom(form: Form, place: Place) -> Option<DeskAtom>
+pub(crate) fn nan_atom(form: Form, place: ResultPart) -> Option<DeskAtom>
     ensures { result ≡ nan_atom form place }
 {
     if !has_nan(form.beside) || has_null(form.beside) {
@@ -486,7 +486,7 @@ fn equal_to(operand: Operand, constant: i64) -> DeskTest
 }
 
 // What the desk asks for `isInf` of a place.
-pub(crate) fn inf_atom(form: Form, place: Place) -> Option<DeskAtom>
+pub(crate) fn inf_atom(form: Form, place: ResultPart) -> Option<DeskAtom>
     ensures { result ≡ inf_atom form place }
 {
     if !has_infinite(form.beside) || has_null(form.beside) {
@@ -525,12 +525,12 @@ fn is_beside(form: Form, test: Test) -> bool {
 }
 
 // Why the desk has no comparison for one of Argo's.
-pub(crate) fn why_not(form: Form, test: Test) -> Refusal {
+pub(crate) fn why_not(form: Form, test: Test) -> UnsupportedSyntax {
     match desk_place(form.shape, test.look.place) {
-        None => Refusal::Shape,
-        Some(_) if is_beside(form, test) => Refusal::AsInt,
-        Some(_) if matches!(test.look.place, Place::Length) => Refusal::Fraction,
-        Some(_) => Refusal::Range,
+        None => UnsupportedSyntax::Shape,
+        Some(_) if is_beside(form, test) => UnsupportedSyntax::AsInt,
+        Some(_) if matches!(test.look.place, ResultPart::Length) => UnsupportedSyntax::Fraction,
+        Some(_) => UnsupportedSyntax::Range,
     }
 }
 

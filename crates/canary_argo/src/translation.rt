@@ -20,7 +20,7 @@ ghost use Rattle.canary_condition.specs.Trees.{Tree};
 ghost use Rattle.canary_argo.specs.Translating.{IsTranslated, IsTranslation, skeleton_of};
 
 use crate::condition::Item;
-use crate::fault::{Fault, Finding, Refusal};
+use crate::fault::{SyntaxFinding, TranslationFault, UnsupportedSyntax};
 use crate::form::Form;
 use crate::{items, lexer, naming, printing, translating};
 use canary_condition::condition::Condition;
@@ -28,7 +28,7 @@ use canary_decimal::laws;
 use std::alloc::Global;
 
 // Nothing, if the text is a condition of the desk.
-fn check(alloc: Global, text: &str) -> Result<(), Fault>
+fn check(alloc: Global, text: &str) -> Result<(), TranslationFault>
     ensures { OnOk result ((desk : Tree) × IsConditionText text.now desk) }
 {
     let _condition = Condition::parse(alloc, text)?;
@@ -36,7 +36,7 @@ fn check(alloc: Global, text: &str) -> Result<(), Fault>
 }
 
 // Nothing, if the signs and brackets fit together.
-fn check_signs(alloc: Global, items: &[Item]) -> Result<(), Fault>
+fn check_signs(alloc: Global, items: &[Item]) -> Result<(), TranslationFault>
     ensures { OnOk result ((desk : Tree) × IsConditionText (skeleton_of items.now) desk) }
 {
     let signs = printing::skeleton_of(alloc, items)?;
@@ -44,14 +44,14 @@ fn check_signs(alloc: Global, items: &[Item]) -> Result<(), Fault>
 }
 
 // The desk's condition for these groups. The place of a fault is that of a group.
-fn translated(alloc: Global, form: Form, items: &[Item]) -> Result<String, Fault>
+fn translated(alloc: Global, form: Form, items: &[Item]) -> Result<String, TranslationFault>
     ensures { IfOk result (λ text. IsTranslated items.now form (string_bytes text)) }
 {
     laws::compares_as_decimals();
     laws::short_constants();
     if !items::are_closed(items) {
         let at = naming::place_of_not(items);
-        return Err(Fault::refused(Refusal::NotBeforeComparison, at));
+        return Err(TranslationFault::refused(UnsupportedSyntax::NotBeforeComparison, at));
     }
     check_signs(alloc, items)?;
     let text = printing::text_of(alloc, form, items)?;
@@ -60,28 +60,41 @@ fn translated(alloc: Global, form: Form, items: &[Item]) -> Result<String, Fault
 }
 
 // The group that a fault is about.
-fn place_of(form: Form, items: &[Item], finding: Finding) -> usize {
+fn place_of(form: Form, items: &[Item], finding: SyntaxFinding) -> usize {
     match finding.why {
-        Refusal::Brackets => naming::place_of_misfit(items),
-        Refusal::Shape | Refusal::Range | Refusal::Fraction | Refusal::AsInt =>
-            translating::place_of_unfit(form, items),
+        UnsupportedSyntax::Brackets => naming::place_of_misfit(items),
+        UnsupportedSyntax::Shape
+        | UnsupportedSyntax::Range
+        | UnsupportedSyntax::Fraction
+        | UnsupportedSyntax::AsInt => translating::place_of_unfit(form, items),
         _ => finding.at,
     }
 }
 
 // The fault at the byte of its group.
-fn at_item(alloc: Global, text: &[u8], form: Form, items: &[Item], fault: Fault) -> Fault {
+fn at_item(
+    alloc: Global,
+    text: &[u8],
+    form: Form,
+    items: &[Item],
+    fault: TranslationFault,
+) -> TranslationFault {
     match fault {
-        Fault::Memory => Fault::Memory,
-        Fault::Refused(finding) => {
+        TranslationFault::Memory => TranslationFault::Memory,
+        TranslationFault::Refused(finding) => {
             let tokens = naming::tokens_before(items, place_of(form, items, finding));
-            Fault::refused(finding.why, lexer::place_of(alloc, text, tokens))
+            TranslationFault::refused(finding.why, lexer::place_of(alloc, text, tokens))
         }
     }
 }
 
 // The desk's condition for the groups of a text. The place of a fault is that of a byte.
-fn placed(alloc: Global, text: &[u8], form: Form, items: &[Item]) -> Result<String, Fault>
+fn placed(
+    alloc: Global,
+    text: &[u8],
+    form: Form,
+    items: &[Item],
+) -> Result<String, TranslationFault>
     ensures { IfOk result (λ translated. IsTranslated items.now form (string_bytes translated)) }
 {
     match translated(alloc, form, items) {
@@ -97,7 +110,7 @@ fn placed(alloc: Global, text: &[u8], form: Form, items: &[Item]) -> Result<Stri
 /// # Errors
 /// `Memory` if an allocation was refused; otherwise what the condition has that is not translated,
 /// and at which byte.
-pub fn translate(alloc: Global, text: &str, form: Form) -> Result<String, Fault>
+pub fn translate(alloc: Global, text: &str, form: Form) -> Result<String, TranslationFault>
     ensures { IfOk result (λ translated. IsTranslation text.now form (string_bytes translated)) }
 {
     let text = text.as_bytes();

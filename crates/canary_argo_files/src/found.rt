@@ -1,13 +1,13 @@
 //! What is found in files of manifests.
 use crate::reading::{ArgoFile, Manifests};
 use canary_base::error::Memory;
-use canary_markup::shown::{Form, shown};
+use canary_page_html::shown::{TextKind, shown};
 use serde_json::Value;
 use std::alloc::Global;
 
 /// What keeps a file from being translated, or what has to be known of its translation.
 #[derive(Drop)]
-pub struct Found {
+pub struct FileFinding {
     /// The file, by its place among those that were read.
     pub file: usize,
     /// Where it is, each from 1. A column is a character.
@@ -19,10 +19,10 @@ pub struct Found {
     pub text: String,
 }
 
-impl Found {
+impl FileFinding {
     // A copy of the finding for another list, or `Memory`.
-    fn copy(&self, alloc: Global) -> Result<Found, Memory> {
-        Ok(Found {
+    fn copy(&self, alloc: Global) -> Result<FileFinding, Memory> {
+        Ok(FileFinding {
             file: self.file,
             line: self.line,
             column: self.column,
@@ -35,25 +35,25 @@ impl Found {
     fn add_line(&mut self, alloc: Global, line: &str) -> Result<(), Memory> {
         self.text.push_str("\n")?;
         self.text
-            .push_str(shown(alloc, line, Form::Line)?.as_str())?;
+            .push_str(shown(alloc, line, TextKind::Line)?.as_str())?;
         Ok(())
     }
 }
 
 /// What was found, in turn: 100 findings at most. The others are counted.
 #[derive(Drop)]
-pub struct Findings {
-    pub list: Vec<Found>,
+pub struct FileFindings {
+    pub list: Vec<FileFinding>,
     pub more: u64,
 }
 
 // The most findings that are kept.
 const MOST: usize = 100;
 
-impl Findings {
+impl FileFindings {
     /// Nothing.
-    pub fn new(alloc: Global) -> Findings {
-        Findings {
+    pub fn new(alloc: Global) -> FileFindings {
+        FileFindings {
             list: Vec::new(alloc),
             more: 0,
         }
@@ -75,7 +75,7 @@ impl Findings {
     }
 
     /// Adds one, or counts it; or `Memory`.
-    pub fn add(&mut self, found: Found) -> Result<(), Memory> {
+    pub fn add(&mut self, found: FileFinding) -> Result<(), Memory> {
         if self.has_room() {
             self.list.push(found)?;
         } else {
@@ -85,7 +85,7 @@ impl Findings {
     }
 
     /// Adds all of them, or `Memory`.
-    pub(crate) fn add_all(&mut self, alloc: Global, others: &Findings) -> Result<(), Memory> {
+    pub(crate) fn add_all(&mut self, alloc: Global, others: &FileFindings) -> Result<(), Memory> {
         for found in &others.list {
             self.add(found.copy(alloc)?)?;
         }
@@ -139,10 +139,10 @@ impl Findings {
 fn push_line(
     alloc: Global,
     out: &mut String,
-    found: &Found,
+    found: &FileFinding,
     files: &[ArgoFile],
 ) -> Result<(), Memory> {
-    let name = shown(alloc, name_of(files, found.file), Form::Line)?;
+    let name = shown(alloc, name_of(files, found.file), TextKind::Line)?;
     write!(out, "{name}:{}:{}: ", found.line, found.column)?;
     if !found.path.is_empty() {
         write!(out, "{}: ", found.path.as_str())?;
@@ -156,7 +156,7 @@ fn push_line(
 fn push_object(
     alloc: Global,
     out: &mut String,
-    found: &Found,
+    found: &FileFinding,
     files: &[ArgoFile],
 ) -> Result<(), Memory> {
     write!(out, "{{\"column\":{},\"file\":", found.column)?;

@@ -1,11 +1,11 @@
 //! Where a part of a document stands in its file.
-use crate::found::Found;
+use crate::found::FileFinding;
 use crate::reading::Manifests;
 use canary_base::error::Memory;
 use canary_convert::source::Source;
-use canary_markup::shown::{Form, shown};
-use canary_yaml::fault::Fault as Refusal;
-use canary_yaml::places::{Place, Step, place_of};
+use canary_page_html::shown::{TextKind, shown};
+use canary_yaml::fault::YamlFault as Refusal;
+use canary_yaml::places::{PathStep, Place, place_of};
 use std::alloc::Global;
 
 /// What is found in the document of that place, at that path of it; or `Memory`. What a terminal
@@ -16,7 +16,7 @@ pub(crate) fn found_at(
     source: usize,
     path: &str,
     text: &str,
-) -> Result<Found, Memory> {
+) -> Result<FileFinding, Memory> {
     let Some(document) = manifests.sources.get(source) else {
         return found(alloc, 0, Place { line: 1, column: 1 }, path, text);
     };
@@ -64,14 +64,14 @@ fn found(
     place: Place,
     path: &str,
     text: &str,
-) -> Result<Found, Memory> {
+) -> Result<FileFinding, Memory> {
     let Place { line, column } = place;
-    Ok(Found {
+    Ok(FileFinding {
         file,
         line,
         column,
-        path: shown(alloc, path, Form::Line)?,
-        text: shown(alloc, text, Form::Line)?,
+        path: shown(alloc, path, TextKind::Line)?,
+        text: shown(alloc, text, TextKind::Line)?,
     })
 }
 
@@ -91,7 +91,7 @@ fn place_in(alloc: Global, bytes: &[u8], line: usize, path: &str) -> Result<Plac
 }
 
 // The steps of a path, as `spec.metrics[1].name`.
-fn push_steps<'a>(steps: &mut Vec<Step<'a>>, path: &'a str) -> Result<(), Memory> {
+fn push_steps<'a>(steps: &mut Vec<PathStep<'a>>, path: &'a str) -> Result<(), Memory> {
     for part in path.split('.') {
         push_part(steps, part)?;
     }
@@ -99,14 +99,14 @@ fn push_steps<'a>(steps: &mut Vec<Step<'a>>, path: &'a str) -> Result<(), Memory
 }
 
 // A key, and the places of sequences after it, as `metrics[1]`.
-fn push_part<'a>(steps: &mut Vec<Step<'a>>, part: &'a str) -> Result<(), Memory> {
+fn push_part<'a>(steps: &mut Vec<PathStep<'a>>, part: &'a str) -> Result<(), Memory> {
     for (index, piece) in part.split('[').enumerate() {
         match piece.strip_suffix("]") {
             Some(place) if index > 0 => {
-                steps.push(Step::Entry(place.parse::<usize>().unwrap_or(usize::MAX)))?;
+                steps.push(PathStep::Entry(place.parse::<usize>().unwrap_or(usize::MAX)))?;
             }
             _ if piece.is_empty() => {}
-            _ => steps.push(Step::Key(piece))?,
+            _ => steps.push(PathStep::Key(piece))?,
         }
     }
     Ok(())

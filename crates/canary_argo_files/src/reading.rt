@@ -1,9 +1,9 @@
 //! Reading files of manifests.
-use crate::found::{Findings, Found};
+use crate::found::{FileFinding, FileFindings};
 use canary_base::error::Memory;
 use canary_base::lists::Text;
 use canary_convert::source::Source;
-use canary_yaml::fault::{Fault as Refusal, Why};
+use canary_yaml::fault::{YamlFault as Refusal, YamlProblem};
 use canary_yaml::read::{Document, is_meant_as_json, read_documents};
 use serde_json::Value;
 use std::alloc::Global;
@@ -14,7 +14,7 @@ use std::io::{self, ErrorKind, Read};
 pub const STANDARD_INPUT: &str = "-";
 
 /// The most bytes of a file: 16 MiB. One in YAML has 1 MiB at most.
-pub const MOST_BYTES: usize = 16_777_216;
+pub const MAX_BYTES: usize = 16_777_216;
 
 /// A file that was read.
 #[derive(Drop)]
@@ -29,22 +29,22 @@ pub struct Manifests {
     pub files: Vec<ArgoFile>,
     pub sources: Vec<Source>,
     /// Why a file was not read to its end.
-    pub found: Findings,
+    pub found: FileFindings,
 }
 
 /// Why no files were read.
 #[derive(Clone, Copy, Debug, PartialEq, Eq)]
-pub enum ReadFault {
+pub enum FileReadFault {
     /// An allocation was refused.
     Memory,
     /// The file of this place cannot be opened or read, or has more than 16 MiB.
     File(usize),
 }
 
-impl From<Memory> for ReadFault {
-    // For `?`: a refused allocation is `ReadFault::Memory`.
-    fn from(_: Memory) -> ReadFault {
-        ReadFault::Memory
+impl From<Memory> for FileReadFault {
+    // For `?`: a refused allocation is `FileReadFault::Memory`.
+    fn from(_: Memory) -> FileReadFault {
+        FileReadFault::Memory
     }
 }
 
@@ -57,11 +57,11 @@ pub fn read_files<P: Files + AllocGlobal, R: Read>(
     rt: &P,
     names: &[Text],
     input: &mut R,
-) -> Result<Manifests, ReadFault> {
+) -> Result<Manifests, FileReadFault> {
     let mut manifests = Manifests {
         files: Vec::new(rt.alloc()),
         sources: Vec::new(rt.alloc()),
-        found: Findings::new(rt.alloc()),
+        found: FileFindings::new(rt.alloc()),
     };
     for (index, name) in names.iter().enumerate() {
         let bytes = bytes_of(rt, name.as_str(), input, index)?;
@@ -76,12 +76,12 @@ fn bytes_of<P: Files + AllocGlobal, R: Read>(
     name: &str,
     input: &mut R,
     index: usize,
-) -> Result<Vec<u8>, ReadFault> {
+) -> Result<Vec<u8>, FileReadFault> {
     let mut bytes = Vec::new(rt.alloc());
     match fill(rt, name, input, &mut bytes) {
-        Ok(()) if bytes.len() <= MOST_BYTES => Ok(bytes),
-        Err(error) if error.kind() == ErrorKind::OutOfMemory => Err(ReadFault::Memory),
-        _ => Err(ReadFault::File(index)),
+        Ok(()) if bytes.len() <= MAX_BYTES => Ok(bytes),
+        Err(error) if error.kind() == ErrorKind::OutOfMemory => Err(FileReadFault::Memory),
+        _ => Err(FileReadFault::File(index)),
     }
 }
 
@@ -92,7 +92,7 @@ fn fill<P: Files, R: Read>(
     input: &mut R,
     bytes: &mut Vec<u8>,
 ) -> io::Result<()> {
-    let most = MOST_BYTES as u64 + 1;
+    let most = MAX_BYTES as u64 + 1;
     if name == STANDARD_INPUT {
         input.by_ref().take(most).read_to_end(bytes)?;
         return Ok(());
@@ -106,9 +106,9 @@ impl Manifests {
     fn add(&mut self, alloc: Global, name: &Text, bytes: Vec<u8>) -> Result<(), Memory> {
         let file = self.files.len();
         match documents_of(alloc, bytes.as_slice())? {
-            Reading::Json(value) => self.sources.push(source(file, 1, value))?,
-            Reading::Documents(documents) => self.add_documents(file, documents)?,
-            Reading::Refused(found) => self.found.add(Found { file, ..found })?,
+            FileContent::Json(value) => self.sources.push(source(file, 1, value))?,
+            FileContent::Documents(documents) => self.add_documents(file, documents)?,
+            FileContent::Refused(found) => self.found.add(FileFinding { file, ..found })?,
         }
         let name = name.copy(alloc)?;
         self.files.push(ArgoFile { name, bytes })?;
@@ -135,34 +135,34 @@ fn source(file: usize, line: usize, value: Value) -> Source {
 
 // What a file holds.
 #[derive(Drop)]
-enum Reading {
+enum FileContent {
     Json(Value),
     Documents(Vec<Document>),
     // Neither, for this reason.
-    Refused(Found),
+    Refused(FileFinding),
 }
 
 // Reads the bytes of a file as JSON or, unless they are meant as JSON, as YAML. What is unreadable
 // is a `Refused`, and no error.
-fn documents_of(alloc: Global, bytes: &[u8]) -> Result<Reading, Memory> {
+fn documents_of(alloc: Global, bytes: &[u8]) -> Result<FileContent, Memory> {
     match Value::from_slice(alloc, bytes) {
-        Ok(value) => return Ok(Reading::Json(value)),
+        Ok(value) => return Ok(FileContent::Json(value)),
         Err(fault) if fault.is_memory() => return Err(Memory),
         Err(fault) if is_meant_as_json(bytes) => {
-            return Ok(Reading::Refused(no_json(alloc, fault.line(), fault.column())?));
+            return Ok(FileContent::Refused(no_json(alloc, fault.line(), fault.column())?));
         }
         Err(_) => {}
     }
     match read_documents(alloc, bytes) {
-        Ok(documents) => Ok(Reading::Documents(documents)),
-        Err(why) => Ok(Reading::Refused(refused(alloc, why)?)),
+        Ok(documents) => Ok(FileContent::Documents(documents)),
+        Err(why) => Ok(FileContent::Refused(refused(alloc, why)?)),
     }
 }
 
 // Why a text is not read, in a file that is not known yet.
-fn refused(alloc: Global, why: Refusal) -> Result<Found, Memory> {
+fn refused(alloc: Global, why: Refusal) -> Result<FileFinding, Memory> {
     let (line, column) = place_of(why)?;
-    Ok(Found {
+    Ok(FileFinding {
         file: 0,
         line,
         column,
@@ -181,13 +181,13 @@ fn place_of(why: Refusal) -> Result<(usize, usize), Memory> {
 }
 
 // That what is meant to be JSON is not, at or just before this place.
-fn no_json(alloc: Global, line: usize, column: usize) -> Result<Found, Memory> {
-    Ok(Found {
+fn no_json(alloc: Global, line: usize, column: usize) -> Result<FileFinding, Memory> {
+    Ok(FileFinding {
         file: 0,
         line,
         column,
         path: String::new(alloc),
-        text: String::from_str(alloc, Why::Json.text())?,
+        text: String::from_str(alloc, YamlProblem::Json.text())?,
     })
 }
 

@@ -4,7 +4,7 @@ use crate::reading::Manifests;
 use crate::translated::Translated;
 use canary_base::error::Memory;
 use canary_convert::work::{Made, Planned};
-use canary_markup::shown::{Form, shown};
+use canary_page_html::shown::{TextKind, shown};
 use serde_json::Value;
 use std::alloc::Global;
 
@@ -65,14 +65,14 @@ fn push_condition(
     let Some(condition) = condition.and_then(|condition| condition.as_str()) else {
         return Ok(());
     };
-    let condition = shown(alloc, condition, Form::Line)?;
+    let condition = shown(alloc, condition, TextKind::Line)?;
     write!(text, "    {when}: {condition}\n")?;
     Ok(())
 }
 
 // Who asks whom for a metric.
 fn push_planned(alloc: Global, text: &mut String, planned: &Planned) -> Result<(), Memory> {
-    let kind = shown(alloc, planned.kind.as_str(), Form::Line)?;
+    let kind = shown(alloc, planned.kind.as_str(), TextKind::Line)?;
     let (service, label) = (planned.service.as_str(), planned.label.as_str());
     write!(text, "measure {label} of {service} by {kind}\n")?;
     Ok(())
@@ -96,7 +96,7 @@ pub fn json_of(
     out.push_str(",\"templates\":")?;
     push_manifests(&mut out, counted(translated, &translated.made.templates))?;
     out.push_str("}")?;
-    let mut line = shown(alloc, out.as_str(), Form::Json)?;
+    let mut line = shown(alloc, out.as_str(), TextKind::Json)?;
     line.push_str("\n")?;
     Ok(line)
 }

@@ -2,7 +2,7 @@
 ghost use Rattle.std.specs.Prelude.{◌≡◌, false, IfOk, IsTrue};
 ghost use Rattle.canary_argo_files.specs.Taken.{are_taken};
 
-use crate::found::Findings;
+use crate::found::FileFindings;
 use crate::placing::found_at;
 use crate::reading::Manifests;
 use canary_base::error::Memory;
@@ -21,9 +21,9 @@ pub struct Translated {
     /// What a desk takes, and what is measured. It counts only if nothing is found.
     pub made: Converted,
     /// What keeps them from being translated.
-    pub found: Findings,
+    pub found: FileFindings,
     /// What has to be known of the translation.
-    pub notes: Findings,
+    pub notes: FileFindings,
     // Whether a desk takes each manifest that is made.
     are_taken: bool,
 }
@@ -46,7 +46,7 @@ pub fn translate(alloc: Global, manifests: &Manifests) -> Result<Translated, Mem
         IsTrue t.are_taken → IsTrue (are_taken t.made.services.items)) }
 {
     let made = convert(alloc, sources_of(manifests))?;
-    let mut found = Findings::new(alloc);
+    let mut found = FileFindings::new(alloc);
     found.add_all(alloc, &manifests.found)?;
     add_placed(alloc, &mut found, manifests, made.findings.as_slice())?;
     found.count(made.more_findings);
@@ -55,7 +55,7 @@ pub fn translate(alloc: Global, manifests: &Manifests) -> Result<Translated, Mem
     if is_empty(&made) && found.is_empty() {
         found.add(found_at(alloc, manifests, 0, "", NOTHING)?)?;
     }
-    let mut notes = Findings::new(alloc);
+    let mut notes = FileFindings::new(alloc);
     add_placed(alloc, &mut notes, manifests, made.notes.as_slice())?;
     notes.count(made.more_notes);
     let are_taken = are_taken(alloc, made.templates.as_slice())?
@@ -97,7 +97,7 @@ fn is_empty(made: &Converted) -> bool {
 // Adds what was found in the documents, with its places.
 fn add_placed(
     alloc: Global,
-    list: &mut Findings,
+    list: &mut FileFindings,
     manifests: &Manifests,
     findings: &[Finding],
 ) -> Result<(), Memory> {
@@ -122,7 +122,7 @@ fn text_of(alloc: Global, finding: &Finding) -> Result<String, Memory> {
 // document that it was made of.
 fn add_checked(
     alloc: Global,
-    list: &mut Findings,
+    list: &mut FileFindings,
     manifests: &Manifests,
     made: &[Made],
 ) -> Result<(), Memory> {
@@ -138,7 +138,7 @@ fn add_checked(
 // Adds the findings of these lines. A line that begins with four spaces belongs to the one before.
 fn add_lines(
     alloc: Global,
-    list: &mut Findings,
+    list: &mut FileFindings,
     manifests: &Manifests,
     made: &Made,
     lines: &str,
@@ -158,7 +158,7 @@ fn add_lines(
 // Adds what a line of a check finds.
 fn add_line(
     alloc: Global,
-    list: &mut Findings,
+    list: &mut FileFindings,
     manifests: &Manifests,
     made: &Made,
     line: &str,

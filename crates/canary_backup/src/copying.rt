@@ -26,7 +26,7 @@ use std::os::unix::fs::{MetadataExt, OpenOptionsExt};
 const HEADER_BYTES: u64 = 32;
 
 // The most times that a copy is begun.
-const MOST_TRIES: u32 = 100;
+const MAX_TRIES: u32 = 100;
 
 // Who may read and write a file, of its mode.
 const PERMISSION_BITS: u32 = 0o777;
@@ -182,12 +182,12 @@ fn sync(rt: &HostRuntime, name: &str) -> io::Result<()> {
 
 /// A database, whole in a folder NAME.part-PROCESS-RANDOM of its own, which is to have this name.
 #[derive(Drop)]
-pub struct Part {
+pub struct StagedCopy {
     folder: OwnFolder,
     to: Pair,
 }
 
-impl Part {
+impl StagedCopy {
     /// Copies a file of SQLite, with its log, also while a desk serves it: the copy has each
     /// request that was settled before, and of those that are settled meanwhile the first ones.
     ///
@@ -197,11 +197,11 @@ impl Part {
     /// read or written; `Storage` if the file cannot be reached; `InUse` if the log was begun anew
     /// each time while the file was copied; `Memory` if an allocation was refused. There is no part
     /// then.
-    pub fn of(rt: &HostRuntime, file: &str, copy: &str) -> Result<Part, BackupFault> {
+    pub fn of(rt: &HostRuntime, file: &str, copy: &str) -> Result<StagedCopy, BackupFault> {
         let from = Pair::found(rt, file)?;
         let to = from.other(rt, copy)?;
         let folder = OwnFolder::beside(rt, copy, "part")?.filled(rt, &from)?;
-        Ok(Part { folder, to })
+        Ok(StagedCopy { folder, to })
     }
 
     /// A part in which nothing is yet, of a database beside that of `file`. Whoever makes that
@@ -211,10 +211,10 @@ impl Part {
     /// `File` if there is no such file, if `name` or `name`-wal is there already, if `name` is a
     /// name that a desk uses for that file, or if no folder can be made; `Storage` if the file
     /// cannot be reached; `Memory` if an allocation was refused. There is no part then.
-    pub fn empty(rt: &HostRuntime, file: &str, name: &str) -> Result<Part, BackupFault> {
+    pub fn empty(rt: &HostRuntime, file: &str, name: &str) -> Result<StagedCopy, BackupFault> {
         let to = Pair::found(rt, file)?.other(rt, name)?;
         let folder = OwnFolder::beside(rt, name, "part")?;
-        Ok(Part { folder, to })
+        Ok(StagedCopy { folder, to })
     }
 
     /// The name of the database's own file, of the part.
@@ -285,9 +285,9 @@ impl Part {
 /// Copies the files of a database as they were at one moment, also while a desk writes them.
 ///
 /// # Errors
-/// As `Part::of`: files of the copy's names must not be there.
+/// As `StagedCopy::of`: files of the copy's names must not be there.
 pub(crate) fn copy_pair(rt: &HostRuntime, from: &Pair, to: &Pair) -> Result<(), BackupFault> {
-    for tries in 0..MOST_TRIES {
+    for tries in 0..MAX_TRIES {
         to.begin_anew(rt, tries);
         if is_copied_at_once(rt, from, to)? {
             return Ok(());

@@ -5,7 +5,7 @@
 //! command, and it holds its text. Writing fails by `Memory` alone; reading answers `Unreadable`
 //! only where the text is no command's.
 //!
-//! In use (canary_stored, src/reading.rt):
+//! In use (canary_tables_contents, src/reading.rt):
 //!
 //!     match from_canonical(alloc, spec)? {
 //!         Command::Service(spec) => Ok(spec),

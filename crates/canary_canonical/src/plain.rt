@@ -19,13 +19,13 @@ use serde_json::Value;
 use std::alloc::Global;
 
 /// The greatest number of a run.
-pub const LAST_RUN: u32 = 1_000_000_000;
+pub const MAX_RUN: u32 = 1_000_000_000;
 
 /// The greatest ordinal of a measurement.
-pub const LAST_ORDINAL: u32 = 1_000_000_000;
+pub const MAX_ORDINAL: u32 = 1_000_000_000;
 
 /// The most entries of a report.
-pub const MOST_ENTRIES: usize = 32;
+pub const MAX_ENTRIES: usize = 32;
 
 /// The command of that kind, which is the key of a command's only member: Start, Promote,
 /// PromoteFull, Abort, Retry, Tick or Report. Its objects have exactly the members that they are
@@ -103,7 +103,7 @@ fn report_with(service: Name, run: u32, entries: Listed<Entry>) -> Option<Report
     ensures { result ≡ report_with service run entries }
 {
     let count = entries.as_slice().len();
-    let is_within = 1 <= run && run <= LAST_RUN && 1 <= count && count <= MOST_ENTRIES;
+    let is_within = 1 <= run && run <= MAX_RUN && 1 <= count && count <= MAX_ENTRIES;
     if !is_within {
         return None;
     }
@@ -159,7 +159,7 @@ fn entry_in(alloc: Global, value: &Value) -> Result<Entry, FormFault>
 fn entry_of(metric: Label, ordinal: u32, taken: Moment, outcome: Outcome) -> Option<Entry>
     ensures { result ≡ entry_of metric ordinal taken outcome }
 {
-    let is_within = 1 <= ordinal && ordinal <= LAST_ORDINAL;
+    let is_within = 1 <= ordinal && ordinal <= MAX_ORDINAL;
     if !is_within {
         return None;
     }

@@ -15,8 +15,8 @@ use crate::form::{
 use canary_base::durations::Seconds;
 use canary_base::lists::{Listed, Text};
 use canary_base::names::{Label, Name};
-use canary_metric::metric::GREATEST_LIMIT;
-use canary_plan::analysis::MOST_METRICS;
+use canary_metric::metric::MAX_LIMIT;
+use canary_plan::analysis::MAX_METRICS;
 use canary_plan::template_spec::{DryRunName, MetricSpec, TemplateSpec};
 use serde_json::Value;
 use std::alloc::Global;
@@ -46,7 +46,7 @@ pub fn template_with(
     ensures { result ≡ template_with name metrics dry_run }
 {
     let count = metrics.as_slice().len();
-    let is_within = 1 <= count && count <= MOST_METRICS;
+    let is_within = 1 <= count && count <= MAX_METRICS;
     if !is_within {
         return None;
     }
@@ -133,9 +133,9 @@ pub fn metric_with(
         && is_condition_asked(&failure)
         && is_count(count)
         && is_count(pass_after)
-        && failure_limit <= GREATEST_LIMIT
-        && inconclusive_limit <= GREATEST_LIMIT
-        && consecutive_error_limit <= GREATEST_LIMIT;
+        && failure_limit <= MAX_LIMIT
+        && inconclusive_limit <= MAX_LIMIT
+        && consecutive_error_limit <= MAX_LIMIT;
     if !is_within {
         return None;
     }
@@ -168,7 +168,7 @@ fn is_count(count: Option<u32>) -> bool
     ensures { result ≡ is_count count }
 {
     match count {
-        Some(count) => 1 <= count && count <= GREATEST_LIMIT,
+        Some(count) => 1 <= count && count <= MAX_LIMIT,
         None => true,
     }
 }

@@ -1,7 +1,7 @@
 //! What is found in the body of a request.
+use crate::json_place::JsonPlace;
 use crate::lines::Lines;
 use crate::members::{key_shown, tell_label, tell_members, tell_name};
-use crate::place::Place;
 use crate::report::tell_report;
 use crate::rollout::tell_rollout;
 use crate::template::tell_template;
@@ -29,7 +29,7 @@ pub(crate) fn tell_body(alloc: Global, lines: &mut Lines, body: &Value) -> Resul
 
 // Adds that a body is no object of one member, and for a bare manifest what to write instead.
 fn tell_no_command(alloc: Global, lines: &mut Lines, body: &Value) -> Result<(), Memory> {
-    lines.tell(&Place::root(alloc), "body", BODY)?;
+    lines.tell(&JsonPlace::root(alloc), "body", BODY)?;
     match member_of(body, "kind") {
         Some(_) => lines.instead(MANIFEST),
         None => Ok(()),
@@ -39,15 +39,15 @@ fn tell_no_command(alloc: Global, lines: &mut Lines, body: &Value) -> Result<(),
 // Adds what is found in the value of a command of that kind, or that no command has that kind.
 fn tell_command(alloc: Global, lines: &mut Lines, kind: &str, value: &Value) -> Result<(), Memory> {
     match kind {
-        "template" => tell_template(alloc, lines, &Place::at(alloc, kind)?, value),
-        "service" => tell_service(alloc, lines, &Place::at(alloc, kind)?, value),
-        "start" => tell_start(lines, &Place::at(alloc, kind)?, value),
-        "promote" => tell_named(lines, &Place::at(alloc, kind)?, value),
-        "promoteFull" => tell_named(lines, &Place::at(alloc, kind)?, value),
-        "abort" => tell_named(lines, &Place::at(alloc, kind)?, value),
-        "retry" => tell_named(lines, &Place::at(alloc, kind)?, value),
-        "tick" => tell_named(lines, &Place::at(alloc, kind)?, value),
-        "report" => tell_report(alloc, lines, &Place::at(alloc, kind)?, value),
+        "template" => tell_template(alloc, lines, &JsonPlace::at(alloc, kind)?, value),
+        "service" => tell_service(alloc, lines, &JsonPlace::at(alloc, kind)?, value),
+        "start" => tell_start(lines, &JsonPlace::at(alloc, kind)?, value),
+        "promote" => tell_named(lines, &JsonPlace::at(alloc, kind)?, value),
+        "promoteFull" => tell_named(lines, &JsonPlace::at(alloc, kind)?, value),
+        "abort" => tell_named(lines, &JsonPlace::at(alloc, kind)?, value),
+        "retry" => tell_named(lines, &JsonPlace::at(alloc, kind)?, value),
+        "tick" => tell_named(lines, &JsonPlace::at(alloc, kind)?, value),
+        "report" => tell_report(alloc, lines, &JsonPlace::at(alloc, kind)?, value),
         _ => tell_kind(alloc, lines, kind),
     }
 }
@@ -58,14 +58,14 @@ fn tell_kind(alloc: Global, lines: &mut Lines, kind: &str) -> Result<(), Memory>
         "" => "body",
         key => key,
     };
-    lines.tell(&Place::root(alloc), key, COMMANDS)
+    lines.tell(&JsonPlace::root(alloc), key, COMMANDS)
 }
 
 // Adds what is found in the registration of a service: its version, and its Rollout.
 fn tell_service(
     alloc: Global,
     lines: &mut Lines,
-    place: &Place,
+    place: &JsonPlace,
     value: &Value,
 ) -> Result<(), Memory> {
     tell_members(
@@ -85,7 +85,7 @@ fn tell_service(
 }
 
 // Adds what is found in the start of a release: the service's name, and the new version.
-fn tell_start(lines: &mut Lines, place: &Place, value: &Value) -> Result<(), Memory> {
+fn tell_start(lines: &mut Lines, place: &JsonPlace, value: &Value) -> Result<(), Memory> {
     tell_members(
         lines,
         place,
@@ -98,7 +98,7 @@ fn tell_start(lines: &mut Lines, place: &Place, value: &Value) -> Result<(), Mem
 }
 
 // Adds what is found in a command of a service alone.
-fn tell_named(lines: &mut Lines, place: &Place, value: &Value) -> Result<(), Memory> {
+fn tell_named(lines: &mut Lines, place: &JsonPlace, value: &Value) -> Result<(), Memory> {
     tell_members(lines, place, value, &["service"], "no member but service")?;
     tell_name(lines, place, value, "service")
 }

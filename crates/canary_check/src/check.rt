@@ -11,8 +11,8 @@ ghost use Rattle.canary_check.specs.Waiting.{is_command_attended, is_request_att
 
 use crate::alone::is_command_taken;
 use crate::ignored::warn_of_ignored;
+use crate::json_place::JsonPlace;
 use crate::lines::Lines;
-use crate::place::Place;
 use crate::rollout::tell_rollout;
 use crate::template::tell_template;
 use crate::text::{instead_of_manifest, instead_of_text};
@@ -33,12 +33,12 @@ const DEPTH: &str = "manifest: expected arrays and objects nested at most 125 de
 /// What was found: nothing, or findings; and what is warned of. Contracts see whether nothing was
 /// found, and whether nothing is warned of.
 #[derive(Drop)]
-pub struct Findings {
+pub struct CheckReport {
     lines: Option<String>,
     warnings: Option<String>,
 }
 
-impl Model for Findings {
+impl Model for CheckReport {
     ghost use Rattle.std.specs.Prelude.{◌<◌, IfSome, is_none, length, string_bytes};
     ghost use Rattle.canary_check.specs.Taken.{Found};
 
@@ -50,7 +50,7 @@ impl Model for Findings {
         × IfSome f.warnings (λ lines. 3 < length (string_bytes lines)) };
 }
 
-impl Findings {
+impl CheckReport {
     /// Whether the desk takes what was checked.
     pub fn is_ok(&self) -> bool
         ensures { result ≡ self.now.is_taken }
@@ -81,30 +81,30 @@ impl Findings {
     }
 
     /// The same, where each warning is a finding, after the others; or `Memory`.
-    pub fn strict(self, alloc: Global) -> Result<Findings, Memory>
+    pub fn strict(self, alloc: Global) -> Result<CheckReport, Memory>
         ensures taken { IfOk result (λ found.
             found.is_taken ≡ (self.is_taken && self.is_quiet)) }
         ensures quiet { IfOk result (λ found. IsTrue found.is_quiet) }
     {
-        let Findings { lines, warnings } = self;
+        let CheckReport { lines, warnings } = self;
         let lines = match (lines, warnings) {
             (None, warnings) => warnings,
             (Some(lines), None) => Some(lines),
             (Some(lines), Some(warnings)) => Some(joined(lines, warnings)?),
         };
-        Ok(Findings {
+        Ok(CheckReport {
             lines,
             warnings: None,
         })
     }
 
     // Nothing but these warnings.
-    pub(crate) fn none(warnings: Option<String>) -> Findings
+    pub(crate) fn none(warnings: Option<String>) -> CheckReport
         requires { IfSome warnings (λ lines. 3 < length (string_bytes lines)) }
         ensures taken { IsTrue result.is_taken }
         ensures quiet { result.is_quiet ≡ is_none warnings }
     {
-        Findings {
+        CheckReport {
             lines: None,
             warnings,
         }
@@ -137,7 +137,7 @@ fn joined(lines: String, others: String) -> Result<String, Memory>
 /// # Errors
 /// `Memory` where an allocation was refused.
 #[tactic(auto, using(crate::proofs::Texts::json_is, crate::proofs::Texts::json_is_none, crate::proofs::Texts::attended_is, crate::proofs::Texts::attended_is_none))]
-pub fn check(alloc: Global, text: &[u8]) -> Result<Findings, Memory>
+pub fn check(alloc: Global, text: &[u8]) -> Result<CheckReport, Memory>
     ensures taken { IfOk result (λ findings. findings.is_taken ≡ is_taken text.now) }
     ensures attended { IfOk result (λ findings.
         IsTrue findings.is_quiet → IsTrue (is_attended text.now)) }
@@ -155,7 +155,7 @@ pub(crate) fn no_json(
     text: &[u8],
     fault: &Error,
     warned: Lines,
-) -> Result<Findings, Memory>
+) -> Result<CheckReport, Memory>
     ensures taken { IfOk result (λ findings. findings.is_taken ≡ false) }
     ensures quiet { IfOk result (λ findings.
         IsTrue findings.is_quiet → warned.told ≡ 0) }
@@ -176,7 +176,7 @@ fn tell_instead(lines: &mut Lines, what: Option<&str>) -> Result<(), Memory> {
 }
 
 // What is found in a manifest, by its kind; `text` is what it was read from.
-fn check_manifest(alloc: Global, text: &[u8], manifest: &Value) -> Result<Findings, Memory>
+fn check_manifest(alloc: Global, text: &[u8], manifest: &Value) -> Result<CheckReport, Memory>
     ensures taken { IfOk result
         (λ findings. findings.is_taken ≡ is_manifest_taken text.now (view manifest.now)) }
     ensures attended { IfOk result (λ findings.
@@ -192,11 +192,15 @@ fn check_manifest(alloc: Global, text: &[u8], manifest: &Value) -> Result<Findin
 }
 
 // What is found in a manifest of another kind.
-fn other_kind(alloc: Global, manifest: &Value) -> Result<Findings, Memory>
+fn other_kind(alloc: Global, manifest: &Value) -> Result<CheckReport, Memory>
     ensures { IfOk result (λ findings. findings.is_taken ≡ false) }
 {
     let mut lines = Lines::new(alloc);
-    lines.tell(&Place::root(alloc), "kind", "AnalysisTemplate or Rollout")?;
+    lines.tell(
+        &JsonPlace::root(alloc),
+        "kind",
+        "AnalysisTemplate or Rollout",
+    )?;
     tell_instead(&mut lines, instead_of_manifest(manifest))?;
     found(alloc, lines, DEPTH, None)
 }
@@ -223,16 +227,16 @@ pub(crate) fn has_in_spec(manifest: &Value, key: &str) -> bool
 }
 
 // What is found in an AnalysisTemplate. Its members are looked at if its body is not taken.
-fn check_template(alloc: Global, text: &[u8], manifest: &Value) -> Result<Findings, Memory>
+fn check_template(alloc: Global, text: &[u8], manifest: &Value) -> Result<CheckReport, Memory>
     ensures { IfOk result (λ findings.
         findings.is_taken ≡ is_reading_taken (body_reading (template_body text.now))) }
 {
     let warnings = template_warnings(alloc, text, manifest)?;
     if is_body_taken(alloc, "{\"template\":", text, "}")? {
-        return Ok(Findings::none(warnings));
+        return Ok(CheckReport::none(warnings));
     }
     let mut lines = Lines::new(alloc);
-    tell_template(alloc, &mut lines, &Place::root(alloc), manifest)?;
+    tell_template(alloc, &mut lines, &JsonPlace::root(alloc), manifest)?;
     found(alloc, lines, DEPTH, warnings)
 }
 
@@ -242,12 +246,12 @@ fn template_warnings(alloc: Global, text: &[u8], manifest: &Value) -> Result<Opt
 {
     let mut lines = Lines::new(alloc);
     warn_of_length(alloc, &mut lines, "manifest", text.len())?;
-    warn_of_template(alloc, &mut lines, &Place::root(alloc), manifest)?;
+    warn_of_template(alloc, &mut lines, &JsonPlace::root(alloc), manifest)?;
     lines.warnings(alloc)
 }
 
 // What is found in a Rollout, by the body that registers it under some version.
-fn check_rollout(alloc: Global, text: &[u8], manifest: &Value) -> Result<Findings, Memory>
+fn check_rollout(alloc: Global, text: &[u8], manifest: &Value) -> Result<CheckReport, Memory>
     ensures taken { IfOk result (λ findings.
         findings.is_taken ≡ is_reading_taken (body_reading (service_body text.now))) }
     ensures attended { IfOk result (λ findings.
@@ -255,7 +259,7 @@ fn check_rollout(alloc: Global, text: &[u8], manifest: &Value) -> Result<Finding
 {
     let mut lines = Lines::new(alloc);
     warn_of_length(alloc, &mut lines, "manifest", text.len())?;
-    warn_of_ignored(alloc, &mut lines, &Place::root(alloc), manifest)?;
+    warn_of_ignored(alloc, &mut lines, &JsonPlace::root(alloc), manifest)?;
     let front = "{\"service\":{\"version\":\"v1\",\"manifest\":";
     let body = body_of(alloc, front, text, "}}")?;
     check_service(alloc, manifest, body.as_slice(), lines)
@@ -267,7 +271,7 @@ fn check_service(
     manifest: &Value,
     body: &[u8],
     warned: Lines,
-) -> Result<Findings, Memory>
+) -> Result<CheckReport, Memory>
     ensures taken { IfOk result (λ findings.
         findings.is_taken ≡ is_reading_taken (body_reading body.now)) }
     ensures attended { IfOk result (λ findings.
@@ -287,28 +291,28 @@ fn check_command(
     manifest: &Value,
     command: &Command,
     mut warned: Lines,
-) -> Result<Findings, Memory>
+) -> Result<CheckReport, Memory>
     ensures taken { IfOk result (λ findings.
         findings.is_taken ≡ is_command_taken command.now) }
     ensures attended { IfOk result (λ findings.
         IsTrue findings.is_quiet → IsTrue (is_command_attended command.now)) }
 {
-    warn_of_command(alloc, &mut warned, &Place::root(alloc), command)?;
+    warn_of_command(alloc, &mut warned, &JsonPlace::root(alloc), command)?;
     if is_command_taken(alloc, command)? {
-        return Ok(Findings::none(warned.warnings(alloc)?));
+        return Ok(CheckReport::none(warned.warnings(alloc)?));
     }
     rollout_found(alloc, manifest, warned)
 }
 
 // What is found in a Rollout that is not taken.
-fn rollout_found(alloc: Global, manifest: &Value, warned: Lines) -> Result<Findings, Memory>
+fn rollout_found(alloc: Global, manifest: &Value, warned: Lines) -> Result<CheckReport, Memory>
     ensures taken { IfOk result (λ findings. findings.is_taken ≡ false) }
     ensures quiet { IfOk result (λ findings.
         IsTrue findings.is_quiet → warned.told ≡ 0) }
 {
     let warnings = warned.warnings(alloc)?;
     let mut lines = Lines::new(alloc);
-    tell_rollout(alloc, &mut lines, &Place::root(alloc), manifest)?;
+    tell_rollout(alloc, &mut lines, &JsonPlace::root(alloc), manifest)?;
     found(alloc, lines, DEPTH, warnings)
 }
 
@@ -318,14 +322,14 @@ pub(crate) fn found(
     lines: Lines,
     general: &str,
     warnings: Option<String>,
-) -> Result<Findings, Memory>
+) -> Result<CheckReport, Memory>
     requires general { 3 < length general.now }
     requires warnings { IfSome warnings (λ lines. 3 < length (string_bytes lines)) }
     ensures taken { IfOk result (λ findings. findings.is_taken ≡ false) }
     ensures quiet { IfOk result (λ findings. findings.is_quiet ≡ is_none warnings) }
 {
     let text = lines.finish(alloc, general)?;
-    Ok(Findings {
+    Ok(CheckReport {
         lines: Some(text),
         warnings,
     })

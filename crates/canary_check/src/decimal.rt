@@ -9,11 +9,11 @@ use canary_manifest::member::member_of;
 use serde_json::Value;
 
 // A number of so many digits, and three more, fits 64 bits with a sign.
-const MOST_DIGITS: usize = 15;
+const MAX_DIGITS: usize = 15;
 
 /// A decimal number of a condition.
 #[derive(Clone, Copy)]
-pub(crate) struct Decimal<'a> {
+pub(crate) struct DecimalLiteral<'a> {
     /// The digits before its point, if it has any.
     whole: &'a str,
     /// The digits behind its point.
@@ -22,7 +22,7 @@ pub(crate) struct Decimal<'a> {
 
 /// The numbers of a metric's conditions, which are to be scaled alike.
 #[derive(Clone, Copy)]
-pub(crate) struct Numbers {
+pub(crate) struct ConditionNumbers {
     /// How many there are, but for the places of a list.
     count: usize,
     /// The most digits that one of them has behind its point.
@@ -30,7 +30,7 @@ pub(crate) struct Numbers {
 }
 
 /// The decimal number at whose point a text stops being a condition, if it does so there.
-pub(crate) fn decimal_at(text: &str, explained: Explained) -> Option<Decimal<'_>> {
+pub(crate) fn decimal_at(text: &str, explained: Explained) -> Option<DecimalLiteral<'_>> {
     let (front, behind) = text.split_once('.')?;
     if !matches!(explained.why, Why::NoToken) || front.len() != explained.at as usize {
         return None;
@@ -39,13 +39,13 @@ pub(crate) fn decimal_at(text: &str, explained: Explained) -> Option<Decimal<'_>
     let after = behind.trim_start_matches(is_digit);
     let whole = front.strip_prefix(before)?;
     let part = behind.strip_suffix(after)?;
-    if whole.len() > MOST_DIGITS || part.is_empty() || goes_on(after) {
+    if whole.len() > MAX_DIGITS || part.is_empty() || goes_on(after) {
         return None;
     }
     if whole.is_empty() && ends_operand(before.as_bytes().trim_ascii_end()) {
         return None;
     }
-    Some(Decimal { whole, part })
+    Some(DecimalLiteral { whole, part })
 }
 
 // Whether it is one of 0 to 9: the pattern by which digits are trimmed.
@@ -66,10 +66,10 @@ fn is_number_byte(byte: u8) -> bool {
     is_word_byte(byte) || byte == b'.'
 }
 
-impl<'a> Decimal<'a> {
+impl<'a> DecimalLiteral<'a> {
     /// Adds to the last finding what to write in its place, in conditions that have these numbers;
     /// or `Memory`.
-    pub(crate) fn tell(self, lines: &mut Lines, numbers: Numbers) -> Result<(), Memory> {
+    pub(crate) fn tell(self, lines: &mut Lines, numbers: ConditionNumbers) -> Result<(), Memory> {
         match unit_of(numbers.decimals) {
             Some(unit) => self.tell_in(lines, unit, numbers),
             None => lines.instead(forms::DECIMAL),
@@ -77,7 +77,12 @@ impl<'a> Decimal<'a> {
     }
 
     // Adds the number as it is in that unit, and that other numbers for that result are in it, too.
-    fn tell_in(self, lines: &mut Lines, unit: &'a str, numbers: Numbers) -> Result<(), Memory> {
+    fn tell_in(
+        self,
+        lines: &mut Lines,
+        unit: &'a str,
+        numbers: ConditionNumbers,
+    ) -> Result<(), Memory> {
         let (whole, part, zeros) = self.without_point(numbers.decimals);
         let (others, in_unit) = match numbers.count {
             0 | 1 => ("", ""),
@@ -134,10 +139,10 @@ fn zeros(count: usize) -> &'static str {
 }
 
 /// The numbers of a metric's conditions.
-pub(crate) fn numbers_of(metric: &Value) -> Numbers {
+pub(crate) fn numbers_of(metric: &Value) -> ConditionNumbers {
     let success = text_at(metric, "successCondition");
     let failure = text_at(metric, "failureCondition");
-    Numbers {
+    ConditionNumbers {
         count: count_in(success).saturating_add(count_in(failure)),
         decimals: decimals_in(success).max(decimals_in(failure)),
     }

@@ -2,7 +2,7 @@
 use canary_base::error::Memory;
 
 // The most bytes of the text that are shown, and how many of them stand before the caret.
-const MOST_BYTES: usize = 60;
+const MAX_BYTES: usize = 60;
 
 const BEFORE: usize = 30;
 
@@ -13,9 +13,9 @@ const CUT: &str = "...";
 /// Adds the text, or what stands round that byte, and a line with a caret under the byte; or
 /// `Memory`. A byte that is no printable ASCII is shown as `?`, so each takes one column.
 pub(crate) fn write_excerpt(out: &mut String, text: &[u8], at: usize) -> Result<(), Memory> {
-    let last_start = text.len().saturating_sub(MOST_BYTES);
+    let last_start = text.len().saturating_sub(MAX_BYTES);
     let from = at.saturating_sub(BEFORE).min(last_start);
-    let to = from.saturating_add(MOST_BYTES).min(text.len());
+    let to = from.saturating_add(MAX_BYTES).min(text.len());
     let cut_before = if from > 0 { CUT } else { "" };
     let cut_after = if to < text.len() { CUT } else { "" };
     push_spaces(out, MARGIN)?;
@@ -23,7 +23,7 @@ pub(crate) fn write_excerpt(out: &mut String, text: &[u8], at: usize) -> Result<
     push_shown(out, text.get(from..to).unwrap_or(&[]))?;
     out.push_str(cut_after)?;
     out.push_str("\n")?;
-    let column = at.saturating_sub(from).min(MOST_BYTES);
+    let column = at.saturating_sub(from).min(MAX_BYTES);
     push_spaces(out, MARGIN + cut_before.len())?;
     push_spaces(out, column)?;
     out.push_str("^\n")?;

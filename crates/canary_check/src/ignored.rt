@@ -1,7 +1,7 @@
 //! Members of a Rollout that the desk ignores, though they change in Argo Rollouts what becomes of
 //! a release. docs/API.md has the whole list, and which of them do no harm.
+use crate::json_place::JsonPlace;
 use crate::lines::Lines;
-use crate::place::Place;
 use canary_base::error::Memory;
 use canary_manifest::member::{is_true, member_of};
 use canary_manifest::rollout::canary_of;
@@ -83,7 +83,7 @@ const ROUTING: [Ignored; 1] = [Ignored {
 pub(crate) fn warn_of_ignored(
     alloc: Global,
     lines: &mut Lines,
-    place: &Place,
+    place: &JsonPlace,
     manifest: &Value,
 ) -> Result<(), Memory> {
     if let Some(spec) = member_of(manifest, "spec") {
@@ -103,7 +103,7 @@ pub(crate) fn warn_of_ignored(
 fn warn_of_routing(
     alloc: Global,
     lines: &mut Lines,
-    canary_place: &Place,
+    canary_place: &JsonPlace,
     canary: &Value,
 ) -> Result<(), Memory> {
     match member_of(canary, "trafficRouting") {
@@ -118,7 +118,7 @@ fn warn_of_routing(
 // Warns of each of these members that the object has, if what it holds means something.
 fn warn_of_each(
     lines: &mut Lines,
-    place: &Place,
+    place: &JsonPlace,
     value: &Value,
     known: &[Ignored],
 ) -> Result<(), Memory> {

@@ -2,10 +2,10 @@
 //! each member that it would not read, or would refuse, where the member stands and what is
 //! expected there.
 //!
-//! Callers may rest on this: `Findings` are ok, and their text is `ok`, exactly where the desk
+//! Callers may rest on this: `CheckReport` are ok, and their text is `ok`, exactly where the desk
 //! reads the manifest, as the body of a command, or the body itself, and refuses nothing that it
 //! holds itself (`Memory` aside). If nothing is warned of, no service is registered that time alone
-//! brings to 100 percent. No contract says which other warnings `Findings` have.
+//! brings to 100 percent. No contract says which other warnings `CheckReport` have.
 //!
 //! In use (canary_cli, src/check.rt):
 //!
@@ -24,10 +24,10 @@ mod excerpt;
 mod forms;
 mod ignored;
 mod instead;
+mod json_place;
 mod lines;
 mod members;
 mod metric;
-mod place;
 mod report;
 pub mod request;
 mod rollout;

@@ -6,11 +6,11 @@
 ghost use Rattle.std.specs.Prelude.{◌≡◌, ◌<◌, IfOk, IfSome, IsTrue, is_none, length, string_bytes};
 
 use crate::excerpt::write_excerpt;
-use crate::place::Place;
+use crate::json_place::JsonPlace;
 use canary_base::error::Memory;
 use std::alloc::Global;
 
-const MOST_FINDINGS_SHOWN: u32 = 100;
+const MAX_FINDINGS_SHOWN: u32 = 100;
 
 // Of warnings without a line, which are none.
 const NO_LINE: &str = "a warning\n";
@@ -41,7 +41,7 @@ impl Lines {
 
     /// Adds what is expected under a key of the object there, or with an empty key of the object
     /// itself; or `Memory`.
-    pub(crate) fn tell(&mut self, place: &Place, key: &str, what: &str) -> Result<(), Memory> {
+    pub(crate) fn tell(&mut self, place: &JsonPlace, key: &str, what: &str) -> Result<(), Memory> {
         if !self.has_room() {
             return Ok(());
         }
@@ -52,7 +52,7 @@ impl Lines {
     /// The same of a member that is not there.
     pub(crate) fn tell_missing(
         &mut self,
-        place: &Place,
+        place: &JsonPlace,
         key: &str,
         what: &str,
     ) -> Result<(), Memory> {
@@ -67,7 +67,7 @@ impl Lines {
     pub(crate) fn tell_byte(
         &mut self,
         alloc: Global,
-        place: &Place,
+        place: &JsonPlace,
         key: &str,
         byte: u32,
         what: &str,
@@ -126,7 +126,7 @@ impl Lines {
 
     /// Adds a warning of the member under a key of the object there, or with an empty key of the
     /// object itself; or `Memory`.
-    pub(crate) fn warn(&mut self, place: &Place, key: &str, what: &str) -> Result<(), Memory>
+    pub(crate) fn warn(&mut self, place: &JsonPlace, key: &str, what: &str) -> Result<(), Memory>
         ensures { 0 < self.new.told }
     {
         if !self.has_room() {
@@ -175,7 +175,7 @@ impl Lines {
     fn has_room(&mut self) -> bool
         ensures { 0 < self.new.told }
     {
-        if self.told < MOST_FINDINGS_SHOWN {
+        if self.told < MAX_FINDINGS_SHOWN {
             self.told += 1;
             return true;
         }

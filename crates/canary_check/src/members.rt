@@ -1,6 +1,6 @@
 //! What is found in the members of any object.
+use crate::json_place::JsonPlace;
 use crate::lines::Lines;
-use crate::place::Place;
 use canary_base::error::Memory;
 use canary_base::names::Label;
 use canary_canonical::form::{label_at, name_at};
@@ -25,7 +25,7 @@ pub(crate) fn key_shown(key: &str) -> &str {
 /// members that lack are told elsewhere.
 pub(crate) fn tell_members(
     lines: &mut Lines,
-    place: &Place,
+    place: &JsonPlace,
     value: &Value,
     known: &[&str],
     what: &str,
@@ -39,7 +39,7 @@ pub(crate) fn tell_members(
 // The same of these members of an object. A key that is no label is not shown.
 fn tell_foreign(
     lines: &mut Lines,
-    place: &Place,
+    place: &JsonPlace,
     members: &Map<String, Value>,
     known: &[&str],
     what: &str,
@@ -60,7 +60,7 @@ fn is_known(known: &[&str], key: &str) -> bool {
 /// Adds what is expected under that key, and if nothing is there, that it is missing; or `Memory`.
 pub(crate) fn tell_wrong(
     lines: &mut Lines,
-    place: &Place,
+    place: &JsonPlace,
     value: &Value,
     key: &str,
     what: &str,
@@ -74,7 +74,7 @@ pub(crate) fn tell_wrong(
 /// Adds that the member of that key is no name, or `Memory`.
 pub(crate) fn tell_name(
     lines: &mut Lines,
-    place: &Place,
+    place: &JsonPlace,
     value: &Value,
     key: &str,
 ) -> Result<(), Memory> {
@@ -87,7 +87,7 @@ pub(crate) fn tell_name(
 /// Adds that the member of that key is no label, or `Memory`.
 pub(crate) fn tell_label(
     lines: &mut Lines,
-    place: &Place,
+    place: &JsonPlace,
     value: &Value,
     key: &str,
 ) -> Result<(), Memory> {

@@ -2,9 +2,9 @@
 use crate::condition::expected;
 use crate::decimal::{decimal_at, numbers_of};
 use crate::instead::instead;
+use crate::json_place::JsonPlace;
 use crate::lines::Lines;
 use crate::members::{LABEL, tell_wrong};
-use crate::place::Place;
 use crate::trial::refusal_of_times;
 use canary_base::error::Memory;
 use canary_base::names::Label;
@@ -30,7 +30,7 @@ pub(crate) fn metric_name(metric: &Value) -> Option<Label> {
 pub(crate) fn tell_metric(
     alloc: Global,
     lines: &mut Lines,
-    place: &Place,
+    place: &JsonPlace,
     metric: &Value,
 ) -> Result<(), Memory> {
     if metric_name(metric).is_none() {
@@ -46,7 +46,7 @@ pub(crate) fn tell_metric(
 fn tell_condition(
     alloc: Global,
     lines: &mut Lines,
-    place: &Place,
+    place: &JsonPlace,
     metric: &Value,
     key: &str,
 ) -> Result<(), Memory> {
@@ -62,7 +62,7 @@ fn tell_condition(
 fn tell_text(
     alloc: Global,
     lines: &mut Lines,
-    place: &Place,
+    place: &JsonPlace,
     metric: &Value,
     key: &str,
     text: &str,
@@ -85,7 +85,7 @@ fn tell_text(
 fn tell_times(
     alloc: Global,
     lines: &mut Lines,
-    place: &Place,
+    place: &JsonPlace,
     metric: &Value,
 ) -> Result<(), Memory> {
     if duration_at(metric, "interval").is_none() {
@@ -119,7 +119,7 @@ fn needs_interval(alloc: Global, metric: &Value) -> Result<bool, Memory> {
 }
 
 // Adds which limits of a metric are invalid, and which the desk does not support.
-fn tell_limits(lines: &mut Lines, place: &Place, metric: &Value) -> Result<(), Memory> {
+fn tell_limits(lines: &mut Lines, place: &JsonPlace, metric: &Value) -> Result<(), Memory> {
     if member_of(metric, "failureLimit").is_some_and(is_negative) {
         lines.tell(place, "failureLimit", "no limit below 0 (unsupported)")?;
     } else {
@@ -138,7 +138,12 @@ fn tell_limits(lines: &mut Lines, place: &Place, metric: &Value) -> Result<(), M
 }
 
 // Adds that the limit under that key is invalid; an absent one is fine.
-fn tell_limit(lines: &mut Lines, place: &Place, metric: &Value, key: &str) -> Result<(), Memory> {
+fn tell_limit(
+    lines: &mut Lines,
+    place: &JsonPlace,
+    metric: &Value,
+    key: &str,
+) -> Result<(), Memory> {
     match limit_at(metric, key, 0) {
         Some(_) => Ok(()),
         None => lines.tell(place, key, LIMIT),

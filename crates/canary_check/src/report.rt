@@ -1,11 +1,11 @@
 //! What is found in a report.
+use crate::json_place::JsonPlace;
 use crate::lines::Lines;
 use crate::members::{tell_label, tell_members, tell_name};
-use crate::place::Place;
 use canary_base::error::Memory;
 use canary_canonical::form::{label_at, moment_in, number_at};
-use canary_canonical::plain::MOST_ENTRIES;
-use canary_condition::outcome::{MOST_FAILURE_BYTES, MOST_VALUES};
+use canary_canonical::plain::MAX_ENTRIES;
+use canary_condition::outcome::{MAX_FAILURE_BYTES, MAX_VALUES};
 use serde_json::Value;
 use std::alloc::Global;
 
@@ -32,7 +32,7 @@ const FAILURE: &str = "a text of 1 to 200 bytes";
 pub(crate) fn tell_report(
     alloc: Global,
     lines: &mut Lines,
-    place: &Place,
+    place: &JsonPlace,
     value: &Value,
 ) -> Result<(), Memory> {
     tell_members(lines, place, value, &["service", "run", "entries"], MEMBERS)?;
@@ -45,7 +45,12 @@ pub(crate) fn tell_report(
 }
 
 // Adds that no number from 1 to 1,000,000,000 is under that key.
-fn tell_number(lines: &mut Lines, place: &Place, value: &Value, key: &str) -> Result<(), Memory> {
+fn tell_number(
+    lines: &mut Lines,
+    place: &JsonPlace,
+    value: &Value,
+    key: &str,
+) -> Result<(), Memory> {
     match number_at(value, key, GREATEST) {
         Some(number) if number > 0 => Ok(()),
         _ => lines.tell(place, key, NUMBER),
@@ -56,10 +61,10 @@ fn tell_number(lines: &mut Lines, place: &Place, value: &Value, key: &str) -> Re
 fn tell_entries(
     alloc: Global,
     lines: &mut Lines,
-    place: &Place,
+    place: &JsonPlace,
     list: &Vec<Value>,
 ) -> Result<(), Memory> {
-    if list.is_empty() || list.len() > MOST_ENTRIES {
+    if list.is_empty() || list.len() > MAX_ENTRIES {
         lines.tell(place, "entries", ENTRIES)?;
     }
     for (index, entry) in list.iter().enumerate() {
@@ -71,7 +76,7 @@ fn tell_entries(
 }
 
 // Adds what is found in an entry by itself.
-fn tell_entry(lines: &mut Lines, place: &Place, entry: &Value) -> Result<(), Memory> {
+fn tell_entry(lines: &mut Lines, place: &JsonPlace, entry: &Value) -> Result<(), Memory> {
     tell_members(
         lines,
         place,
@@ -92,7 +97,7 @@ fn tell_entry(lines: &mut Lines, place: &Place, entry: &Value) -> Result<(), Mem
 }
 
 // Adds that a result is invalid, and what to report instead.
-fn tell_result(lines: &mut Lines, place: &Place, measured: &Value) -> Result<(), Memory> {
+fn tell_result(lines: &mut Lines, place: &JsonPlace, measured: &Value) -> Result<(), Memory> {
     if is_result(measured) {
         return Ok(());
     }
@@ -108,7 +113,7 @@ fn is_result(measured: &Value) -> bool {
     match measured.as_array() {
         Some(list) => {
             !list.is_empty()
-                && list.len() <= MOST_VALUES
+                && list.len() <= MAX_VALUES
                 && list.iter().all(|item| item.as_i64().is_some())
         }
         None => measured.as_i64().is_some(),
@@ -127,9 +132,9 @@ fn instead_of_result(measured: &Value) -> Option<&'static str> {
 }
 
 // Adds that a failure is no text of 1 to 200 bytes.
-fn tell_failure(lines: &mut Lines, place: &Place, failure: &Value) -> Result<(), Memory> {
+fn tell_failure(lines: &mut Lines, place: &JsonPlace, failure: &Value) -> Result<(), Memory> {
     match failure.as_str() {
-        Some(text) if !text.is_empty() && text.len() <= MOST_FAILURE_BYTES => Ok(()),
+        Some(text) if !text.is_empty() && text.len() <= MAX_FAILURE_BYTES => Ok(()),
         _ => lines.tell(place, "failure", FAILURE),
     }
 }
@@ -137,11 +142,11 @@ fn tell_failure(lines: &mut Lines, place: &Place, failure: &Value) -> Result<(),
 // Adds that an entry before this one names its metric.
 fn tell_if_repeated(
     lines: &mut Lines,
-    place: &Place,
+    place: &JsonPlace,
     list: &Vec<Value>,
     index: usize,
 ) -> Result<(), Memory> {
-    if index < MOST_ENTRIES && is_repeated(list, index) {
+    if index < MAX_ENTRIES && is_repeated(list, index) {
         return lines.tell(place, "metric", "a metric that no entry before it names");
     }
     Ok(())

@@ -5,10 +5,10 @@ ghost use Rattle.canary_check.specs.Waiting.{is_request_attended, is_command_att
 
 use crate::alone::is_asked_taken;
 use crate::body::tell_body;
-use crate::check::{Findings, found, no_json};
+use crate::check::{CheckReport, found, no_json};
 use crate::ignored::warn_of_ignored;
+use crate::json_place::JsonPlace;
 use crate::lines::Lines;
-use crate::place::Place;
 use crate::waiting::warn_of_command;
 use crate::warning::{warn_of_length, warn_of_template};
 use canary_base::error::Memory;
@@ -33,7 +33,7 @@ const COMMAND: &str = "body: expected a command\n";
 ///
 /// # Errors
 /// `Memory` where an allocation was refused.
-pub fn check_request(alloc: Global, body: &[u8]) -> Result<Findings, Memory>
+pub fn check_request(alloc: Global, body: &[u8]) -> Result<CheckReport, Memory>
     ensures taken { IfOk result (λ findings. findings.is_taken ≡ is_request_taken body.now) }
     ensures attended { IfOk result (λ findings.
         IsTrue findings.is_quiet → IsTrue (is_request_attended body.now)) }
@@ -53,21 +53,21 @@ fn check_command(
     body: &[u8],
     command: &Command,
     mut warned: Lines,
-) -> Result<Findings, Memory>
+) -> Result<CheckReport, Memory>
     ensures taken { IfOk result (λ findings. findings.is_taken ≡ is_asked_taken command.now) }
     ensures attended { IfOk result (λ findings.
         IsTrue findings.is_quiet → IsTrue (is_command_attended command.now)) }
 {
-    let place = Place::at(alloc, "service.manifest")?;
+    let place = JsonPlace::at(alloc, "service.manifest")?;
     warn_of_command(alloc, &mut warned, &place, command)?;
     if is_asked_taken(alloc, command)? {
-        return Ok(Findings::none(warned.warnings(alloc)?));
+        return Ok(CheckReport::none(warned.warnings(alloc)?));
     }
     not_taken(alloc, body, warned)
 }
 
 // What is found in a body that is not taken.
-fn not_taken(alloc: Global, body: &[u8], warned: Lines) -> Result<Findings, Memory>
+fn not_taken(alloc: Global, body: &[u8], warned: Lines) -> Result<CheckReport, Memory>
     ensures taken { IfOk result (λ findings. findings.is_taken ≡ false) }
     ensures quiet { IfOk result (λ findings.
         IsTrue findings.is_quiet → warned.told ≡ 0) }
@@ -80,7 +80,7 @@ fn not_taken(alloc: Global, body: &[u8], warned: Lines) -> Result<Findings, Memo
 }
 
 // The same of a body that is JSON, by its members.
-fn body_not_taken(alloc: Global, body: &Value, warned: Lines) -> Result<Findings, Memory>
+fn body_not_taken(alloc: Global, body: &Value, warned: Lines) -> Result<CheckReport, Memory>
     ensures taken { IfOk result (λ findings. findings.is_taken ≡ false) }
     ensures quiet { IfOk result (λ findings.
         IsTrue findings.is_quiet → warned.told ≡ 0) }
@@ -107,14 +107,14 @@ fn warned_of(alloc: Global, body: &[u8]) -> Result<Lines, Memory> {
 fn warn_of_body(alloc: Global, lines: &mut Lines, body: &Value) -> Result<(), Memory> {
     match only_member(body) {
         Some(("template", manifest)) => {
-            warn_of_template(alloc, lines, &Place::at(alloc, "template")?, manifest)
+            warn_of_template(alloc, lines, &JsonPlace::at(alloc, "template")?, manifest)
         }
         Some(("service", service)) => match member_of(service, "manifest") {
             Some(manifest) => {
                 warn_of_ignored(
                     alloc,
                     lines,
-                    &Place::at(alloc, "service.manifest")?,
+                    &JsonPlace::at(alloc, "service.manifest")?,
                     manifest,
                 )
             }

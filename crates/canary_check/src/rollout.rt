@@ -1,12 +1,12 @@
 //! What is found in a Rollout.
+use crate::json_place::JsonPlace;
 use crate::lines::Lines;
-use crate::place::Place;
 use crate::step::{tell_background, tell_step};
 use crate::template::{tell_metadata, tell_other_kind};
 use canary_base::error::Memory;
 use canary_manifest::member::{is_true, member_of};
 use canary_manifest::rollout::canary_of;
-use canary_plan::strategy::MOST_STEPS;
+use canary_plan::strategy::MAX_STEPS;
 use serde_json::Value;
 use std::alloc::Global;
 
@@ -18,7 +18,7 @@ const STEPS: &str = "a list of at most 64 steps";
 pub(crate) fn tell_rollout(
     alloc: Global,
     lines: &mut Lines,
-    place: &Place,
+    place: &JsonPlace,
     manifest: &Value,
 ) -> Result<(), Memory> {
     tell_other_kind(lines, place, manifest, "Rollout")?;
@@ -35,7 +35,7 @@ pub(crate) fn tell_rollout(
 }
 
 // Adds `paused`, if it is true, and a `blueGreen` strategy: the desk supports neither.
-fn tell_unsupported(lines: &mut Lines, place: &Place, spec: &Value) -> Result<(), Memory> {
+fn tell_unsupported(lines: &mut Lines, place: &JsonPlace, spec: &Value) -> Result<(), Memory> {
     if member_of(spec, "paused").is_some_and(is_true) {
         lines.tell(place, "paused", "false or none (true is unsupported)")?;
     }
@@ -50,7 +50,7 @@ fn tell_unsupported(lines: &mut Lines, place: &Place, spec: &Value) -> Result<()
 fn tell_canary(
     alloc: Global,
     lines: &mut Lines,
-    place: &Place,
+    place: &JsonPlace,
     canary: &Value,
 ) -> Result<(), Memory> {
     if let Some(steps) = member_of(canary, "steps") {
@@ -68,7 +68,7 @@ fn tell_canary(
 fn tell_steps(
     alloc: Global,
     lines: &mut Lines,
-    place: &Place,
+    place: &JsonPlace,
     steps: &Value,
 ) -> Result<(), Memory> {
     match steps.as_array() {
@@ -81,10 +81,10 @@ fn tell_steps(
 fn tell_listed_steps(
     alloc: Global,
     lines: &mut Lines,
-    place: &Place,
+    place: &JsonPlace,
     list: &Vec<Value>,
 ) -> Result<(), Memory> {
-    if list.len() > MOST_STEPS {
+    if list.len() > MAX_STEPS {
         lines.tell(place, "steps", STEPS)?;
     }
     for (index, step) in list.iter().enumerate() {

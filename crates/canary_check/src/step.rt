@@ -1,7 +1,7 @@
 //! What is found in a step of a Rollout, and in an analysis.
+use crate::json_place::JsonPlace;
 use crate::lines::Lines;
 use crate::members::{NAME, key_shown, tell_wrong};
-use crate::place::Place;
 use crate::template::{RETENTION, tell_if_filled};
 use crate::trial::{refusal_of_background, refusal_of_step};
 use canary_base::error::Memory;
@@ -31,7 +31,7 @@ const PAUSE: &str = "90s or 1h30m, or seconds as a number or a text of digits, 3
 pub(crate) fn tell_step(
     alloc: Global,
     lines: &mut Lines,
-    place: &Place,
+    place: &JsonPlace,
     step: &Value,
 ) -> Result<(), Memory> {
     if tell_other_members(lines, place, step)? {
@@ -48,7 +48,7 @@ pub(crate) fn tell_step(
 }
 
 // Adds each member that no step of the desk has, and answers whether there is one.
-fn tell_other_members(lines: &mut Lines, place: &Place, step: &Value) -> Result<bool, Memory> {
+fn tell_other_members(lines: &mut Lines, place: &JsonPlace, step: &Value) -> Result<bool, Memory> {
     match step.as_object() {
         Some(members) => tell_others(lines, place, step, members),
         None => Ok(false),
@@ -58,7 +58,7 @@ fn tell_other_members(lines: &mut Lines, place: &Place, step: &Value) -> Result<
 // The same of a step with these members; a null one is as if absent.
 fn tell_others(
     lines: &mut Lines,
-    place: &Place,
+    place: &JsonPlace,
     step: &Value,
     members: &Map<String, Value>,
 ) -> Result<bool, Memory> {
@@ -97,7 +97,7 @@ fn has_step_key(step: &Value) -> bool {
 }
 
 // Adds why a step is none, but for what its analysis holds.
-fn tell_form(lines: &mut Lines, place: &Place, step: &Value) -> Result<(), Memory> {
+fn tell_form(lines: &mut Lines, place: &JsonPlace, step: &Value) -> Result<(), Memory> {
     match (
         member_of(step, "setWeight"),
         member_of(step, "pause"),
@@ -112,7 +112,7 @@ fn tell_form(lines: &mut Lines, place: &Place, step: &Value) -> Result<(), Memor
 }
 
 // Adds that a step has none of the three. A pause that is null is as if absent.
-fn tell_no_form(lines: &mut Lines, place: &Place, step: &Value) -> Result<(), Memory> {
+fn tell_no_form(lines: &mut Lines, place: &JsonPlace, step: &Value) -> Result<(), Memory> {
     lines.tell(place, "", FORM)?;
     match step.get("pause") {
         Some(_) => lines.instead("write {\"pause\":{}}"),
@@ -121,7 +121,7 @@ fn tell_no_form(lines: &mut Lines, place: &Place, step: &Value) -> Result<(), Me
 }
 
 // Adds why a pause is unreadable: it is no object, or has an invalid duration.
-fn tell_pause(lines: &mut Lines, place: &Place, pause: &Value) -> Result<(), Memory> {
+fn tell_pause(lines: &mut Lines, place: &JsonPlace, pause: &Value) -> Result<(), Memory> {
     if pause.is_object() {
         lines.tell(place, "pause.duration", PAUSE)
     } else {
@@ -133,7 +133,7 @@ fn tell_pause(lines: &mut Lines, place: &Place, pause: &Value) -> Result<(), Mem
 fn tell_refusal_of_step(
     alloc: Global,
     lines: &mut Lines,
-    place: &Place,
+    place: &JsonPlace,
     step: Step,
 ) -> Result<(), Memory> {
     let is_weight = matches!(&step, Step::SetWeight(_));
@@ -147,7 +147,7 @@ fn tell_refusal_of_step(
 // Adds why the templates under that key are refused: one is named twice, or else their number.
 fn tell_refusal(
     lines: &mut Lines,
-    place: &Place,
+    place: &JsonPlace,
     key: &str,
     refusal: Refusal,
 ) -> Result<(), Memory> {
@@ -161,7 +161,7 @@ fn tell_refusal(
 pub(crate) fn tell_background(
     alloc: Global,
     lines: &mut Lines,
-    place: &Place,
+    place: &JsonPlace,
     analysis: &Value,
 ) -> Result<(), Memory> {
     tell_analysis(alloc, lines, place, analysis)?;
@@ -182,7 +182,7 @@ pub(crate) fn tell_background(
 fn tell_analysis(
     alloc: Global,
     lines: &mut Lines,
-    place: &Place,
+    place: &JsonPlace,
     analysis: &Value,
 ) -> Result<(), Memory> {
     tell_if_filled(lines, place, analysis, "dryRun", DRY_RUN)?;
@@ -197,7 +197,7 @@ fn tell_analysis(
 fn tell_templates(
     alloc: Global,
     lines: &mut Lines,
-    place: &Place,
+    place: &JsonPlace,
     list: &Vec<Value>,
 ) -> Result<(), Memory> {
     for (index, template) in list.iter().enumerate() {
@@ -208,7 +208,11 @@ fn tell_templates(
 }
 
 // Adds that an item names a template of the cluster, and that its name is missing or invalid.
-fn tell_named_template(lines: &mut Lines, place: &Place, template: &Value) -> Result<(), Memory> {
+fn tell_named_template(
+    lines: &mut Lines,
+    place: &JsonPlace,
+    template: &Value,
+) -> Result<(), Memory> {
     if is_of_the_cluster(template) {
         lines.tell(place, "clusterScope", "false or none (true is unsupported)")?;
     }

@@ -1,8 +1,8 @@
 //! What is found in an AnalysisTemplate.
+use crate::json_place::JsonPlace;
 use crate::lines::Lines;
 use crate::members::NAME;
 use crate::metric::{metric_name, tell_metric};
-use crate::place::Place;
 use crate::text::instead_of_kind;
 use crate::trial::refusal_of_names;
 use canary_base::error::Memory;
@@ -11,7 +11,7 @@ use canary_base::names::Label;
 use canary_canonical::form::{FormFault, name_in};
 use canary_manifest::member::{is_no_empty_list, is_other_text, member_of};
 use canary_manifest::template::dry_run_name;
-use canary_plan::analysis::{LEAST_METRICS, MOST_METRICS};
+use canary_plan::analysis::{MAX_METRICS, MIN_METRICS};
 use canary_plan::refusal::Refusal;
 use canary_plan::template_spec::DryRunName;
 use serde_json::Value;
@@ -30,7 +30,7 @@ const DRY_RUN: &str = "the name of a metric of the template, or .* for all";
 pub(crate) fn tell_template(
     alloc: Global,
     lines: &mut Lines,
-    place: &Place,
+    place: &JsonPlace,
     manifest: &Value,
 ) -> Result<(), Memory> {
     tell_other_kind(lines, place, manifest, "AnalysisTemplate")?;
@@ -44,7 +44,7 @@ pub(crate) fn tell_template(
 /// Adds that a manifest says another kind, if it says one; or `Memory`.
 pub(crate) fn tell_other_kind(
     lines: &mut Lines,
-    place: &Place,
+    place: &JsonPlace,
     manifest: &Value,
     wanted: &str,
 ) -> Result<(), Memory> {
@@ -55,7 +55,12 @@ pub(crate) fn tell_other_kind(
 }
 
 // Adds the kind that is wanted, and of some other kinds what to do instead.
-fn tell_kind(lines: &mut Lines, place: &Place, kind: &Value, wanted: &str) -> Result<(), Memory> {
+fn tell_kind(
+    lines: &mut Lines,
+    place: &JsonPlace,
+    kind: &Value,
+    wanted: &str,
+) -> Result<(), Memory> {
     lines.tell(place, "kind", wanted)?;
     match kind.as_str().and_then(instead_of_kind) {
         Some(what) => lines.instead(what),
@@ -66,7 +71,7 @@ fn tell_kind(lines: &mut Lines, place: &Place, kind: &Value, wanted: &str) -> Re
 /// Adds that a manifest has no name, or `Memory`.
 pub(crate) fn tell_metadata(
     lines: &mut Lines,
-    place: &Place,
+    place: &JsonPlace,
     manifest: &Value,
 ) -> Result<(), Memory> {
     match member_of(manifest, "metadata").and_then(|metadata| member_of(metadata, "name")) {
@@ -77,7 +82,12 @@ pub(crate) fn tell_metadata(
 }
 
 // Adds what is found in a template's `spec`: what is unsupported, its metrics, its dry runs.
-fn tell_spec(alloc: Global, lines: &mut Lines, place: &Place, spec: &Value) -> Result<(), Memory> {
+fn tell_spec(
+    alloc: Global,
+    lines: &mut Lines,
+    place: &JsonPlace,
+    spec: &Value,
+) -> Result<(), Memory> {
     tell_if_filled(lines, place, spec, "templates", TEMPLATES)?;
     tell_if_filled(lines, place, spec, "measurementRetention", RETENTION)?;
     match member_of(spec, "metrics").and_then(|metrics| metrics.as_array()) {
@@ -90,7 +100,7 @@ fn tell_spec(alloc: Global, lines: &mut Lines, place: &Place, spec: &Value) -> R
 /// `Memory`.
 pub(crate) fn tell_if_filled(
     lines: &mut Lines,
-    place: &Place,
+    place: &JsonPlace,
     value: &Value,
     key: &str,
     instead: &str,
@@ -106,11 +116,11 @@ pub(crate) fn tell_if_filled(
 fn tell_metrics(
     alloc: Global,
     lines: &mut Lines,
-    place: &Place,
+    place: &JsonPlace,
     spec: &Value,
     list: &Vec<Value>,
 ) -> Result<(), Memory> {
-    if list.len() < LEAST_METRICS || list.len() > MOST_METRICS {
+    if list.len() < MIN_METRICS || list.len() > MAX_METRICS {
         lines.tell(place, "metrics", METRICS)?;
     }
     let mut names = Vec::new(alloc);
@@ -125,10 +135,10 @@ fn tell_metrics(
 /// The place of a metric in the list of a template's `spec`, or `Memory`.
 pub(crate) fn metric_place(
     alloc: Global,
-    place: &Place,
+    place: &JsonPlace,
     index: usize,
     metric: &Value,
-) -> Result<Place, Memory> {
+) -> Result<JsonPlace, Memory> {
     let place = place.item(alloc, "metrics", index)?;
     match metric_name(metric) {
         Some(name) => place.of_metric(alloc, name.as_str()),
@@ -140,7 +150,7 @@ pub(crate) fn metric_place(
 fn with_name(
     alloc: Global,
     lines: &mut Lines,
-    place: &Place,
+    place: &JsonPlace,
     mut names: Vec<Label>,
     metric: &Value,
 ) -> Result<Vec<Label>, Memory> {
@@ -153,7 +163,7 @@ fn with_name(
         lines.tell(place, "name", "a name that no metric before it has")?;
         names.pop();
     }
-    if names.len() > MOST_METRICS {
+    if names.len() > MAX_METRICS {
         names.pop();
     }
     Ok(names)
@@ -163,7 +173,7 @@ fn with_name(
 fn tell_dry_run(
     alloc: Global,
     lines: &mut Lines,
-    place: &Place,
+    place: &JsonPlace,
     spec: &Value,
     names: &[Label],
 ) -> Result<(), Memory> {
@@ -180,7 +190,7 @@ fn tell_dry_run(
 fn tell_marks(
     alloc: Global,
     lines: &mut Lines,
-    place: &Place,
+    place: &JsonPlace,
     list: &Vec<Value>,
     names: &[Label],
 ) -> Result<(), Memory> {

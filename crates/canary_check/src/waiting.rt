@@ -4,8 +4,8 @@ ghost use Rattle.canary_check.specs.Waiting.{waits, sends_some, sends_all, waits
 ghost use Rattle.canary_check.specs.Waiting.{from_traffic_or, waits_for_nobody};
 ghost use Rattle.canary_check.specs.Waiting.{is_command_attended};
 
+use crate::json_place::JsonPlace;
 use crate::lines::Lines;
-use crate::place::Place;
 use canary_base::error::Memory;
 use canary_plan::command::Command;
 use canary_plan::step::Step;
@@ -21,7 +21,7 @@ const UNMEASURED: &str = "a version reaches 100 % even if nothing is measured";
 pub(crate) fn warn_of_command(
     alloc: Global,
     lines: &mut Lines,
-    place: &Place,
+    place: &JsonPlace,
     command: &Command,
 ) -> Result<(), Memory>
     ensures { IfOk result (λ _. is_command_attended command.now ≡ false → 0 < lines.new.told) }
@@ -36,7 +36,7 @@ pub(crate) fn warn_of_command(
 fn warn_of_steps(
     alloc: Global,
     lines: &mut Lines,
-    place: &Place,
+    place: &JsonPlace,
     steps: &[Step],
 ) -> Result<(), Memory>
     ensures { IfOk result (λ _. not (waits_for_nobody steps.now) ≡ false → 0 < lines.new.told) }
@@ -52,7 +52,7 @@ fn warn_of_steps(
 fn warn_of_rows(
     alloc: Global,
     lines: &mut Lines,
-    place: &Place,
+    place: &JsonPlace,
     steps: &[Step],
 ) -> Result<(), Memory> {
     let mut last = None;
@@ -76,7 +76,7 @@ fn warn_of_rows(
 fn warn_of_nobody(
     alloc: Global,
     lines: &mut Lines,
-    place: &Place,
+    place: &JsonPlace,
     steps: &[Step],
 ) -> Result<(), Memory>
     ensures { IfOk result (λ _. 0 < lines.new.told) }

@@ -1,6 +1,6 @@
 //! What the desk takes, though it may be meant otherwise.
+use crate::json_place::JsonPlace;
 use crate::lines::Lines;
-use crate::place::Place;
 use crate::template::metric_place;
 use canary_base::error::Memory;
 use canary_canonical::form::FormFault;
@@ -11,13 +11,13 @@ use std::alloc::Global;
 const UNCONDITIONAL: &str = "no condition, so each result is Successful";
 
 // The most bytes of a request's body.
-const MOST_BODY_BYTES: usize = 65_536;
+const MAX_BODY_BYTES: usize = 65_536;
 
 /// Warns of an AnalysisTemplate, or `Memory`.
 pub(crate) fn warn_of_template(
     alloc: Global,
     lines: &mut Lines,
-    place: &Place,
+    place: &JsonPlace,
     manifest: &Value,
 ) -> Result<(), Memory> {
     let metrics = member_of(manifest, "spec").and_then(|spec| member_of(spec, "metrics"));
@@ -31,7 +31,7 @@ pub(crate) fn warn_of_template(
 fn warn_of_metrics(
     alloc: Global,
     lines: &mut Lines,
-    spec: &Place,
+    spec: &JsonPlace,
     list: &Vec<Value>,
 ) -> Result<(), Memory> {
     for (index, metric) in list.iter().enumerate() {
@@ -68,9 +68,9 @@ pub(crate) fn warn_of_length(
     whole: &str,
     len: usize,
 ) -> Result<(), Memory> {
-    if len <= MOST_BODY_BYTES {
+    if len <= MAX_BODY_BYTES {
         return Ok(());
     }
     let what = format!(in alloc; "{len} bytes, and the body of a request has at most 65,536")?;
-    lines.warn(&Place::at(alloc, whole)?, "", what.as_str())
+    lines.warn(&JsonPlace::at(alloc, whole)?, "", what.as_str())
 }

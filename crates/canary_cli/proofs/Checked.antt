@@ -4,13 +4,13 @@ use Rattle.std.specs.Prelude.{◌&&◌, IsTrue}
 use Rattle.std.specs.Io.KnownBytes.{Appends}
 use Rattle.canary_wire.specs.Writes.{Known}
 use Rattle.canary_programs.specs.declared.fault.Fault.{Fault}
-use Rattle.canary_words.specs.declared.words.Program.TheVariants.{Check}
-use Rattle.canary_cli.specs.declared.perform.Outcome.{Outcome}
-use Rattle.canary_cli.specs.declared.perform.Outcome.TheVariants.{Done, Findings, Unclear, Asked}
+use Rattle.canary_cli_words.specs.declared.words.Program.TheVariants.{Check}
+use Rattle.canary_cli.specs.declared.perform.ProgramExit.{ProgramExit}
+use Rattle.canary_cli.specs.declared.perform.ProgramExit.TheVariants.{Done, Findings, Unclear, Asked}
 use Rattle.canary_cli.specs.Performed.{status_of, IsNoClient, IsRun, IsRunTo}
 
 -- of what is no client, status 0 is that it was done
-only_done : (done : Result Outcome Fault) → 0 ≡ status_of done → IsNoClient done → done ≡ Ok Done
+only_done : (done : Result ProgramExit Fault) → 0 ≡ status_of done → IsNoClient done → done ≡ Ok Done
 only_done (Ok Done) is none = refl
 only_done (Ok Findings) is none = let one : 0 ≡ 1 = is in absurd (omega arith)
 only_done (Ok (Unclear what)) is none = let two : 0 ≡ 2 = is in absurd (omega arith)

@@ -1,9 +1,9 @@
 -- What a program comes to whose words leave unclear what is asked.
 use Rattle.std.proofs.Common.{◌≡◌, Some, Ok, refl}
 use Rattle.canary_wire.specs.Writes.{Known}
-use Rattle.canary_words.specs.declared.words.Program.{Program}
-use Rattle.canary_words.specs.declared.words.Program.TheVariants.{Pipe, Serve, Import, History, Export, Status, Page, Backup, Migrate, Succeed, Check, Argo, Ask}
-use Rattle.canary_cli.specs.declared.perform.Outcome.TheVariants.{Unclear}
+use Rattle.canary_cli_words.specs.declared.words.Program.{Program}
+use Rattle.canary_cli_words.specs.declared.words.Program.TheVariants.{Pipe, Serve, Import, History, Export, Status, Page, Backup, Migrate, Succeed, Check, Argo, Ask}
+use Rattle.canary_cli.specs.declared.perform.ProgramExit.TheVariants.{Unclear}
 use Rattle.canary_cli.specs.declared.unclear.Unclear.{Unclear as WhatIsUnclear}
 use Rattle.canary_cli.specs.Performed.{unclear_of, IsChecked, IsNoClient, IsRun}
 

@@ -4,10 +4,10 @@ use Rattle.std.specs.Prelude.{is_some, IfErr, IfOk}
 use Rattle.clap.specs.Words.{IsAmong, Kinds}
 use Rattle.clap.specs.declared.error.kind.ErrorKind.TheVariants.{DisplayHelp, DisplayVersion}
 use Rattle.canary_wire.specs.Writes.{Known}
-use Rattle.canary_words.specs.declared.words.Program.{Program}
-use Rattle.canary_words.specs.declared.words.WordsFault.{WordsFault}
-use Rattle.canary_words.specs.declared.words.WordsFault.TheVariants.{Help, Usage, Memory}
-use Rattle.canary_words.specs.CommandLine.{IsFor}
+use Rattle.canary_cli_words.specs.declared.words.Program.{Program}
+use Rattle.canary_cli_words.specs.declared.words.WordsFault.{WordsFault}
+use Rattle.canary_cli_words.specs.declared.words.WordsFault.TheVariants.{Help, Usage, Memory}
+use Rattle.canary_cli_words.specs.CommandLine.{IsFor}
 use Rattle.canary_cli.specs.Performed.{unopened_status, IsGivenUp, IsTold, IsTurnedAway}
 
 -- why words in which clap finds nothing have no program:

@@ -4,7 +4,7 @@ use Rattle.std.specs.Io.KnownBytes.{Appends}
 use Rattle.clap.specs.Words.{Kinds, Text}
 use Rattle.canary_once.specs.Contents.{Contents, no_contents}
 use Rattle.canary_once.specs.Ticks.{TellsSteps}
-use Rattle.canary_wire.specs.Exchanges.{Point, point}
+use Rattle.canary_wire.specs.Dispositions.{DeskState, desk_state}
 use Rattle.canary_wire.specs.Serving.{ServesTo, ServesSome, ServesUntil}
 use Rattle.canary_wire.specs.Writes.{Known}
 use Rattle.canary_wire.specs.declared.serve.Ended.{Ended}
@@ -13,32 +13,32 @@ use Rattle.canary_wire.specs.declared.serve.ServeFault.TheVariants.{Read, Write,
 use Rattle.canary_programs.specs.declared.fault.Fault.{Fault}
 use Rattle.canary_programs.specs.declared.fault.Fault.TheVariants as fault
 use Rattle.canary_programs.specs.Faults.{done_of}
-use Rattle.canary_cli.specs.declared.perform.Outcome.{Outcome}
-use Rattle.canary_cli.specs.declared.perform.Outcome.TheVariants.{Done, Findings, Unclear, Asked}
+use Rattle.canary_cli.specs.declared.perform.ProgramExit.{ProgramExit}
+use Rattle.canary_cli.specs.declared.perform.ProgramExit.TheVariants.{Done, Findings, Unclear, Asked}
 use Rattle.canary_cli.specs.declared.unclear.Unclear.{Unclear as WhatIsUnclear}
 use Rattle.canary_cli.specs.declared.unclear.Unclear.TheVariants.{Checked, Form, Kept}
 use Rattle.canary_client.specs.Outcomes as client
-use Rattle.canary_client.specs.declared.outcome.Outcome as client_outcome
+use Rattle.canary_client.specs.declared.outcome.ClientExit as client_outcome
 use Rattle.canary_listen.specs.declared.limits.Limits.{Limits}
-use Rattle.canary_words.specs.declared.words.Asked.{Asked as AskedOf}
-use Rattle.canary_words.specs.declared.words.Asked.TheVariants.{Do, Get, Watch, Send, Due, Agent}
-use Rattle.canary_words.specs.declared.words.AskedLimits.{AskedLimits}
-use Rattle.canary_words.specs.declared.words.Program.{Program}
-use Rattle.canary_words.specs.declared.words.Program.TheVariants.{Pipe, Serve, Import, History, Export, Status, Page, Backup, Migrate, Succeed, Check, Argo, Ask}
-use Rattle.canary_words.specs.declared.words.WordsFault.{WordsFault}
-use Rattle.canary_words.specs.declared.words.WordsFault.TheVariants.{Help, Usage, Memory as NoMemory}
-use Rattle.canary_words.specs.CommandLine.{IsFor, faults_of, program_of}
+use Rattle.canary_cli_words.specs.declared.words.ClientCall.{ClientCall}
+use Rattle.canary_cli_words.specs.declared.words.ClientCall.TheVariants.{Do, Get, Watch, Send, Due, Agent}
+use Rattle.canary_cli_words.specs.declared.words.AskedLimits.{AskedLimits}
+use Rattle.canary_cli_words.specs.declared.words.Program.{Program}
+use Rattle.canary_cli_words.specs.declared.words.Program.TheVariants.{Pipe, Serve, Import, History, Export, Status, Page, Backup, Migrate, Succeed, Check, Argo, Ask}
+use Rattle.canary_cli_words.specs.declared.words.WordsFault.{WordsFault}
+use Rattle.canary_cli_words.specs.declared.words.WordsFault.TheVariants.{Help, Usage, Memory as NoMemory}
+use Rattle.canary_cli_words.specs.CommandLine.{IsFor, faults_of, program_of}
 
 -- ---- faults and statuses
 
 -- what comes of a program that is no check
-abbrev pub outcome_of : Result (Unit {0}) Fault → Result Outcome Fault
+abbrev pub outcome_of : Result (Unit {0}) Fault → Result ProgramExit Fault
 outcome_of (Ok _) = Ok Done
 outcome_of (Err f) = Err f
 
--- 0 where it was done, 1 for findings or a fault, and 2 where the words leave unclear what is asked;
--- of a client that of its outcome
-abbrev pub status_of : Result Outcome Fault → ℕ
+-- 0 where it was done, 1 for findings or a fault, and 2 where the words leave unclear what is
+-- asked; of a client that of its outcome
+abbrev pub status_of : Result ProgramExit Fault → ℕ
 status_of (Ok Done) = 0
 status_of (Ok Findings) = 1
 status_of (Ok (Unclear what)) = 2
@@ -55,8 +55,8 @@ abbrev pub are_alike : Bool → Bool → Bool
 are_alike true b = b
 are_alike false b = not b
 
--- what the words of a program leave unclear, if they do: `check` takes one of two files, `status` one
--- of two forms, and `backup` the number of copies only with the seconds from one to the next
+-- what the words of a program leave unclear, if they do: `check` takes one of two files, `status`
+-- one of two forms, and `backup` the number of copies only with the seconds from one to the next
 abbrev pub unclear_of : Program → Option WhatIsUnclear
 unclear_of (Check file request strict) =
     unclear_if (are_alike (is_some file) (is_some request)) Checked
@@ -85,9 +85,9 @@ pub record Standing : Type 0 where
   pub contents : Contents
 
 -- nothing else writes its book, whose store is in memory and can't fail
-abbrev pub point_of : Standing → Point
+abbrev pub point_of : Standing → DeskState
 point_of s =
-    point (TellsSteps s.at s.step)
+    desk_state (TellsSteps s.at s.step)
     (record
     { contents = s.contents; is_honest = Unit {0}; is_in_memory = Unit {0}; is_sure = true })
 
@@ -116,7 +116,7 @@ IsPiped r new_r w new_w at step done = (served : Result Ended ServeFault)
 -- it was judged so: `ok` was written where the desk takes it and, if warnings are findings, no such
 -- service is registered; something longer where the desk does not take it, or if warnings are
 -- findings; or memory ran out, or the output failed
-abbrev pub IsCheckShown : Bool → Bool → Bool → Known → Known → Result Outcome Fault → Type 0
+abbrev pub IsCheckShown : Bool → Bool → Bool → Known → Known → Result ProgramExit Fault → Type 0
 IsCheckShown strict taken attended w new_w (Ok Done) =
     (taken ≡ true) × (strict ≡ true → attended ≡ true) × Appends w new_w (codes "ok\n")
 IsCheckShown strict taken attended w new_w (Ok Findings) = (strict ≡ false → taken ≡ false)
@@ -126,15 +126,15 @@ IsCheckShown strict taken attended w new_w (Ok (Asked outcome)) = ⊥
 IsCheckShown strict taken attended w new_w (Err f) = (f ≡ fault.Memory) ⊎ (f ≡ fault.Write)
 
 -- a check is no client of a desk
-abbrev pub IsNoClient : Result Outcome Fault → Type 0
-IsNoClient done = (outcome : client_outcome.Outcome) → done ≡ Ok (Asked outcome) → ⊥
+abbrev pub IsNoClient : Result ProgramExit Fault → Type 0
+IsNoClient done = (outcome : client_outcome.ClientExit) → done ≡ Ok (Asked outcome) → ⊥
 
 -- where a check found nothing, it wrote `ok`
-abbrev pub IsChecked : Known → Known → Result Outcome Fault → Type 0
+abbrev pub IsChecked : Known → Known → Result ProgramExit Fault → Type 0
 IsChecked w new_w done = done ≡ Ok Done → Appends w new_w (codes "ok\n")
 
 -- of the clients of a desk `send` and `agent` alone may read the input
-abbrev pub IsAsked : Known → Known → AskedOf → Type 0
+abbrev pub IsAsked : Known → Known → ClientCall → Type 0
 IsAsked r new_r (Do call) = new_r ≡ r
 IsAsked r new_r (Get desk service part) = new_r ≡ r
 IsAsked r new_r (Watch desk until json forever service) = new_r ≡ r
@@ -143,7 +143,7 @@ IsAsked r new_r (Due desk wait late services) = new_r ≡ r
 IsAsked r new_r (Agent call) = Unit {0}
 
 -- the program was run so; `pipe`, `import`, `argo`, `send` and `agent` alone may read the input
-abbrev pub IsRun : Known → Known → Known → Known → Program → Result Outcome Fault → Type 0
+abbrev pub IsRun : Known → Known → Known → Known → Program → Result ProgramExit Fault → Type 0
 IsRun r new_r w new_w (Pipe at step None cache) done =
     (piped : Result (Unit {0}) Fault) × (done ≡ outcome_of piped)
     × IsPiped r new_r w new_w at step piped
@@ -167,8 +167,8 @@ abbrev pub IsOwn : Program → Type 0
 IsOwn (Ask asked) = ⊥
 IsOwn _ = Unit {0}
 
--- it shows what is in the file of a desk's records, or makes that one of this version, or a new one of
--- it
+-- it shows what is in the file of a desk's records, or makes that one of this version, or a new one
+-- of it
 abbrev pub IsOfRecords : Program → Type 0
 IsOfRecords (History db service) = Unit {0}
 IsOfRecords (Export db caller service) = Unit {0}
@@ -181,7 +181,8 @@ IsOfRecords _ = ⊥
 -- the program was run so, and ended with this exit status
 abbrev pub IsRunTo : Known → Known → Known → Known → Program → ℕ → Type 0
 IsRunTo r new_r w new_w program status =
-    (done : Result Outcome Fault) × (status ≡ status_of done) × IsRun r new_r w new_w program done
+    (done : Result ProgramExit Fault) × (status ≡ status_of done)
+    × IsRun r new_r w new_w program done
 
 -- `pipe` in memory ended with this exit status
 abbrev pub IsPipedTo : Known → Known → Known → Known → ℕ → ℕ → ℕ → Type 0

@@ -1,14 +1,14 @@
 //! `argo`: what manifests of Argo Rollouts become, without a desk.
 ghost use Rattle.canary_cli.specs.Performed.{IsNoClient};
 
-use crate::perform::Outcome;
-use canary_argo_files::reading::{Manifests, ReadFault, read_files};
+use crate::perform::ProgramExit;
+use canary_argo_files::reading::{FileReadFault, Manifests, read_files};
 use canary_argo_files::shown::{json_of, plan_of, text_of};
 use canary_argo_files::translated::{Translated, translate};
 use canary_backup::draft::Draft;
 use canary_base::lists::{Listed, Text};
 use canary_convert::work::Made;
-use canary_markup::shown::{Form, shown};
+use canary_page_html::shown::{TextKind, shown};
 use canary_programs::fault::Fault;
 use canary_programs::show::show;
 use std::fs::create_dir_all;
@@ -28,7 +28,7 @@ pub(crate) fn argo<R: Read, W: Write, F: Write>(
     input: &mut R,
     output: &mut W,
     errors: &mut F,
-) -> Result<Outcome, Fault>
+) -> Result<ProgramExit, Fault>
     ensures client { IsNoClient result }
 {
     let manifests = manifests_of(rt, files, input, errors)?;
@@ -41,9 +41,9 @@ pub(crate) fn argo<R: Read, W: Write, F: Write>(
     }
     show_all(rt, &manifests, &translated, json, output, errors)?;
     Ok(if is_found {
-        Outcome::Findings
+        ProgramExit::Findings
     } else {
-        Outcome::Done
+        ProgramExit::Done
     })
 }
 
@@ -56,8 +56,8 @@ fn manifests_of<R: Read, F: Write>(
 ) -> Result<Manifests, Fault> {
     match read_files(rt, files.as_slice(), input) {
         Ok(manifests) => Ok(manifests),
-        Err(ReadFault::Memory) => Err(Fault::Memory),
-        Err(ReadFault::File(index)) => {
+        Err(FileReadFault::Memory) => Err(Fault::Memory),
+        Err(FileReadFault::File(index)) => {
             if let Some(name) = files.as_slice().get(index) {
                 tell_unread(rt, name.as_str(), errors);
             }
@@ -68,7 +68,7 @@ fn manifests_of<R: Read, F: Write>(
 
 // Writes to `errors` which file cannot be read. Faults of that are ignored.
 fn tell_unread<F: Write>(rt: &HostRuntime, name: &str, errors: &mut F) {
-    let Ok(name) = shown(rt.alloc(), name, Form::Line) else {
+    let Ok(name) = shown(rt.alloc(), name, TextKind::Line) else {
         return;
     };
     let Ok(line) = format!(in rt.alloc(); "canary: cannot read {name}\n") else {

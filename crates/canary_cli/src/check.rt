@@ -5,12 +5,12 @@ ghost use Rattle.canary_check.specs.Taken.{is_request_taken, is_taken};
 ghost use Rattle.canary_check.specs.Waiting.{is_attended, is_request_attended};
 ghost use Rattle.canary_cli.specs.Performed.{IsCheckShown, IsNoClient};
 
-use crate::perform::Outcome;
+use crate::perform::ProgramExit;
 use crate::unclear::Unclear;
-use crate::yaml::{self, Reading};
-use canary_argo_files::reading::MOST_BYTES;
+use crate::yaml::{self, ManifestContent};
+use canary_argo_files::reading::MAX_BYTES;
 use canary_base::lists::Text;
-use canary_check::check::Findings;
+use canary_check::check::CheckReport;
 use canary_programs::fault::Fault;
 use canary_programs::show::show;
 use canary_yaml::read::Document;
@@ -30,8 +30,8 @@ pub(crate) fn check<P: Files + AllocGlobal, W: Write, F: Write>(
     strict: bool,
     output: &mut W,
     errors: &mut F,
-) -> Result<Outcome, Fault>
-    ensures shown { result ≡ Ok Outcome.Done
+) -> Result<ProgramExit, Fault>
+    ensures shown { result ≡ Ok ProgramExit.Done
         → Appends (W.contents output.old) (W.contents output.new) (codes "ok\n") }
     ensures client { IsNoClient result }
 {
@@ -39,7 +39,7 @@ pub(crate) fn check<P: Files + AllocGlobal, W: Write, F: Write>(
         Some(file) => check_manifest(rt, file.as_str(), strict, output, errors),
         None => match request {
             Some(body) => check_request(rt, body.as_str(), strict, output, errors),
-            None => Ok(Outcome::Unclear(Unclear::Checked)),
+            None => Ok(ProgramExit::Unclear(Unclear::Checked)),
         },
     }
 }
@@ -52,21 +52,27 @@ fn check_manifest<P: Files + AllocGlobal, W: Write, F: Write>(
     strict: bool,
     output: &mut W,
     errors: &mut F,
-) -> Result<Outcome, Fault>
-    ensures shown { result ≡ Ok Outcome.Done
+) -> Result<ProgramExit, Fault>
+    ensures shown { result ≡ Ok ProgramExit.Done
         → Appends (W.contents output.old) (W.contents output.new) (codes "ok\n") }
     ensures client { IsNoClient result }
 {
     let manifest = read_file(rt, file)?;
     match yaml::documents_of(rt.alloc(), manifest.as_slice())? {
-        Reading::Documents(documents) => {
+        ManifestContent::Documents(documents) => {
             check_documents(rt.alloc(), documents.as_slice(), strict, output, errors)
         }
-        Reading::Refused(why) => {
+        ManifestContent::Refused(why) => {
             show(why.as_str(), output)?;
-            Ok(Outcome::Findings)
+            Ok(ProgramExit::Findings)
         }
-        Reading::Json => check_bytes(rt.alloc(), manifest.as_slice(), strict, output, errors),
+        ManifestContent::Json => check_bytes(
+            rt.alloc(),
+            manifest.as_slice(),
+            strict,
+            output,
+            errors,
+        ),
     }
 }
 
@@ -78,8 +84,8 @@ fn check_documents<W: Write, F: Write>(
     strict: bool,
     output: &mut W,
     errors: &mut F,
-) -> Result<Outcome, Fault>
-    ensures shown { result ≡ Ok Outcome.Done
+) -> Result<ProgramExit, Fault>
+    ensures shown { result ≡ Ok ProgramExit.Done
         → Appends (W.contents output.old) (W.contents output.new) (codes "ok\n") }
     ensures client { IsNoClient result }
 {
@@ -91,10 +97,10 @@ fn check_documents<W: Write, F: Write>(
     }
     if found.is_empty() {
         show("ok\n", output)?;
-        return Ok(Outcome::Done);
+        return Ok(ProgramExit::Done);
     }
     show(found.as_str(), output)?;
-    Ok(Outcome::Findings)
+    Ok(ProgramExit::Findings)
 }
 
 // Adds what the desk would refuse of a document, with the line in which it begins, unless that is
@@ -119,7 +125,7 @@ fn add_found<F: Write>(
 }
 
 // What is found in a document, as JSON.
-fn found_in(alloc: Global, document: &Document) -> Result<Findings, Fault>
+fn found_in(alloc: Global, document: &Document) -> Result<CheckReport, Fault>
     ensures memory { IfErr result (λ fault. fault ≡ Fault.Memory) }
 {
     let Ok(json) = document.value.to_string(alloc) else {
@@ -138,8 +144,8 @@ fn check_request<P: Files + AllocGlobal, W: Write, F: Write>(
     strict: bool,
     output: &mut W,
     errors: &mut F,
-) -> Result<Outcome, Fault>
-    ensures shown { result ≡ Ok Outcome.Done
+) -> Result<ProgramExit, Fault>
+    ensures shown { result ≡ Ok ProgramExit.Done
         → Appends (W.contents output.old) (W.contents output.new) (codes "ok\n") }
     ensures client { IsNoClient result }
 {
@@ -154,7 +160,7 @@ fn check_bytes<W: Write, F: Write>(
     strict: bool,
     output: &mut W,
     errors: &mut F,
-) -> Result<Outcome, Fault>
+) -> Result<ProgramExit, Fault>
     ensures shown { IsCheckShown strict (is_taken manifest.now) (is_attended manifest.now)
         (W.contents output.old) (W.contents output.new) result }
     ensures client { IsNoClient result }
@@ -172,7 +178,7 @@ fn check_body<W: Write, F: Write>(
     strict: bool,
     output: &mut W,
     errors: &mut F,
-) -> Result<Outcome, Fault>
+) -> Result<ProgramExit, Fault>
     ensures shown { IsCheckShown strict (is_request_taken body.now) (is_request_attended body.now)
         (W.contents output.old) (W.contents output.new) result }
     ensures client { IsNoClient result }
@@ -186,11 +192,11 @@ fn check_body<W: Write, F: Write>(
 // Writes what a check found, and on `errors` what it warns of; if it is `strict`, that is found.
 fn show_findings<W: Write, F: Write>(
     alloc: Global,
-    findings: Findings,
+    findings: CheckReport,
     strict: bool,
     output: &mut W,
     errors: &mut F,
-) -> Result<Outcome, Fault>
+) -> Result<ProgramExit, Fault>
     ensures shown { (attended : Bool) → (IsTrue findings.is_quiet → IsTrue attended)
         → IsCheckShown strict findings.is_taken attended
         (W.contents output.old) (W.contents output.new) result }
@@ -200,15 +206,15 @@ fn show_findings<W: Write, F: Write>(
     show(findings.text(), output)?;
     warn(&findings, errors);
     if findings.is_ok() {
-        Ok(Outcome::Done)
+        Ok(ProgramExit::Done)
     } else {
-        Ok(Outcome::Findings)
+        Ok(ProgramExit::Findings)
     }
 }
 
 // What was found; if it is `strict`, with each warning as a finding.
 #[tactic(auto, using(crate::proofs::Checked::first_so, crate::proofs::Checked::second_so))]
-fn counted(alloc: Global, findings: Findings, strict: bool) -> Result<Findings, Fault>
+fn counted(alloc: Global, findings: CheckReport, strict: bool) -> Result<CheckReport, Fault>
     ensures taken { IfOk result (λ found.
         IsTrue found.is_taken → IsTrue findings.is_taken) }
     ensures quiet { IfOk result (λ found.
@@ -226,7 +232,7 @@ fn counted(alloc: Global, findings: Findings, strict: bool) -> Result<Findings, 
 }
 
 // Writes on `errors` what a check warns of.
-fn warn<F: Write>(findings: &Findings, errors: &mut F) {
+fn warn<F: Write>(findings: &CheckReport, errors: &mut F) {
     for line in findings.warnings().lines() {
         let _ = warn_of(line, errors);
     }
@@ -243,7 +249,7 @@ fn warn_of<F: Write>(line: &str, errors: &mut F) -> io::Result<()> {
 fn read_file<P: Files + AllocGlobal>(rt: &P, file: &str) -> Result<Vec<u8>, Fault> {
     let mut bytes = Vec::new(rt.alloc());
     match fill(rt, file, &mut bytes) {
-        Ok(()) if bytes.len() <= MOST_BYTES => Ok(bytes),
+        Ok(()) if bytes.len() <= MAX_BYTES => Ok(bytes),
         Err(error) if error.kind() == ErrorKind::OutOfMemory => Err(Fault::Memory),
         _ => Err(Fault::File),
     }
@@ -251,7 +257,7 @@ fn read_file<P: Files + AllocGlobal>(rt: &P, file: &str) -> Result<Vec<u8>, Faul
 
 // Reads the file of this name, as far as its length shows whether it is too long.
 fn fill<P: Files>(files: &P, file: &str, bytes: &mut Vec<u8>) -> io::Result<()> {
-    let mut manifest = File::open(files, file)?.take(MOST_BYTES as u64 + 1);
+    let mut manifest = File::open(files, file)?.take(MAX_BYTES as u64 + 1);
     manifest.read_to_end(bytes)?;
     Ok(())
 }

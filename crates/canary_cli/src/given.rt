@@ -1,9 +1,9 @@
 //! What the words of a program give: the form of a status, a text, the file of a desk.
+use crate::file::open::DeskFile;
 use crate::perform::Terminals;
 use canary_base::lists::Text;
-use canary_database::open::DeskFile;
-use canary_overview::overview::Form;
-use canary_programs::overview::Drawing;
+use canary_programs::overview::OverviewFormat;
+use canary_programs::status::Drawing;
 
 // How often a status is printed, in which form, and whether on a terminal.
 pub(crate) fn drawing(
@@ -20,13 +20,13 @@ pub(crate) fn drawing(
 }
 
 // The form for these flags: tables if neither is set, and Prometheus if both are.
-fn form_of(is_json: bool, is_prometheus: bool) -> Form {
+fn form_of(is_json: bool, is_prometheus: bool) -> OverviewFormat {
     if is_prometheus {
-        Form::Prometheus
+        OverviewFormat::Prometheus
     } else if is_json {
-        Form::Json
+        OverviewFormat::Json
     } else {
-        Form::Tables
+        OverviewFormat::Tables
     }
 }
 

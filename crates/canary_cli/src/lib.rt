@@ -1,5 +1,5 @@
 //! What a command line comes to: `perform` does what its words ask for, by `read_words` of
-//! canary_words, on a given input, output and error stream.
+//! canary_cli_words, on a given input, output and error stream.
 //!
 //! Callers may rest on this: where the words are those of `pipe` in memory, what is written is what
 //! it comes to on what was read, and the exit status says how it ended; where they are no
@@ -19,8 +19,9 @@
 
 mod argo;
 mod check;
+mod fault_place;
+mod file;
 mod given;
 pub mod perform;
-mod place;
 pub mod unclear;
 mod yaml;

@@ -3,45 +3,45 @@ ghost use Rattle.std.specs.Prelude.{◌≡◌, ◌↔◌, ℕ, Bool, List, Optio
 ghost use Rattle.std.specs.Prelude.{◌⊎◌, IfOk, IfErr, codes, string_bytes};
 ghost use Rattle.std.specs.IoError.{error_kind};
 ghost use Rattle.std.specs.Io.KnownBytes.{Appends};
-ghost use Rattle.canary_words.specs.CommandLine.{faults_of, program_of};
+ghost use Rattle.canary_cli_words.specs.CommandLine.{faults_of, program_of};
 ghost use Rattle.canary_cli.specs.Performed.{outcome_of, status_of};
 ghost use Rattle.canary_cli.specs.Performed.{IsPiped, IsPipedTo, IsRun, IsRunTo, IsTold};
 ghost use Rattle.canary_cli.specs.Performed.{IsTurnedAway, IsGivenUp, unopened_status};
 ghost use Rattle.canary_cli.specs.Performed.{MayTell, AsksForOneThatTells, IsAsked, IsOfRecords};
 ghost use Rattle.canary_cli.specs.Performed.{limits_of, unclear_of, IsOwn};
 ghost use Rattle.canary_cli.specs.declared.unclear.Unclear.{Unclear as WhatIsUnclear};
-ghost use Rattle.canary_words.specs.declared.words.Program.{Program as AnyProgram};
+ghost use Rattle.canary_cli_words.specs.declared.words.Program.{Program as AnyProgram};
 
 use crate::argo::argo;
 use crate::check::check;
+use crate::fault_place::FaultPlace;
+use crate::file::backup::{backup, backup_each};
+use crate::file::export::export;
+use crate::file::history::history;
+use crate::file::import::import;
+use crate::file::migrate::migrate;
+use crate::file::open::DeskFile;
+use crate::file::page::page;
+use crate::file::status::status;
+use crate::file::succeed::succeed;
+use crate::file::{pipe, serve};
 use crate::given::{drawing, file_of, file_or_none, text_of};
-use crate::place::Place;
 use crate::unclear::{Unclear, unclear_of};
 use canary_agent::agent::agent;
 use canary_base::lists::Text;
 use canary_base::moments::Moment;
+use canary_cli_words::words::{AskedLimits, ClientCall, Program, WordsFault, read_words};
 use canary_client::ask::ask;
 use canary_client::due::{Sought, due};
 use canary_client::get::get;
 use canary_client::outcome as client;
 use canary_client::send::send;
-use canary_client::watch::{Manner, watch};
-use canary_database::backup::{backup, backup_each};
-use canary_database::export::export;
-use canary_database::history::history;
-use canary_database::import::import;
-use canary_database::migrate::migrate;
-use canary_database::open::DeskFile;
-use canary_database::page::page;
-use canary_database::status::status;
-use canary_database::succeed::succeed;
-use canary_database::{pipe, serve};
+use canary_client::watch::{WatchOptions, watch};
 use canary_listen::limits::Limits;
 use canary_once::clock::StepClock;
 use canary_once::memory::MemoryBook;
 use canary_programs::fault::{Fault, done_of};
 use canary_programs::show::show;
-use canary_words::words::{Asked, AskedLimits, Program, WordsFault, read_words};
 use std::alloc::Global;
 use std::io::{self, ErrorKind, Read, Write};
 
@@ -65,7 +65,7 @@ const UNOPENED: &str =
 
 /// What came of what was asked.
 #[derive(Clone, Copy, Debug, PartialEq, Eq)]
-pub enum Outcome {
+pub enum ProgramExit {
     /// It was done.
     Done,
     /// A check was done, and found something.
@@ -73,7 +73,7 @@ pub enum Outcome {
     /// Nothing was done, since the words leave this unclear.
     Unclear(Unclear),
     /// A client of a desk ended so.
-    Asked(client::Outcome),
+    Asked(client::ClientExit),
 }
 
 /// Which of the process's streams are terminals.
@@ -210,7 +210,7 @@ fn end_unopened<F: Write>(program: &Program, errors: &mut F) -> u8
     match program {
         Program::Ask(_) => {
             client::say(errors, UNOPENED);
-            client::Outcome::Local.status()
+            client::ClientExit::Local.status()
         }
         _ => fail(Fault::File, errors),
     }
@@ -232,7 +232,7 @@ fn run_placed<R: Read, W: Write, F: Write>(
         → (result ≡ USAGE) × (input.new ≡ input.old) × (output.new ≡ output.old) }
     ensures quiet { result ≡ DONE → (MayTell program → ⊥) → errors.new ≡ errors.old }
 {
-    let place = Place::of(rt.alloc(), &program, terminals.errors);
+    let place = FaultPlace::of(rt.alloc(), &program, terminals.errors);
     let done = run(rt, program, input, output, errors, terminals);
     finish(rt, done, &place, errors)
 }
@@ -245,16 +245,16 @@ fn run<R: Read, W: Write, F: Write>(
     output: &mut W,
     errors: &mut F,
     terminals: Terminals,
-) -> Result<Outcome, Fault>
+) -> Result<ProgramExit, Fault>
     ensures ran { IsRun (R.remaining input.old) (R.remaining input.new)
         (W.contents output.old) (W.contents output.new) program result }
     ensures unclear { (what : WhatIsUnclear) → unclear_of program ≡ Some what
-        → (result ≡ Ok (Outcome.Unclear what))
+        → (result ≡ Ok (ProgramExit.Unclear what))
         × (input.new ≡ input.old) × (output.new ≡ output.old) }
     ensures quiet { (MayTell program → ⊥) → errors.new ≡ errors.old }
 {
     match unclear_of(&program) {
-        Some(what) => Ok(Outcome::Unclear(what)),
+        Some(what) => Ok(ProgramExit::Unclear(what)),
         None => run_clear(rt, program, input, output, errors, terminals),
     }
 }
@@ -267,7 +267,7 @@ fn run_clear<R: Read, W: Write, F: Write>(
     output: &mut W,
     errors: &mut F,
     terminals: Terminals,
-) -> Result<Outcome, Fault>
+) -> Result<ProgramExit, Fault>
     ensures ran { IsRun (R.remaining input.old) (R.remaining input.new)
         (W.contents output.old) (W.contents output.new) program result }
     ensures quiet { (MayTell program → ⊥) → errors.new ≡ errors.old }
@@ -286,7 +286,7 @@ fn run_own<R: Read, W: Write, F: Write>(
     output: &mut W,
     errors: &mut F,
     terminals: Terminals,
-) -> Result<Outcome, Fault>
+) -> Result<ProgramExit, Fault>
     requires { IsOwn program.now }
     ensures ran { IsRun (R.remaining input.old) (R.remaining input.new)
         (W.contents output.old) (W.contents output.new) program.now result }
@@ -338,7 +338,7 @@ fn run_on_records<W: Write, F: Write>(
     output: &mut W,
     errors: &mut F,
     terminals: Terminals,
-) -> Result<Outcome, Fault>
+) -> Result<ProgramExit, Fault>
     requires { IsOfRecords program.now }
 {
     let shows = terminals.errors;
@@ -386,52 +386,52 @@ fn run_on_records<W: Write, F: Write>(
 // Asks a desk.
 fn run_client<R: Read, W: Write, F: Write>(
     rt: &HostRuntime,
-    asked: Asked,
+    asked: ClientCall,
     input: &mut R,
     output: &mut W,
     errors: &mut F,
     is_terminal: bool,
-) -> Result<Outcome, Fault>
+) -> Result<ProgramExit, Fault>
     ensures { IsAsked (R.remaining input.old) (R.remaining input.new) asked }
 {
     let outcome = client_outcome(rt, asked, input, output, errors, is_terminal);
-    Ok(Outcome::Asked(outcome))
+    Ok(ProgramExit::Asked(outcome))
 }
 
 // How a client of a desk ends.
 fn client_outcome<R: Read, W: Write, F: Write>(
     rt: &HostRuntime,
-    asked: Asked,
+    asked: ClientCall,
     input: &mut R,
     output: &mut W,
     errors: &mut F,
     is_terminal: bool,
-) -> client::Outcome
+) -> client::ClientExit
     ensures { IsAsked (R.remaining input.old) (R.remaining input.new) asked }
 {
     match asked {
-        Asked::Do(call) => ask(rt, call, output, errors, is_terminal),
-        Asked::Get {
+        ClientCall::Do(call) => ask(rt, call, output, errors, is_terminal),
+        ClientCall::Get {
             desk,
             service,
             part,
         } => get(rt, &desk, &service, &part, output, errors, is_terminal),
-        Asked::Watch {
+        ClientCall::Watch {
             desk,
             until,
             json,
             forever,
             service,
         } => {
-            let manner = Manner {
+            let manner = WatchOptions {
                 until,
                 is_json: json,
                 is_forever: forever,
             };
             watch(rt, &desk, &service, &manner, output, errors)
         }
-        Asked::Send { desk, csv } => send(rt, &desk, &csv, input, output, errors),
-        Asked::Due {
+        ClientCall::Send { desk, csv } => send(rt, &desk, &csv, input, output, errors),
+        ClientCall::Due {
             desk,
             wait,
             late,
@@ -440,7 +440,7 @@ fn client_outcome<R: Read, W: Write, F: Write>(
             let sought = Sought { waits: wait, late };
             due(rt, &desk, &services, sought, output, errors, is_terminal)
         }
-        Asked::Agent(call) => agent(rt, call, input, output, errors, is_terminal),
+        ClientCall::Agent(call) => agent(rt, call, input, output, errors, is_terminal),
     }
 }
 
@@ -455,7 +455,7 @@ fn run_pipe<R: Read, W: Write, F: Write>(
     output: &mut W,
     errors: &mut F,
     shows: bool,
-) -> Result<Outcome, Fault>
+) -> Result<ProgramExit, Fault>
     ensures ran { IsRun (R.remaining input.old) (R.remaining input.new)
         (W.contents output.old) (W.contents output.new)
         (Program.Pipe at step db.now cache) result }
@@ -517,11 +517,11 @@ fn serve<W: Write, F: Write>(
 }
 
 // What comes of a program that finds nothing.
-fn done(ended: Result<(), Fault>) -> Result<Outcome, Fault>
+fn done(ended: Result<(), Fault>) -> Result<ProgramExit, Fault>
     ensures { result ≡ outcome_of ended }
 {
     match ended {
-        Ok(()) => Ok(Outcome::Done),
+        Ok(()) => Ok(ProgramExit::Done),
         Err(fault) => Err(fault),
     }
 }
@@ -546,18 +546,18 @@ fn pipe<R: Read, W: Write>(
 // The status of what was done, with the line of a fault on `errors`, and what it is about.
 fn finish<F: Write>(
     rt: &HostRuntime,
-    done: Result<Outcome, Fault>,
-    place: &Place,
+    done: Result<ProgramExit, Fault>,
+    place: &FaultPlace,
     errors: &mut F,
 ) -> u8
     ensures status { result ≡ status_of done }
     ensures quiet { result ≡ DONE → errors.new ≡ errors.old }
 {
     match done {
-        Ok(Outcome::Done) => DONE,
-        Ok(Outcome::Findings) => FAULT,
-        Ok(Outcome::Asked(outcome)) => outcome.status(),
-        Ok(Outcome::Unclear(what)) => {
+        Ok(ProgramExit::Done) => DONE,
+        Ok(ProgramExit::Findings) => FAULT,
+        Ok(ProgramExit::Asked(outcome)) => outcome.status(),
+        Ok(ProgramExit::Unclear(what)) => {
             let _ = errors.write_all(what.text().as_bytes());
             USAGE
         }

@@ -2,7 +2,7 @@
 ghost use Rattle.std.specs.Prelude.{◌≡◌};
 ghost use Rattle.canary_cli.specs.Performed.{unclear_if, unclear_of};
 
-use canary_words::words::Program;
+use canary_cli_words::words::Program;
 
 // What is said of words of `check` that name no file, or two, laid out as clap says what is wrong
 // with words.

@@ -1,14 +1,14 @@
 //! Files of manifests in YAML.
 use canary_base::error::Memory;
 use canary_programs::fault::Fault;
-use canary_yaml::fault::Fault as Refusal;
+use canary_yaml::fault::YamlFault as Refusal;
 use canary_yaml::read::{Document, is_meant_as_json, read_documents};
 use serde_json::Value;
 use std::alloc::Global;
 
 /// What a file of manifests holds.
 #[derive(Drop)]
-pub(crate) enum Reading {
+pub(crate) enum ManifestContent {
     /// A text in JSON, or one that is meant to be JSON: `{` begins it. kubectl takes such a text
     /// for JSON, too.
     Json,
@@ -19,13 +19,13 @@ pub(crate) enum Reading {
 }
 
 /// What a file of these bytes holds.
-pub(crate) fn documents_of(alloc: Global, bytes: &[u8]) -> Result<Reading, Fault> {
+pub(crate) fn documents_of(alloc: Global, bytes: &[u8]) -> Result<ManifestContent, Fault> {
     if is_meant_as_json(bytes) || is_utf16(bytes) || is_json(alloc, bytes)? {
-        return Ok(Reading::Json);
+        return Ok(ManifestContent::Json);
     }
     match read_documents(alloc, bytes) {
-        Ok(documents) if documents.is_empty() => Ok(Reading::Json),
-        Ok(documents) => Ok(Reading::Documents(documents)),
+        Ok(documents) if documents.is_empty() => Ok(ManifestContent::Json),
+        Ok(documents) => Ok(ManifestContent::Documents(documents)),
         Err(why) => refused(alloc, why),
     }
 }
@@ -45,11 +45,11 @@ fn is_json(alloc: Global, bytes: &[u8]) -> Result<bool, Fault> {
 }
 
 // The reading that says why the bytes are refused, or `Memory` if that is why.
-fn refused(alloc: Global, why: Refusal) -> Result<Reading, Fault> {
+fn refused(alloc: Global, why: Refusal) -> Result<ManifestContent, Fault> {
     match why {
         Refusal::Memory => Err(Fault::Memory),
         _ => match format!(in alloc; "{why}\n") {
-            Ok(text) => Ok(Reading::Refused(text)),
+            Ok(text) => Ok(ManifestContent::Refused(text)),
             Err(_) => Err(Fault::Memory),
         },
     }

@@ -5,18 +5,18 @@ use Rattle.std.specs.Str.{bytes_eq}
 use Rattle.std.proofs.lemmas.Slice.Eq.{bytes_eq-Decides}
 use Rattle.std.proofs.lemmas.List.Quantifiers.{position-Some}
 use Rattle.std.proofs.lemmas.Option.{get_or_from_slice_get}
-use Rattle.canary_journal.specs.declared.entry.Asked.{Asked}
-use Rattle.canary_journal.specs.declared.entry.Kept.{Kept}
-use Rattle.canary_journal.specs.declared.entry.Place.{Place}
-use Rattle.canary_journal.specs.declared.entry.Place.TheVariants as place
-use Rattle.canary_journal.specs.declared.entry.Reply.{Reply}
-use Rattle.canary_journal.specs.declared.entry.Wish.{Wish}
-use Rattle.canary_journal.specs.Journals.{JournalValue, asks, asks_instead, has_key, is_kept_under, kept_with, place_of, place_under, place_without, place_pending, settled_place, settles}
-use Rattle.canary_sending.specs.declared.network.Heard.{Heard}
-use Rattle.canary_sending.specs.Sending.{IsAskedBy, IsSettledBy}
-use Rattle.canary_sending.specs.declared.network.Why.{Why}
-use Rattle.canary_sending.specs.Networks.{GoesOn}
-use Rattle.canary_sending.proofs.NetworkLemmas.{asked_more, then_on, wider}
+use Rattle.canary_client_journal.specs.declared.entry.Asked.{Asked}
+use Rattle.canary_client_journal.specs.declared.entry.SettledNumber.{SettledNumber}
+use Rattle.canary_client_journal.specs.declared.entry.WishPlace.{WishPlace}
+use Rattle.canary_client_journal.specs.declared.entry.WishPlace.TheVariants as place
+use Rattle.canary_client_journal.specs.declared.entry.SettledReply.{SettledReply}
+use Rattle.canary_client_journal.specs.declared.entry.Wish.{Wish}
+use Rattle.canary_client_journal.specs.Journals.{JournalValue, asks, asks_instead, has_key, is_kept_under, kept_with, place_of, place_under, place_without, place_pending, settled_place, settles}
+use Rattle.canary_client_journal.specs.declared.network.Heard.{Heard}
+use Rattle.canary_client_journal.specs.Sending.{IsAskedBy, IsSettledBy}
+use Rattle.canary_client_journal.specs.declared.network.RetryReason.{RetryReason}
+use Rattle.canary_client_journal.specs.Networks.{GoesOn}
+use Rattle.canary_client_journal.proofs.NetworkLemmas.{asked_more, then_on, wider}
 use Rattle.canary_client.specs.declared.ask.SettledAt.{SettledAt}
 use Rattle.canary_client.specs.declared.wish.Asking.{Asking}
 use Rattle.canary_client.specs.Beginning.{IsSettledSo}
@@ -55,7 +55,7 @@ pending_under a intent key true true h s e =
 pending_under a intent key true false h s e = let never : ⊥ = cc e in absurd never
 pending_under a intent key false same h s e = let never : ⊥ = cc e in absurd never
 
-not_settled : (kept : List Kept) (i : ℕ) (intent : List ℕ) (b : Bool) → (if b then place.Settled i else place.KeyUsed) ≡ place.Pending → ⊥
+not_settled : (kept : List SettledNumber) (i : ℕ) (intent : List ℕ) (b : Bool) → (if b then place.Settled i else place.KeyUsed) ≡ place.Pending → ⊥
 not_settled kept i intent true e = cc e
 not_settled kept i intent false e = cc e
 
@@ -65,7 +65,7 @@ pending_at j intent key (Some b) a is None e =
     let same : b ≡ a = cc is in
     subst (λ x. (x.wish.intent ≡ intent) × (x.wish.key ≡ Some key)) same (pending_under b intent key (has_key key b.wish) (bytes_eq b.wish.intent intent) refl refl e)
 pending_at j intent key (Some b) a is (Some i) e =
-    absurd (not_settled j.kept i intent (unwrap_or (option_map (λ (k : Kept). bytes_eq k.asked.wish.intent intent) (slice_get j.kept i)) false) e)
+    absurd (not_settled j.kept i intent (unwrap_or (option_map (λ (k : SettledNumber). bytes_eq k.asked.wish.intent intent) (slice_get j.kept i)) false) e)
 
 -- what is pending is what was asked, if the journal has it as pending
 pub is_pending : (what : Asking) (j : JournalValue) (key : Option (List ℕ)) (a : Asked) → j.pending ≡ Some a → place_of j (intent_of what) key ≡ place.Pending → IsFor what key true a
@@ -76,28 +76,28 @@ is_pending what j (Some key) a is e =
     pending_at j (intent_of what) key j.pending a is (position (is_kept_under key) j.kept) e
 
 -- under a key the journal has what was asked, if it has it as settled
-found_at : (kept : List Kept) (intent : List ℕ) (n i : ℕ) (found : Option Kept) → slice_get kept i ≡ found
-    → (if unwrap_or (option_map (λ (k : Kept). bytes_eq k.asked.wish.intent intent) found) false then place.Settled i else place.KeyUsed) ≡ place.Settled n
-    → (k : Kept) × (slice_get kept n ≡ Some k) × (k.asked.wish.intent ≡ intent) × (i ≡ n)
+found_at : (kept : List SettledNumber) (intent : List ℕ) (n i : ℕ) (found : Option SettledNumber) → slice_get kept i ≡ found
+    → (if unwrap_or (option_map (λ (k : SettledNumber). bytes_eq k.asked.wish.intent intent) found) false then place.Settled i else place.KeyUsed) ≡ place.Settled n
+    → (k : SettledNumber) × (slice_get kept n ≡ Some k) × (k.asked.wish.intent ≡ intent) × (i ≡ n)
 found_at kept intent n i None there e = let never : ⊥ = cc e in absurd never
 found_at kept intent n i (Some k) there e = by (bytes_eq k.asked.wish.intent intent) refl e
   where
     by : (b : Bool) → bytes_eq k.asked.wish.intent intent ≡ b → (if b then place.Settled i else place.KeyUsed) ≡ place.Settled n
-        → (k : Kept) × (slice_get kept n ≡ Some k) × (k.asked.wish.intent ≡ intent) × (i ≡ n)
+        → (k : SettledNumber) × (slice_get kept n ≡ Some k) × (k.asked.wish.intent ≡ intent) × (i ≡ n)
     by true same e =
         let at : i ≡ n = cc e in
         (k, ap (slice_get kept) (sym at) ∙ there, (bytes_eq-Decides k.asked.wish.intent intent).0 same, at)
     by false same e = let never : ⊥ = cc e in absurd never
 
 settled_under : (what : Asking) (j : JournalValue) (key : List ℕ) (n : ℕ) (at : Option ℕ) → position (is_kept_under key) j.kept ≡ at → place_under j (intent_of what) key at ≡ place.Settled n
-    → (k : Kept) × (slice_get j.kept n ≡ Some k) × IsFor what (Some key) true k.asked
+    → (k : SettledNumber) × (slice_get j.kept n ≡ Some k) × IsFor what (Some key) true k.asked
 settled_under what j key n None is e = by j.pending e
   where
-    by : (pending : Option Asked) → place_pending pending (intent_of what) key ≡ place.Settled n → (k : Kept) × (slice_get j.kept n ≡ Some k) × IsFor what (Some key) true k.asked
+    by : (pending : Option Asked) → place_pending pending (intent_of what) key ≡ place.Settled n → (k : SettledNumber) × (slice_get j.kept n ≡ Some k) × IsFor what (Some key) true k.asked
     by None e = let never : ⊥ = cc e in absurd never
     by (Some a) e = among (has_key key a.wish) (bytes_eq a.wish.intent (intent_of what)) e
       where
-        among : (has same : Bool) → (if not has then place.Behind else (if same then place.Pending else place.KeyUsed)) ≡ place.Settled n → (k : Kept) × (slice_get j.kept n ≡ Some k) × IsFor what (Some key) true k.asked
+        among : (has same : Bool) → (if not has then place.Behind else (if same then place.Pending else place.KeyUsed)) ≡ place.Settled n → (k : SettledNumber) × (slice_get j.kept n ≡ Some k) × IsFor what (Some key) true k.asked
         among true true e = let never : ⊥ = cc e in absurd never
         among true false e = let never : ⊥ = cc e in absurd never
         among false same e = let never : ⊥ = cc e in absurd never
@@ -110,14 +110,14 @@ settled_under what j key n (Some i) is e =
     (k, found.1, (found.2, key_of k.asked.wish k.asked.wish.key key refl under))
 
 -- the journal has what was asked as settled, under its key, if it says so
-pub is_settled : (what : Asking) (j : JournalValue) (key : Option (List ℕ)) (n : ℕ) → place_of j (intent_of what) key ≡ place.Settled n → (k : Kept) × (slice_get j.kept n ≡ Some k) × IsFor what key true k.asked
+pub is_settled : (what : Asking) (j : JournalValue) (key : Option (List ℕ)) (n : ℕ) → place_of j (intent_of what) key ≡ place.Settled n → (k : SettledNumber) × (slice_get j.kept n ≡ Some k) × IsFor what key true k.asked
 is_settled what j None n e = by j.pending e
   where
-    by : (pending : Option Asked) → place_without pending (intent_of what) ≡ place.Settled n → (k : Kept) × (slice_get j.kept n ≡ Some k) × IsFor what None true k.asked
+    by : (pending : Option Asked) → place_without pending (intent_of what) ≡ place.Settled n → (k : SettledNumber) × (slice_get j.kept n ≡ Some k) × IsFor what None true k.asked
     by None e = let never : ⊥ = cc e in absurd never
     by (Some a) e = among (is_none a.wish.key && bytes_eq a.wish.intent (intent_of what)) e
       where
-        among : (b : Bool) → (if b then place.Pending else place.Behind) ≡ place.Settled n → (k : Kept) × (slice_get j.kept n ≡ Some k) × IsFor what None true k.asked
+        among : (b : Bool) → (if b then place.Pending else place.Behind) ≡ place.Settled n → (k : SettledNumber) × (slice_get j.kept n ≡ Some k) × IsFor what None true k.asked
         among true e = let never : ⊥ = cc e in absurd never
         among false e = let never : ⊥ = cc e in absurd never
 is_settled what j (Some key) n e =
@@ -125,7 +125,7 @@ is_settled what j (Some key) n e =
 
 -- What a reply settles.
 
-kept_after : (kept : List Kept) (pending : Option Asked) (a : Asked) (reply : Reply) → pending ≡ Some a → slice_get (kept_with kept pending reply) (length kept) ≡ Some (record { asked = a; reply = reply })
+kept_after : (kept : List SettledNumber) (pending : Option Asked) (a : Asked) (reply : SettledReply) → pending ≡ Some a → slice_get (kept_with kept pending reply) (length kept) ≡ Some (record { asked = a; reply = reply })
 kept_after kept None a reply is = let none : ⊥ = cc is in absurd none
 kept_after kept (Some b) a reply is =
     let same : b ≡ a = cc is in
@@ -146,7 +146,7 @@ settles_at told what key old j new is_wish n at for so =
     }))
 
 -- what the journal had stays there
-pub had_before : (told : List ℕ → Heard → Type 0) (what : Asking) (key : Option (List ℕ)) (j : JournalValue) (n : ℕ) → ((k : Kept) × (slice_get j.kept n ≡ Some k) × IsFor what key true k.asked)
+pub had_before : (told : List ℕ → Heard → Type 0) (what : Asking) (key : Option (List ℕ)) (j : JournalValue) (n : ℕ) → ((k : SettledNumber) × (slice_get j.kept n ≡ Some k) × IsFor what key true k.asked)
     → IsSettledAt told what key j j (record { place = n; is_wish = true })
 had_before told what key j n has =
     record { kept = has.0; there = has.1; asked = has.2; reply = inl has.1 }
@@ -185,7 +185,7 @@ sent_now told what key j now is_wish same for m by = inr (inr (
 ))
 
 -- what was sent with fewer replies is sent with more
-pub sent_more : (T U : List ℕ → Heard → Type 0) → ((m : List ℕ) (heard : Heard) → T m heard → U m heard) → (what : Asking) (key : Option (List ℕ)) (j : JournalValue) (m : List ℕ) → IsSentFor T what key j m → IsSentFor U what key j m
+pub sent_more : (T U : List ℕ → Heard → Type 0) → ((m : List ℕ) (response : Heard) → T m response → U m response) → (what : Asking) (key : Option (List ℕ)) (j : JournalValue) (m : List ℕ) → IsSentFor T what key j m → IsSentFor U what key j m
 sent_more T U more what key j m (inl query) = inl query
 sent_more T U more what key j m (inr (inl before)) = inr (inl (asked_more T U more j m before))
 sent_more T U more what key j m (inr (inr now)) =
@@ -203,7 +203,7 @@ sent_after told earlier what key j new so m sent =
 
 -- Call after call.
 
-module _ {N : Type 0} (was_sent : N → List ℕ → Type 0) (was_told : N → List ℕ → Heard → Type 0) (was_unanswered : N → List ℕ → Why → Type 0) where
+module _ {N : Type 0} (was_sent : N → List ℕ → Type 0) (was_told : N → List ℕ → Heard → Type 0) (was_unanswered : N → List ℕ → RetryReason → Type 0) where
   -- one message, once more
   pub once_more : (old mid new : N) (text sent : List ℕ) → sent ≡ text → GoesOn was_sent was_told was_unanswered old mid (λ m. m ≡ text) → GoesOn was_sent was_told was_unanswered mid new (λ m. m ≡ sent)
       → GoesOn was_sent was_told was_unanswered old new (λ m. m ≡ text)

@@ -1,13 +1,13 @@
 -- How a caller's journal begins, and what is asked by it.
 use Rattle.std.specs.Prelude.{◌≡◌, ◌⊎◌, ℕ, ◌+◌, List, Some, codes}
-use Rattle.canary_journal.specs.declared.entry.Reply.{Reply}
-use Rattle.canary_journal.specs.declared.meaning.Meaning.TheVariants.{Ahead}
-use Rattle.canary_journal.specs.Journals.{JournalValue, begun, settles}
-use Rattle.canary_journal.specs.Meanings.{meaning_of}
-use Rattle.canary_journal.specs.Readings.{journal_in}
-use Rattle.canary_sending.specs.declared.network.Heard.{Heard}
-use Rattle.canary_sending.specs.Messages.{request_text}
-use Rattle.canary_sending.specs.Sending.{IsSettledBy}
+use Rattle.canary_client_journal.specs.declared.entry.SettledReply.{SettledReply}
+use Rattle.canary_client_journal.specs.declared.meaning.Meaning.TheVariants.{Ahead}
+use Rattle.canary_client_journal.specs.Journals.{JournalValue, begun, settles}
+use Rattle.canary_client_journal.specs.Meanings.{meaning_of}
+use Rattle.canary_client_journal.specs.Readings.{journal_in}
+use Rattle.canary_client_journal.specs.declared.network.Heard.{Heard}
+use Rattle.canary_client_journal.specs.Messages.{request_text}
+use Rattle.canary_client_journal.specs.Sending.{IsSettledBy}
 
 -- the message that asks which number of a caller comes next: it is ahead of that one
 abbrev pub probe_text : List ℕ → List ℕ
@@ -16,8 +16,8 @@ probe_text caller = request_text caller 1000000000 (codes "{\"tick\":{\"service\
 -- the desk answered to it that it has settled so many requests of the caller
 abbrev pub IsSaid : (List ℕ → Heard → Type 0) → List ℕ → ℕ → Type 0
 IsSaid was_told caller settled =
-    (heard : Heard) × was_told (probe_text caller) heard
-    × (meaning_of heard.status heard.body ≡ Ahead (settled + 1))
+    (response : Heard) × was_told (probe_text caller) response
+    × (meaning_of response.status response.body ≡ Ahead (settled + 1))
 
 -- the journal stood in the file, or it begins with what the desk said
 abbrev pub IsOpenedOrBegun : (List ℕ → Heard → Type 0) → List ℕ → List ℕ → JournalValue → Type 0
@@ -28,4 +28,4 @@ IsOpenedOrBegun was_told caller file j =
 -- a number was settled by a reply of the desk, which the journal has
 abbrev pub IsSettledSo : (List ℕ → Heard → Type 0) → JournalValue → JournalValue → Type 0
 IsSettledSo was_told pending j =
-    (reply : Reply) × IsSettledBy was_told pending reply × (j ≡ settles pending reply)
+    (reply : SettledReply) × IsSettledBy was_told pending reply × (j ≡ settles pending reply)

@@ -1,12 +1,12 @@
 -- How a call of the client ends.
 use Rattle.std.specs.Prelude.{ℕ, ◌==◌, if◌then◌else◌}
-use Rattle.canary_client.specs.declared.outcome.Outcome.{Outcome}
-use Rattle.canary_client.specs.declared.outcome.Outcome.TheVariants.{Done, Refused, Words, Pending, Contradiction, Local, Late, Held, RowsRefused}
+use Rattle.canary_client.specs.declared.outcome.ClientExit.{ClientExit}
+use Rattle.canary_client.specs.declared.outcome.ClientExit.TheVariants.{Done, Refused, Words, Pending, Contradiction, Local, Late, Held, RowsRefused}
 use Rattle.canary_client.specs.declared.outcome.Stop.{Stop}
 use Rattle.canary_client.specs.declared.outcome.Stop.TheVariants as stop
 
 -- the exit status
-abbrev pub status_of : Outcome → ℕ
+abbrev pub status_of : ClientExit → ℕ
 status_of Done = 0
 status_of Refused = 1
 status_of Words = 2
@@ -18,11 +18,11 @@ status_of Held = 7
 status_of RowsRefused = 8
 
 -- how a call of `send` ends of whose rows so many were refused, and each was answered
-abbrev pub rows_outcome : ℕ → Outcome
+abbrev pub rows_outcome : ℕ → ClientExit
 rows_outcome refused = if refused == 0 then Done else RowsRefused
 
 -- how a call ends that stopped
-abbrev pub outcome_of : Stop → Outcome
+abbrev pub outcome_of : Stop → ClientExit
 -- by the words of the call, or a variable in their place: nothing was sent
 outcome_of stop.Address = Words
 outcome_of stop.NoCaller = Words

@@ -5,16 +5,16 @@ use Rattle.canary_plan.specs.declared.command.Command.{Command}
 use Rattle.canary_canonical.specs.Texts.{command_text}
 use Rattle.canary_manifest.specs.Commands.{body_reading}
 use Rattle.canary_manifest.specs.Readings.{readable}
-use Rattle.canary_markup.specs.Showing.{shown}
-use Rattle.canary_markup.specs.declared.shown.Form.TheVariants.{Json}
-use Rattle.canary_journal.specs.declared.entry.Asked.{Asked}
-use Rattle.canary_journal.specs.declared.entry.Kept.{Kept}
-use Rattle.canary_journal.specs.declared.meaning.Meaning.TheVariants.{Settled}
-use Rattle.canary_journal.specs.Journals.{JournalValue}
-use Rattle.canary_journal.specs.Meanings.{meaning_of}
-use Rattle.canary_sending.specs.declared.network.Heard.{Heard}
-use Rattle.canary_sending.specs.Messages.{request_text, query_text}
-use Rattle.canary_sending.specs.Sending.{body_of, IsAskedBy}
+use Rattle.canary_page_html.specs.Showing.{shown}
+use Rattle.canary_page_html.specs.declared.shown.TextKind.TheVariants.{Json}
+use Rattle.canary_client_journal.specs.declared.entry.Asked.{Asked}
+use Rattle.canary_client_journal.specs.declared.entry.SettledNumber.{SettledNumber}
+use Rattle.canary_client_journal.specs.declared.meaning.Meaning.TheVariants.{Settled}
+use Rattle.canary_client_journal.specs.Journals.{JournalValue}
+use Rattle.canary_client_journal.specs.Meanings.{meaning_of}
+use Rattle.canary_client_journal.specs.declared.network.Heard.{Heard}
+use Rattle.canary_client_journal.specs.Messages.{request_text, query_text}
+use Rattle.canary_client_journal.specs.Sending.{body_of, IsAskedBy}
 use Rattle.canary_client.specs.declared.ask.SettledAt.{SettledAt}
 use Rattle.canary_client.specs.declared.wish.Asking.{Asking}
 use Rattle.canary_client.specs.declared.wish.Asking.TheVariants as asking
@@ -44,20 +44,20 @@ IsFor what key false a = (body : List ℕ) × (a.instead ≡ Some body) × AsksF
 -- Where its reply stands.
 
 -- the desk answered so to a message under the number of this place
-pub record IsReplyAt (was_told : List ℕ → Heard → Type 0) (j : JournalValue) (place : ℕ) (k : Kept) : Type 0 where
+pub record IsReplyAt (was_told : List ℕ → Heard → Type 0) (j : JournalValue) (place : ℕ) (k : SettledNumber) : Type 0 where
   pub told : was_told (request_text j.caller (j.before + place + 1) (body_of k.asked k.reply.is_late))
       (record { status = k.reply.status; body = k.reply.body })
   pub meaning : meaning_of k.reply.status k.reply.body ≡ Settled
 
 -- at this place the journal has what was asked and its reply: since before, or the desk gave it now
 pub record IsSettledAt (was_told : List ℕ → Heard → Type 0) (what : Asking) (key : Option (List ℕ)) (old new : JournalValue) (at : SettledAt) : Type 0 where
-  pub kept : Kept
+  pub kept : SettledNumber
   pub there : slice_get new.kept at.place ≡ Some kept
   pub asked : IsFor what key at.is_wish kept.asked
   pub reply : (slice_get old.kept at.place ≡ Some kept) ⊎ IsReplyAt was_told new at.place kept
 
 -- a reply as it is shown where no person reads: one line, the body with its marks escaped
-abbrev pub reply_line : Kept → List ℕ
+abbrev pub reply_line : SettledNumber → List ℕ
 reply_line k = shown Json k.reply.body ++ 10 ∷ []
 
 -- What is sent.
@@ -75,7 +75,8 @@ pub record IsPendingFor (what : Asking) (key : Option (List ℕ)) (caller : List
   pub is : IsFor what key is_wish asked
 
 -- a message of a call: a query, one of what was pending before it, or one of what was asked
-abbrev pub IsSentFor : (List ℕ → Heard → Type 0) → Asking → Option (List ℕ) → JournalValue → List ℕ → Type 0
+abbrev pub IsSentFor : (List ℕ → Heard → Type 0) → Asking → Option (List ℕ) → JournalValue → List ℕ
+    → Type 0
 IsSentFor was_told what key j m =
     IsQuery m
     ⊎ (IsAskedBy was_told j m

@@ -1,8 +1,8 @@
 -- What a reply means for the query that it answers.
 use Rattle.std.specs.Prelude.{ℕ, ◌==◌, ◌&&◌, List, [], ◌∷◌, Option, Some, None, if◌then◌else◌, codes}
-use Rattle.canary_journal.specs.Meanings.{is_among, message_codes}
-use Rattle.canary_sending.specs.declared.network.Why.{Why}
-use Rattle.canary_sending.specs.declared.network.Why.TheVariants.{Foreign, Unavailable}
+use Rattle.canary_client_journal.specs.Meanings.{is_among, message_codes}
+use Rattle.canary_client_journal.specs.declared.network.RetryReason.{RetryReason}
+use Rattle.canary_client_journal.specs.declared.network.RetryReason.TheVariants.{Foreign, Unavailable}
 
 -- what there is not
 abbrev pub not_found_codes : List (List ℕ)
@@ -11,7 +11,7 @@ not_found_codes = codes "unknown-service" ∷ codes "unknown-run" ∷ codes "no-
 -- a status, codes that a desk sends with it as it answers a query, and why such a query is sent
 -- again, if it is
 abbrev pub Row : Type 0
-Row = ℕ × (List (List ℕ) × Option Why)
+Row = ℕ × (List (List ℕ) × Option RetryReason)
 
 abbrev pub replies : List Row
 replies =
@@ -23,10 +23,10 @@ replies =
     ∷ []
 
 -- by the first row that has both; a pair of no row is no desk's
-abbrev pub why_among : List Row → ℕ → List ℕ → Option Why
+abbrev pub why_among : List Row → ℕ → List ℕ → Option RetryReason
 why_among [] status code = Some Foreign
 why_among (row ∷ rows) status code =
     if status == row.0 && is_among row.1.0 code then row.1.1 else why_among rows status code
 
-abbrev pub why_again : ℕ → List ℕ → Option Why
+abbrev pub why_again : ℕ → List ℕ → Option RetryReason
 why_again status code = why_among replies status code

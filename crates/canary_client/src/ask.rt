@@ -2,37 +2,37 @@
 ghost use Rattle.std.specs.Prelude.{◌≡◌, ◌⊎◌, ◌++◌, ◌∷◌, [], List, ℕ, Some, None, false};
 ghost use Rattle.std.specs.Prelude.{IfOk, OnOk, IsTrue, Option, length, slice_get};
 ghost use Rattle.std.specs.Io.KnownBytes.{Appends};
-ghost use Rattle.canary_journal.specs.declared.entry.Asked.{Asked};
-ghost use Rattle.canary_journal.specs.declared.entry.Kept.{Kept};
-ghost use Rattle.canary_journal.specs.Journals.{JournalValue};
-ghost use Rattle.canary_markup.specs.Showing.{shown};
-ghost use Rattle.canary_markup.specs.declared.shown.Form.TheVariants.{Json};
-ghost use Rattle.canary_sending.specs.Keeping.{IsKept};
-ghost use Rattle.canary_sending.specs.Networks.{GoesOn};
-ghost use Rattle.canary_sending.specs.Sending.{IsAskedBy};
+ghost use Rattle.canary_client_journal.specs.declared.entry.Asked.{Asked};
+ghost use Rattle.canary_client_journal.specs.declared.entry.SettledNumber.{SettledNumber};
+ghost use Rattle.canary_client_journal.specs.Journals.{JournalValue};
+ghost use Rattle.canary_page_html.specs.Showing.{shown};
+ghost use Rattle.canary_page_html.specs.declared.shown.TextKind.TheVariants.{Json};
+ghost use Rattle.canary_client_journal.specs.Keeping.{IsKept};
+ghost use Rattle.canary_client_journal.specs.Networks.{GoesOn};
+ghost use Rattle.canary_client_journal.specs.Sending.{IsAskedBy};
 ghost use Rattle.canary_client.specs.declared.ask.SettledAt.{SettledAt};
 ghost use Rattle.canary_client.specs.Asking.{acted, by_reply, outcome_by};
 ghost use Rattle.canary_client.specs.Beginning.{IsSettledSo};
 ghost use Rattle.canary_client.specs.Promises.{intent_of, IsFor, IsSettledAt};
 ghost use Rattle.canary_client.specs.Promises.{IsQuery, IsSentFor, reply_line};
 
-use crate::each::{Named, commands_of};
+use crate::each::{NamedCommand, commands_of};
+use crate::endpoint::{DeskEndpoint, caller_of, endpoint_of, journal_of};
 use crate::journals::{asked, asked_instead, device_at, journal_on, settled};
-use crate::outcome::{Outcome, Stop, say, say_of, show};
-use crate::place::{Place as DeskPlace, caller_of, journal_of, place_of};
+use crate::outcome::{ClientExit, Stop, say, say_of, show};
 use crate::plain::{json_of, line_of};
 use crate::report::{next_ordinal, report_body};
 use crate::tcp::Tcp;
 use crate::wish::{Asking, has_intent, read_asking};
 use canary_base::lists::Text;
 use canary_base::names::Name;
-use canary_journal::entry::{Kept, Place, Reply, Wish};
-use canary_journal::journal::Journal;
-use canary_records::device::Device;
-use canary_records::file::FileDevice;
-use canary_sending::kept::KeptJournal;
-use canary_sending::network::Network;
-use canary_words::words::Call;
+use canary_cli_words::words::Call;
+use canary_client_journal::entry::{SettledNumber, SettledReply, Wish, WishPlace};
+use canary_client_journal::journal::Journal;
+use canary_client_journal::kept::KeptJournal;
+use canary_client_journal::network::Network;
+use canary_client_records::device::Device;
+use canary_client_records::file::FileDevice;
 use std::alloc::Global;
 use std::io::Write;
 use std::time::SystemTime;
@@ -55,7 +55,7 @@ pub fn ask<W: Write, F: Write>(
     output: &mut W,
     errors: &mut F,
     is_terminal: bool,
-) -> Outcome {
+) -> ClientExit {
     let journal = journal_of(rt, &call.journal).ok();
     match try_ask(rt, &call, output, errors, is_terminal) {
         Ok(outcome) => outcome,
@@ -64,7 +64,12 @@ pub fn ask<W: Write, F: Write>(
 }
 
 // Says why a call stopped, with the name of the journal if that is why.
-fn tell_of<F: Write>(alloc: Global, stop: Stop, journal: &Option<Text>, errors: &mut F) -> Outcome {
+fn tell_of<F: Write>(
+    alloc: Global,
+    stop: Stop,
+    journal: &Option<Text>,
+    errors: &mut F,
+) -> ClientExit {
     match journal {
         Some(path) if stop.is_of_journal() => {
             say_of(alloc, errors, stop.sentence(), path.as_str())
@@ -81,11 +86,11 @@ fn try_ask<W: Write, F: Write>(
     output: &mut W,
     errors: &mut F,
     is_terminal: bool,
-) -> Result<Outcome, Stop> {
+) -> Result<ClientExit, Stop> {
     if call.is_instead && call.key.is_some() {
         return Err(Stop::KeyInstead);
     }
-    let place = place_of(rt, &call.desk)?;
+    let place = endpoint_of(rt, &call.desk)?;
     let caller = caller_of(rt, &call.caller)?;
     if call.is_argo {
         return ask_each(rt, call, &place, caller, output, errors, is_terminal);
@@ -97,12 +102,12 @@ fn try_ask<W: Write, F: Write>(
 fn ask_plain<W: Write, F: Write>(
     rt: &HostRuntime,
     call: &Call,
-    place: &DeskPlace,
+    place: &DeskEndpoint,
     caller: Name,
     output: &mut W,
     errors: &mut F,
     is_terminal: bool,
-) -> Result<Outcome, Stop> {
+) -> Result<ClientExit, Stop> {
     let asking = read_asking(rt, &call.command)?;
     let key = key_of(rt.alloc(), &call.key, "")?;
     ask_one(
@@ -123,13 +128,13 @@ fn ask_plain<W: Write, F: Write>(
 fn ask_each<W: Write, F: Write>(
     rt: &HostRuntime,
     call: &Call,
-    place: &DeskPlace,
+    place: &DeskEndpoint,
     caller: Name,
     output: &mut W,
     errors: &mut F,
     is_terminal: bool,
-) -> Result<Outcome, Stop> {
-    for Named { name, asking } in commands_of(rt, &call.command, errors)? {
+) -> Result<ClientExit, Stop> {
+    for NamedCommand { name, asking } in commands_of(rt, &call.command, errors)? {
         let key = key_of(rt.alloc(), &call.key, name.as_str())?;
         let outcome = ask_one(
             rt,
@@ -142,11 +147,11 @@ fn ask_each<W: Write, F: Write>(
             errors,
             is_terminal,
         )?;
-        if outcome != Outcome::Done {
+        if outcome != ClientExit::Done {
             return Ok(outcome);
         }
     }
-    Ok(Outcome::Done)
+    Ok(ClientExit::Done)
 }
 
 // The key of what is registered under this name; that of the call, if there is no name.
@@ -166,14 +171,14 @@ fn key_of(alloc: Global, key: &Option<Text>, name: &str) -> Result<Option<Text>,
 fn ask_one<W: Write, F: Write>(
     rt: &HostRuntime,
     call: &Call,
-    place: &DeskPlace,
+    place: &DeskEndpoint,
     caller: Name,
     asking: Asking,
     key: Option<Text>,
     output: &mut W,
     errors: &mut F,
     is_terminal: bool,
-) -> Result<Outcome, Stop> {
+) -> Result<ClientExit, Stop> {
     let device = device_of(rt, &call.journal)?;
     let mut network = Tcp::new(rt, place);
     let (is_in_doubt, tries) = (device.is_in_doubt(), place.tries);
@@ -205,7 +210,7 @@ fn ask_kept<N: Network, D: Device, W: Write, F: Write>(
     output: &mut W,
     errors: &mut F,
     is_terminal: bool,
-) -> Result<Outcome, Stop>
+) -> Result<ClientExit, Stop>
     requires { IsKept D.seen D.may_leave kept.old }
     ensures kept { OnOk result (IsKept D.seen D.may_leave kept.new) }
     ensures first { (output.new ≡ output.old) ⊎ (IsKept D.seen D.may_leave kept.new
@@ -260,15 +265,15 @@ fn settle_asked<N: Network, D: Device, F: Write>(
         return resumed(rt.alloc(), network, kept, false, tries);
     }
     match kept.journal.place_of(asking.intent(), &key) {
-        Place::Settled(place) => Ok(SettledAt {
+        WishPlace::Settled(place) => Ok(SettledAt {
             place,
             is_wish: true,
         }),
-        Place::Pending => resumed(rt.alloc(), network, kept, true, tries),
-        Place::KeyUsed => Err(Stop::KeyUsed),
-        Place::New => ask_anew(rt, network, kept, asking, key, tries),
-        Place::Behind if is_instead => instead(rt.alloc(), network, kept, asking, tries),
-        Place::Behind => {
+        WishPlace::Pending => resumed(rt.alloc(), network, kept, true, tries),
+        WishPlace::KeyUsed => Err(Stop::KeyUsed),
+        WishPlace::New => ask_anew(rt, network, kept, asking, key, tries),
+        WishPlace::Behind if is_instead => instead(rt.alloc(), network, kept, asking, tries),
+        WishPlace::Behind => {
             say(errors, BEHIND);
             ask_next(rt, network, kept, asking, key, tries)
         }
@@ -423,8 +428,8 @@ fn show_settled<D: Device, W: Write, F: Write>(
     output: &mut W,
     errors: &mut F,
     is_terminal: bool,
-) -> Result<Outcome, Stop>
-    ensures { (k : Kept) → slice_get kept.now.journal.kept settled.place ≡ Some k
+) -> Result<ClientExit, Stop>
+    ensures { (k : SettledNumber) → slice_get kept.now.journal.kept settled.place ≡ Some k
         → IfOk result (λ outcome. (outcome ≡ outcome_by settled.is_wish k)
         × (is_terminal ≡ false → Appends (W.contents output.old) (W.contents output.new)
         (reply_line k))) }
@@ -434,7 +439,7 @@ fn show_settled<D: Device, W: Write, F: Write>(
     };
     show_body(alloc, kept.reply.body.as_str(), output, is_terminal)?;
     let outcome = outcome_of(kept, settled.is_wish);
-    if outcome == Outcome::Late {
+    if outcome == ClientExit::Late {
         say(errors, if settled.is_wish { REPLACED } else { TOO_LATE });
     }
     Ok(outcome)
@@ -442,35 +447,35 @@ fn show_settled<D: Device, W: Write, F: Write>(
 
 // How a call ends by what settled a number: that of the wish, or that of what was asked in its
 // place. Only one of the two acted.
-fn outcome_of(kept: &Kept, is_wish: bool) -> Outcome
+fn outcome_of(kept: &SettledNumber, is_wish: bool) -> ClientExit
     ensures { result ≡ outcome_by is_wish kept.now }
 {
     if is_wish {
         if acted(kept) {
             by_reply(&kept.reply)
         } else {
-            Outcome::Late
+            ClientExit::Late
         }
     } else if acted(kept) {
-        Outcome::Late
+        ClientExit::Late
     } else {
         by_reply(&kept.reply)
     }
 }
 
 // How a call ends by a reply: `Done` if its status is 200, else `Refused`.
-fn by_reply(reply: &Reply) -> Outcome
+fn by_reply(reply: &SettledReply) -> ClientExit
     ensures { result ≡ by_reply reply.now }
 {
     if reply.status == 200 {
-        Outcome::Done
+        ClientExit::Done
     } else {
-        Outcome::Refused
+        ClientExit::Refused
     }
 }
 
 // Whether the wish acted, and not what was asked in its place.
-fn acted(kept: &Kept) -> bool
+fn acted(kept: &SettledNumber) -> bool
     ensures { result ≡ acted kept.now }
 {
     kept.asked.instead.is_none() || kept.reply.is_late

@@ -12,23 +12,23 @@ const BETWEEN: u64 = 1;
 // The first pause before a message is sent again, and the longest, in milliseconds.
 const FIRST_PAUSE: u64 = 100;
 
-const LONGEST_PAUSE: u64 = 5_000;
+const MAX_PAUSE: u64 = 5_000;
 
 /// A span of time that began at some moment, and ends so much later, or never.
 #[derive(Clone, Copy, Debug)]
-pub struct Span {
+pub struct Deadline {
     start: Instant,
     most: Option<Duration>,
 }
 
-impl Span {
+impl Deadline {
     /// A span that begins now, of so many seconds, or without an end.
     ///
     /// # Errors
     /// `Clock` if the clock cannot be read.
-    pub fn of_call(rt: &HostRuntime, seconds: Option<u64>) -> Result<Span, Stop> {
+    pub fn of_call(rt: &HostRuntime, seconds: Option<u64>) -> Result<Deadline, Stop> {
         match Instant::now(rt) {
-            Ok(start) => Ok(Span {
+            Ok(start) => Ok(Deadline {
                 start,
                 most: seconds.map(Duration::from_secs),
             }),
@@ -37,9 +37,9 @@ impl Span {
     }
 
     /// A span that begins now and lasts so long; none if the clock cannot be read.
-    pub fn lasting(rt: &HostRuntime, time: Duration) -> Option<Span> {
+    pub fn lasting(rt: &HostRuntime, time: Duration) -> Option<Deadline> {
         let start = Instant::now(rt).ok()?;
-        Some(Span {
+        Some(Deadline {
             start,
             most: Some(time),
         })
@@ -97,5 +97,5 @@ pub fn pause_after(tried: u32) -> u64
     ensures { result ≡ pause_after tried }
 {
     let doubled = FIRST_PAUSE * (1u64 << tried.min(10)) / 2;
-    doubled.min(LONGEST_PAUSE)
+    doubled.min(MAX_PAUSE)
 }

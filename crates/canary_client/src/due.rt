@@ -1,16 +1,16 @@
 //! `due`: the measurements that services wait for.
-use crate::clock::Span;
-use crate::outcome::{Outcome, Stop, say, show, tell};
-use crate::place::{place_of, service_of, waiting};
+use crate::clock::Deadline;
+use crate::endpoint::{endpoint_of, service_of, waiting};
+use crate::outcome::{ClientExit, Stop, say, show, tell};
 use crate::query::value_at;
 use crate::tcp::Tcp;
 use canary_base::lists::{Listed, Text};
 use canary_base::moments::Moment;
 use canary_base::names::Name;
+use canary_cli_words::words::AskedDesk;
+use canary_client_journal::network::Network;
 use canary_decimal::shown::Shown;
-use canary_markup::shown::{Form, shown};
-use canary_sending::network::Network;
-use canary_words::words::AskedDesk;
+use canary_page_html::shown::{TextKind, shown};
 use serde_json::Value;
 use std::alloc::{AllocError, Global};
 use std::io::Write;
@@ -38,7 +38,7 @@ pub fn due<W: Write, F: Write>(
     output: &mut W,
     errors: &mut F,
     is_terminal: bool,
-) -> Outcome {
+) -> ClientExit {
     match try_due(rt, desk, services, sought, output, errors, is_terminal) {
         Ok(outcome) => outcome,
         Err(stop) => tell(stop, errors),
@@ -54,10 +54,10 @@ fn try_due<W: Write, F: Write>(
     output: &mut W,
     errors: &mut F,
     is_terminal: bool,
-) -> Result<Outcome, Stop> {
+) -> Result<ClientExit, Stop> {
     are_services(services.as_slice())?;
-    let place = place_of(rt, desk)?;
-    let look = Look {
+    let place = endpoint_of(rt, desk)?;
+    let look = DueScan {
         alloc: rt.alloc(),
         tries: place.tries,
         late: sought.late,
@@ -70,7 +70,7 @@ fn try_due<W: Write, F: Write>(
         return Ok(outcome_of(found));
     }
     let place = waiting(place);
-    let call = Span::of_call(rt, place.wait_seconds)?;
+    let call = Deadline::of_call(rt, place.wait_seconds)?;
     let network = Tcp::within(rt, &place, call);
     match look_until(rt, network, look, services.as_slice(), call, output, errors) {
         Ok(outcome) => Ok(outcome),
@@ -82,16 +82,16 @@ fn try_due<W: Write, F: Write>(
 fn look_until<W: Write, F: Write>(
     rt: &HostRuntime,
     network: Tcp<'_>,
-    look: Look,
+    look: DueScan,
     words: &[Text],
-    call: Span,
+    call: Deadline,
     output: &mut W,
     errors: &mut F,
-) -> Result<Outcome, Stop> {
+) -> Result<ClientExit, Stop> {
     let mut network = network;
     for _ in 0..u64::MAX {
         match look.at_services(&mut network, words, output, errors)? {
-            Found::NothingDue => call.go_on(rt)?,
+            DueState::NothingDue => call.go_on(rt)?,
             found => return Ok(outcome_of(found)),
         }
     }
@@ -108,7 +108,7 @@ fn are_services(words: &[Text]) -> Result<(), Stop> {
 
 // What a look at services found.
 #[derive(Clone, Copy, Debug, PartialEq, Eq)]
-enum Found {
+enum DueState {
     // No run is open.
     NoRun,
     // No measurement of the open runs is due.
@@ -117,28 +117,28 @@ enum Found {
     Due,
 }
 
-impl Found {
+impl DueState {
     // With what was found besides.
-    fn with(self, other: Found) -> Found {
+    fn with(self, other: DueState) -> DueState {
         match (self, other) {
-            (Found::Due, _) | (_, Found::Due) => Found::Due,
-            (Found::NoRun, Found::NoRun) => Found::NoRun,
-            _ => Found::NothingDue,
+            (DueState::Due, _) | (_, DueState::Due) => DueState::Due,
+            (DueState::NoRun, DueState::NoRun) => DueState::NoRun,
+            _ => DueState::NothingDue,
         }
     }
 }
 
 // How a call ends that found this.
-fn outcome_of(found: Found) -> Outcome {
+fn outcome_of(found: DueState) -> ClientExit {
     match found {
-        Found::Due => Outcome::Done,
-        _ => Outcome::Refused,
+        DueState::Due => ClientExit::Done,
+        _ => ClientExit::Refused,
     }
 }
 
 // How a desk is looked at.
 #[derive(Clone, Copy)]
-struct Look {
+struct DueScan {
     alloc: Global,
     tries: u32,
     late: Option<u64>,
@@ -146,7 +146,7 @@ struct Look {
     is_terminal: bool,
 }
 
-impl Look {
+impl DueScan {
     // Shows what is sought of these services. If there are several, a missing one is only reported.
     fn at_services<N: Network, W: Write, F: Write>(
         &self,
@@ -154,8 +154,8 @@ impl Look {
         words: &[Text],
         output: &mut W,
         errors: &mut F,
-    ) -> Result<Found, Stop> {
-        let mut found = Found::NoRun;
+    ) -> Result<DueState, Stop> {
+        let mut found = DueState::NoRun;
         for word in words {
             match self.at_service(network, service_of(word)?, output) {
                 Ok(more) => found = found.with(more),
@@ -172,7 +172,7 @@ impl Look {
         network: &mut N,
         service: Name,
         output: &mut W,
-    ) -> Result<Found, Stop> {
+    ) -> Result<DueState, Stop> {
         let name = service.as_str();
         let path = format!(in self.alloc; "/services/{name}")?;
         let value = value_at(self.alloc, network, path.as_str(), self.tries)?;
@@ -181,7 +181,7 @@ impl Look {
         let (Some(moment), Some(open)) = (moment, open) else {
             return Err(Stop::Query);
         };
-        let mut found = Found::NoRun;
+        let mut found = DueState::NoRun;
         for run in open.iter() {
             let Some(run) = run.as_u64() else {
                 return Err(Stop::Query);
@@ -199,18 +199,18 @@ impl Look {
         run: u64,
         moment: u64,
         output: &mut W,
-    ) -> Result<Found, Stop> {
+    ) -> Result<DueState, Stop> {
         let name = service.as_str();
         let path = format!(in self.alloc; "/services/{name}/runs/{run}")?;
         let value = value_at(self.alloc, network, path.as_str(), self.tries)?;
         let Some(metrics) = value.get("metrics").and_then(Value::as_array) else {
             return Err(Stop::Query);
         };
-        let mut found = Found::NothingDue;
+        let mut found = DueState::NothingDue;
         for metric in metrics.iter() {
             if let Some(measurement) = due_of(metric, moment, self.late) {
                 show(output, self.line(service, run, &measurement)?.as_str())?;
-                found = Found::Due;
+                found = DueState::Due;
             }
         }
         Ok(found)
@@ -227,7 +227,7 @@ impl Look {
 
     // The line of a measurement: with its service if `is_named`, and since when if `late` is given.
     fn line(&self, service: Name, run: u64, due: &NextMeasurement<'_>) -> Result<String, Stop> {
-        let metric = shown(self.alloc, self.name_of(due.metric), Form::Line)?;
+        let metric = shown(self.alloc, self.name_of(due.metric), TextKind::Line)?;
         let (metric, ordinal) = (metric.as_str(), due.ordinal);
         let line = format!(in self.alloc; "{run} {metric} {ordinal}")?;
         if !self.is_named {

@@ -1,19 +1,19 @@
 //! What `do --argo` asks: the commands that manifests of Argo Rollouts become.
 use crate::outcome::{Stop, say_lines};
 use crate::wish::{Asking, service_asking, template_asking, version_of};
-use canary_argo_files::reading::{ReadFault, read_files};
+use canary_argo_files::reading::{FileReadFault, read_files};
 use canary_argo_files::translated::{Translated, translate};
 use canary_base::lists::Text;
+use canary_cli_words::words::AskedCommand;
 use canary_convert::conversion::Converted;
 use canary_convert::work::Made;
-use canary_words::words::AskedCommand;
 use std::alloc::Global;
 use std::fs::Files;
 use std::io::Write;
 
 /// A command, and the name of what it registers.
 #[derive(Drop)]
-pub(crate) struct Named {
+pub(crate) struct NamedCommand {
     pub(crate) name: String,
     pub(crate) asking: Asking,
 }
@@ -29,7 +29,7 @@ pub(crate) fn commands_of<P: Files + AllocGlobal, F: Write>(
     rt: &P,
     words: &AskedCommand,
     errors: &mut F,
-) -> Result<Vec<Named>, Stop> {
+) -> Result<Vec<NamedCommand>, Stop> {
     let files = files_of(rt.alloc(), words)?;
     let commands = match words.kind.as_str() {
         "template" => templates(rt, files.as_slice(), errors)?,
@@ -71,7 +71,7 @@ fn templates<P: Files + AllocGlobal, F: Write>(
     rt: &P,
     files: &[Text],
     errors: &mut F,
-) -> Result<Vec<Named>, Stop> {
+) -> Result<Vec<NamedCommand>, Stop> {
     let alloc = rt.alloc();
     let made = made_of(rt, files, errors)?;
     let mut commands = Vec::new(alloc);
@@ -87,7 +87,7 @@ fn services<P: Files + AllocGlobal, F: Write>(
     rt: &P,
     files: Vec<Text>,
     errors: &mut F,
-) -> Result<Vec<Named>, Stop> {
+) -> Result<Vec<NamedCommand>, Stop> {
     let alloc = rt.alloc();
     let mut files = files;
     let version = version_of(&files.pop())?;
@@ -112,8 +112,8 @@ fn made_of<P: Files + AllocGlobal, F: Write>(
     let mut nothing: &[u8] = &[];
     let manifests = match read_files(rt, files, &mut nothing) {
         Ok(manifests) => manifests,
-        Err(ReadFault::Memory) => return Err(Stop::Memory),
-        Err(ReadFault::File(_)) => return Err(Stop::File),
+        Err(FileReadFault::Memory) => return Err(Stop::Memory),
+        Err(FileReadFault::File(_)) => return Err(Stop::File),
     };
     let translated = translate(rt.alloc(), &manifests)?;
     if translated.is_found() {
@@ -128,7 +128,7 @@ fn made_of<P: Files + AllocGlobal, F: Write>(
 }
 
 // The command, with a copy of the name of what it registers.
-fn with_name(alloc: Global, made: &Made, asking: Asking) -> Result<Named, Stop> {
+fn with_name(alloc: Global, made: &Made, asking: Asking) -> Result<NamedCommand, Stop> {
     let name = String::from_str(alloc, made.name.as_str())?;
-    Ok(Named { name, asking })
+    Ok(NamedCommand { name, asking })
 }

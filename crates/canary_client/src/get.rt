@@ -1,12 +1,12 @@
 //! `get`: a service, its history, or one of its runs.
 use crate::ask::show_body;
-use crate::outcome::{Outcome, Stop, tell};
-use crate::place::{place_of, service_of};
+use crate::endpoint::{endpoint_of, service_of};
+use crate::outcome::{ClientExit, Stop, tell};
 use crate::query::answer;
 use crate::tcp::Tcp;
 use canary_base::lists::Text;
 use canary_base::names::Name;
-use canary_words::words::AskedDesk;
+use canary_cli_words::words::AskedDesk;
 use std::alloc::Global;
 use std::io::Write;
 
@@ -21,7 +21,7 @@ pub fn get<W: Write, F: Write>(
     output: &mut W,
     errors: &mut F,
     is_terminal: bool,
-) -> Outcome {
+) -> ClientExit {
     match try_get(rt, desk, service, part, output, is_terminal) {
         Ok(outcome) => outcome,
         Err(stop) => tell(stop, errors),
@@ -36,16 +36,16 @@ fn try_get<W: Write>(
     part: &Option<Text>,
     output: &mut W,
     is_terminal: bool,
-) -> Result<Outcome, Stop> {
-    let place = place_of(rt, desk)?;
+) -> Result<ClientExit, Stop> {
+    let place = endpoint_of(rt, desk)?;
     let path = path_of(rt.alloc(), service_of(service)?, part)?;
     let mut network = Tcp::new(rt, &place);
-    let heard = answer(rt.alloc(), &mut network, path.as_str(), place.tries)?;
-    show_body(rt.alloc(), heard.body.as_str(), output, is_terminal)?;
-    if heard.status == 200 {
-        Ok(Outcome::Done)
+    let response = answer(rt.alloc(), &mut network, path.as_str(), place.tries)?;
+    show_body(rt.alloc(), response.body.as_str(), output, is_terminal)?;
+    if response.status == 200 {
+        Ok(ClientExit::Done)
     } else {
-        Ok(Outcome::Refused)
+        Ok(ClientExit::Refused)
     }
 }
 

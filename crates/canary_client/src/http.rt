@@ -3,23 +3,23 @@ ghost use Rattle.std.specs.Prelude.{◌≡◌, length, codes, All};
 ghost use Rattle.std.specs.Str.{str_eq_ignore_ascii_case};
 ghost use Rattle.httparse.specs.Spans.{IsHeaderWithin, IsResponseWithin, span_bytes};
 
-use canary_sending::network::Why;
+use canary_client_journal::network::RetryReason;
 use httparse::Status;
 use httparse::spans::{EMPTY_HEADER_SPAN, HeaderSpan, ResponseSpans, parse_response};
 use std::str;
 
 // The most fields of the head of a desk's reply.
-const MOST_DESK_FIELDS: usize = 64;
+const MAX_DESK_FIELDS: usize = 64;
 
 /// The most bytes of the heads of a reply: the desk's own have fewer than 200.
-pub const MOST_DESK_HEAD: usize = 16_384;
+pub const MAX_DESK_HEAD: usize = 16_384;
 
 /// The most bytes of a body: a history has no limit of its own.
-pub const MOST_BODY: usize = 1 << 26;
+pub const MAX_BODY: usize = 1 << 26;
 
 /// The head of a reply.
 #[derive(Clone, Copy, Debug)]
-pub struct Head {
+pub struct ReplyHead {
     /// The status.
     pub status: u16,
     /// Where the body begins.
@@ -30,13 +30,13 @@ pub struct Head {
 
 /// What some bytes begin with.
 #[derive(Clone, Copy, Debug)]
-pub enum Front {
+pub enum HeadProgress {
     /// A head that is not whole yet.
     Part,
     /// The head of a reply that others follow (RFC 9110, section 15.2), up to this place.
     Interim(usize),
     /// The head of a reply.
-    Whole(Head),
+    Whole(ReplyHead),
 }
 
 /// What these bytes begin with.
@@ -44,34 +44,38 @@ pub enum Front {
 /// # Errors
 /// `Foreign` if no head of a reply begins so, or if it is none that a desk writes: with a
 /// `Transfer-Encoding`, whether or not a `Content-Length` stands beside it (RFC 9112, section 6.3),
-/// or without exactly one `Content-Length`, of digits alone, that is `MOST_BODY` at most.
-pub fn front_of(bytes: &[u8]) -> Result<Front, Why> {
-    let mut fields = [EMPTY_HEADER_SPAN; MOST_DESK_FIELDS];
+/// or without exactly one `Content-Length`, of digits alone, that is `MAX_BODY` at most.
+pub fn front_of(bytes: &[u8]) -> Result<HeadProgress, RetryReason> {
+    let mut fields = [EMPTY_HEADER_SPAN; MAX_DESK_FIELDS];
     match parse_response(bytes, &mut fields) {
         Ok(Status::Complete(head)) => front_with(bytes, &fields, head),
-        Ok(Status::Partial) => Ok(Front::Part),
-        Err(_) => Err(Why::Foreign),
+        Ok(Status::Partial) => Ok(HeadProgress::Part),
+        Err(_) => Err(RetryReason::Foreign),
     }
 }
 
 // What a whole head is. 101 would answer an `Upgrade`, which no message asks for.
-fn front_with(bytes: &[u8], fields: &[HeaderSpan], head: ResponseSpans) -> Result<Front, Why>
+fn front_with(
+    bytes: &[u8],
+    fields: &[HeaderSpan],
+    head: ResponseSpans,
+) -> Result<HeadProgress, RetryReason>
     requires { IsResponseWithin bytes.now fields.now head }
 {
     if head.code == 100 || (102 <= head.code && head.code <= 199) {
-        return Ok(Front::Interim(head.len));
+        return Ok(HeadProgress::Interim(head.len));
     }
     let fields = &fields[..head.headers];
     if has_encoding(bytes, fields) {
-        return Err(Why::Foreign);
+        return Err(RetryReason::Foreign);
     }
     match length_in(bytes, fields) {
-        Some(length) if length <= MOST_BODY => Ok(Front::Whole(Head {
+        Some(length) if length <= MAX_BODY => Ok(HeadProgress::Whole(ReplyHead {
             status: head.code,
             end: head.len,
             length,
         })),
-        _ => Err(Why::Foreign),
+        _ => Err(RetryReason::Foreign),
     }
 }
 

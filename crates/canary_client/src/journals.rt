@@ -1,26 +1,26 @@
 //! A caller's journal on a device: opened, begun, and what is asked by it.
 ghost use Rattle.std.specs.Prelude.{◌≡◌, ◌+◌, ◌≤◌, ℕ, [], IfOk, OnOk, IfSome, IsTrue};
-ghost use Rattle.canary_records.specs.Stores.{held, IsSettled};
-ghost use Rattle.canary_journal.specs.declared.meaning.Meaning.TheVariants.{Ahead};
-ghost use Rattle.canary_journal.specs.Journals.{asks, asks_instead, begun};
-ghost use Rattle.canary_journal.specs.Meanings.{meaning_of};
-ghost use Rattle.canary_sending.specs.Keeping.{IsKept};
-ghost use Rattle.canary_sending.specs.Networks.{GoesOn};
-ghost use Rattle.canary_sending.specs.Sending.{IsAskedBy};
+ghost use Rattle.canary_client_records.specs.Stores.{held, IsSettled};
+ghost use Rattle.canary_client_journal.specs.declared.meaning.Meaning.TheVariants.{Ahead};
+ghost use Rattle.canary_client_journal.specs.Journals.{asks, asks_instead, begun};
+ghost use Rattle.canary_client_journal.specs.Meanings.{meaning_of};
+ghost use Rattle.canary_client_journal.specs.Keeping.{IsKept};
+ghost use Rattle.canary_client_journal.specs.Networks.{GoesOn};
+ghost use Rattle.canary_client_journal.specs.Sending.{IsAskedBy};
 ghost use Rattle.canary_client.specs.Beginning.{IsSaid, IsOpenedOrBegun, IsSettledSo, probe_text};
 
 use crate::outcome::Stop;
 use canary_base::lists::Text;
 use canary_base::names::Name;
-use canary_base::numbers::LAST_NUMBER;
-use canary_journal::entry::{Entry, Wish};
-use canary_journal::meaning::{Meaning, meaning_of};
-use canary_records::device::Device;
-use canary_records::file::{FileDevice, OpenFault, sync_folder};
-use canary_records::store::Store;
-use canary_sending::kept::{KeptJournal, Opened, begin, open};
-use canary_sending::network::{Heard, Network, Why, request};
-use canary_sending::settle::{rest, settle};
+use canary_base::numbers::MAX_NUMBER;
+use canary_client_journal::entry::{JournalEntry, Wish};
+use canary_client_journal::kept::{KeptJournal, Opened, begin, open};
+use canary_client_journal::meaning::{Meaning, meaning_of};
+use canary_client_journal::network::{Heard, Network, RetryReason, request};
+use canary_client_journal::settle::{rest, settle};
+use canary_client_records::device::Device;
+use canary_client_records::file::{FileDevice, OpenFault, sync_folder};
+use canary_client_records::store::Store;
 use std::alloc::Global;
 
 // A command that would change nothing if it were settled.
@@ -177,14 +177,14 @@ fn settled_before<N: Network>(
     ensures sends { GoesOn N.was_sent N.was_told N.was_unanswered network.old network.new
         (λ m. m ≡ probe_text caller) }
 {
-    let message = request(alloc, caller, LAST_NUMBER, PROBE)?;
+    let message = request(alloc, caller, MAX_NUMBER, PROBE)?;
     for tried in 0..tries {
         let why = match network.exchange(alloc, message.as_str()) {
-            Ok(heard) => match settled_of(alloc, &heard)? {
+            Ok(response) => match settled_of(alloc, &response)? {
                 Some(settled) => return Ok(settled),
-                None => why_again(alloc, &heard)?,
+                None => why_again(alloc, &response)?,
             },
-            Err(Why::Memory) => return Err(Stop::Memory),
+            Err(RetryReason::Memory) => return Err(Stop::Memory),
             Err(why) => why,
         };
         rest(network, tried + 1, tries, why);
@@ -194,13 +194,13 @@ fn settled_before<N: Network>(
 
 // How many requests of the caller a desk has settled, if the reply says so. No desk has settled
 // more than there are numbers.
-fn settled_of(alloc: Global, heard: &Heard) -> Result<Option<u32>, Stop>
+fn settled_of(alloc: Global, response: &Heard) -> Result<Option<u32>, Stop>
     ensures said { IfOk result (λ settled. IfSome settled
-        (λ count. meaning_of heard.now.status heard.now.body ≡ Ahead (count + 1))) }
+        (λ count. meaning_of response.now.status response.now.body ≡ Ahead (count + 1))) }
     ensures most { IfOk result (λ settled. IfSome settled (λ count. count ≤ 1000000000)) }
 {
-    match meaning_of(alloc, heard.status, heard.body.as_str())? {
-        Meaning::Ahead(expected) if expected >= 1 && expected - 1 <= LAST_NUMBER => {
+    match meaning_of(alloc, response.status, response.body.as_str())? {
+        Meaning::Ahead(expected) if expected >= 1 && expected - 1 <= MAX_NUMBER => {
             Ok(Some(expected - 1))
         }
         _ => Ok(None),
@@ -208,10 +208,10 @@ fn settled_of(alloc: Global, heard: &Heard) -> Result<Option<u32>, Stop>
 }
 
 // Why the number has to be asked for again if this reply came.
-fn why_again(alloc: Global, heard: &Heard) -> Result<Why, Stop> {
-    match meaning_of(alloc, heard.status, heard.body.as_str())? {
-        Meaning::Unavailable => Ok(Why::Unavailable),
-        _ => Ok(Why::Foreign),
+fn why_again(alloc: Global, response: &Heard) -> Result<RetryReason, Stop> {
+    match meaning_of(alloc, response.status, response.body.as_str())? {
+        Meaning::Unavailable => Ok(RetryReason::Unavailable),
+        _ => Ok(RetryReason::Foreign),
     }
 }
 
@@ -235,7 +235,7 @@ pub fn asked<N: Network, D: Device>(
         (IsAskedBy (N.was_told network.new) (asks kept.old.journal wish)) }
 {
     let number = kept.journal.number();
-    kept.keep(alloc, Entry::Asked { number, wish })?;
+    kept.keep(alloc, JournalEntry::Asked { number, wish })?;
     settled(alloc, network, kept, tries)
 }
 
@@ -259,7 +259,7 @@ pub fn asked_instead<N: Network, D: Device>(
         (IsAskedBy (N.was_told network.new) (asks_instead kept.old.journal body)) }
 {
     let number = kept.journal.number();
-    kept.keep(alloc, Entry::Instead { number, body })?;
+    kept.keep(alloc, JournalEntry::Instead { number, body })?;
     settled(alloc, network, kept, tries)
 }
 

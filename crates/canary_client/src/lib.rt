@@ -1,23 +1,23 @@
 //! A client of the desk: it numbers commands, keeps them in a journal, repeats and resumes.
 //!
 //! Callers may rest on this: what a call of `do` sends it keeps in the caller's journal before, by
-//! canary_sending. What comes of a call is its `Outcome`, whose number is the exit status. What the
-//! desk and the network do, no clause says.
+//! canary_client_journal. What comes of a call is its `ClientExit`, whose number is the exit
+//! status. What the desk and the network do, no clause says.
 //!
 //! In use (canary_cli, src/perform.rt):
 //!
-//!     Asked::Send { desk, csv } => send(rt, &desk, &csv, input, output, errors),
+//!     ClientCall::Send { desk, csv } => send(rt, &desk, &csv, input, output, errors),
 #![tactic(auto)]
 
 pub mod ask;
 mod clock;
 pub mod due;
 mod each;
+pub mod endpoint;
 pub mod get;
 mod http;
 pub mod journals;
 pub mod outcome;
-pub mod place;
 mod plain;
 pub mod query;
 mod report;

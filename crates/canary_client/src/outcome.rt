@@ -4,10 +4,10 @@ ghost use Rattle.std.specs.Io.KnownBytes.{Appends};
 ghost use Rattle.canary_client.specs.Outcomes.{status_of, outcome_of};
 
 use canary_base::error::Memory;
-use canary_journal::entry::Refusal;
-use canary_markup::shown::{Form, shown};
-use canary_sending::kept::KeepFault;
-use canary_sending::settle::Unsettled;
+use canary_client_journal::entry::EntryRefusal;
+use canary_client_journal::kept::KeepFault;
+use canary_client_journal::settle::Unsettled;
+use canary_page_html::shown::{TextKind, shown};
 use std::alloc::{AllocError, AllocFailed, Global};
 use std::io::Write;
 
@@ -17,7 +17,7 @@ const UNANSWERED: &str =
 
 /// How a call ends.
 #[derive(Clone, Copy, Debug, PartialEq, Eq)]
-pub enum Outcome {
+pub enum ClientExit {
     /// It is done, or what was asked for was found.
     Done,
     /// The desk refused it; or there is no such thing, or nothing to do.
@@ -38,21 +38,21 @@ pub enum Outcome {
     RowsRefused,
 }
 
-impl Outcome {
+impl ClientExit {
     /// The exit status.
     pub fn status(self) -> u8
         ensures { result ≡ status_of self }
     {
         match self {
-            Outcome::Done => 0,
-            Outcome::Refused => 1,
-            Outcome::Words => 2,
-            Outcome::Pending => 3,
-            Outcome::Contradiction => 4,
-            Outcome::Local => 5,
-            Outcome::Late => 6,
-            Outcome::Held => 7,
-            Outcome::RowsRefused => 8,
+            ClientExit::Done => 0,
+            ClientExit::Refused => 1,
+            ClientExit::Words => 2,
+            ClientExit::Pending => 3,
+            ClientExit::Contradiction => 4,
+            ClientExit::Local => 5,
+            ClientExit::Late => 6,
+            ClientExit::Held => 7,
+            ClientExit::RowsRefused => 8,
         }
     }
 }
@@ -173,27 +173,27 @@ pub enum Stop {
 
 impl Stop {
     /// How the call ends.
-    pub fn outcome(self) -> Outcome
+    pub fn outcome(self) -> ClientExit
         ensures { result ≡ outcome_of self }
     {
         match self {
-            Stop::Address | Stop::NoCaller | Stop::BadCaller | Stop::NoJournal => Outcome::Words,
-            Stop::Command | Stop::Result | Stop::Failure | Stop::Run => Outcome::Words,
-            Stop::NoVersion | Stop::BadVersion | Stop::BadMetric => Outcome::Words,
-            Stop::BadService | Stop::Part | Stop::ForeverUntil => Outcome::Words,
-            Stop::Status | Stop::Manifest | Stop::Header => Outcome::Words,
-            Stop::Argo | Stop::ArgoCommand | Stop::ArgoNothing => Outcome::Words,
-            Stop::OtherCaller | Stop::ReportInstead | Stop::KeyInstead => Outcome::Words,
-            Stop::NoService | Stop::NoRun | Stop::NoMetric | Stop::Query => Outcome::Refused,
-            Stop::NotBegun | Stop::DeskName | Stop::NoDesk => Outcome::Pending,
-            Stop::Unanswered | Stop::RowUnanswered | Stop::TimeOut => Outcome::Pending,
-            Stop::Reused | Stop::Ahead | Stop::Unread | Stop::KeyUsed => Outcome::Contradiction,
-            Stop::Replaced | Stop::Spent | Stop::Refused => Outcome::Contradiction,
-            Stop::RowReused | Stop::RowAhead | Stop::RowUnread => Outcome::Contradiction,
-            Stop::InUse | Stop::Journal | Stop::JournalFull => Outcome::Local,
-            Stop::JournalBroken | Stop::JournalNoFile | Stop::JournalEmptied => Outcome::Local,
-            Stop::File | Stop::RowsSpent => Outcome::Local,
-            Stop::Output | Stop::Clock | Stop::Memory => Outcome::Local,
+            Stop::Address | Stop::NoCaller | Stop::BadCaller | Stop::NoJournal => ClientExit::Words,
+            Stop::Command | Stop::Result | Stop::Failure | Stop::Run => ClientExit::Words,
+            Stop::NoVersion | Stop::BadVersion | Stop::BadMetric => ClientExit::Words,
+            Stop::BadService | Stop::Part | Stop::ForeverUntil => ClientExit::Words,
+            Stop::Status | Stop::Manifest | Stop::Header => ClientExit::Words,
+            Stop::Argo | Stop::ArgoCommand | Stop::ArgoNothing => ClientExit::Words,
+            Stop::OtherCaller | Stop::ReportInstead | Stop::KeyInstead => ClientExit::Words,
+            Stop::NoService | Stop::NoRun | Stop::NoMetric | Stop::Query => ClientExit::Refused,
+            Stop::NotBegun | Stop::DeskName | Stop::NoDesk => ClientExit::Pending,
+            Stop::Unanswered | Stop::RowUnanswered | Stop::TimeOut => ClientExit::Pending,
+            Stop::Reused | Stop::Ahead | Stop::Unread | Stop::KeyUsed => ClientExit::Contradiction,
+            Stop::Replaced | Stop::Spent | Stop::Refused => ClientExit::Contradiction,
+            Stop::RowReused | Stop::RowAhead | Stop::RowUnread => ClientExit::Contradiction,
+            Stop::InUse | Stop::Journal | Stop::JournalFull => ClientExit::Local,
+            Stop::JournalBroken | Stop::JournalNoFile | Stop::JournalEmptied => ClientExit::Local,
+            Stop::File | Stop::RowsSpent => ClientExit::Local,
+            Stop::Output | Stop::Clock | Stop::Memory => ClientExit::Local,
         }
     }
 
@@ -209,9 +209,9 @@ impl Stop {
     /// The sentence that says so.
     pub fn sentence(self) -> &'static str {
         match self.outcome() {
-            Outcome::Words => self.of_words(),
-            Outcome::Contradiction => self.of_contradiction(),
-            Outcome::Local => self.of_this_machine(),
+            ClientExit::Words => self.of_words(),
+            ClientExit::Contradiction => self.of_contradiction(),
+            ClientExit::Local => self.of_this_machine(),
             _ => self.of_desk(),
         }
     }
@@ -347,7 +347,7 @@ impl Stop {
 }
 
 /// Says why a call stopped, on `errors`, and answers how it ends. A fault of `errors` is ignored.
-pub fn tell<F: Write>(stop: Stop, errors: &mut F) -> Outcome {
+pub fn tell<F: Write>(stop: Stop, errors: &mut F) -> ClientExit {
     say(errors, stop.sentence());
     stop.outcome()
 }
@@ -370,7 +370,7 @@ pub fn say_lines<F: Write>(errors: &mut F, lines: &str) {
 /// Characters of the path that would command a terminal are escaped; if memory for that is refused,
 /// the path is left out. A fault of `errors` is ignored.
 pub fn say_of<F: Write>(alloc: Global, errors: &mut F, sentence: &str, path: &str) {
-    match shown(alloc, path, Form::Line) {
+    match shown(alloc, path, TextKind::Line) {
         Ok(path) => {
             let _ = errors.write_all(b"canary: ");
             let _ = errors.write_all(sentence.as_bytes());
@@ -429,9 +429,9 @@ impl From<KeepFault> for Stop {
             KeepFault::Failed => Stop::Journal,
             KeepFault::Full => Stop::JournalFull,
             KeepFault::Broken => Stop::JournalBroken,
-            KeepFault::Refused(Refusal::Replaced) => Stop::Replaced,
-            KeepFault::Refused(Refusal::Spent) => Stop::Spent,
-            KeepFault::Refused(Refusal::KeyUsed) => Stop::KeyUsed,
+            KeepFault::Refused(EntryRefusal::Replaced) => Stop::Replaced,
+            KeepFault::Refused(EntryRefusal::Spent) => Stop::Spent,
+            KeepFault::Refused(EntryRefusal::KeyUsed) => Stop::KeyUsed,
             KeepFault::Refused(_) => Stop::Refused,
         }
     }

@@ -1,12 +1,12 @@
 //! Replies as people and scripts see them: nothing that came from a server is a command of a
 //! terminal.
 ghost use Rattle.std.specs.Prelude.{◌≡◌, string_bytes, IfOk};
-ghost use Rattle.canary_markup.specs.Showing.{shown};
-ghost use Rattle.canary_markup.specs.declared.shown.Form.TheVariants.{Json};
+ghost use Rattle.canary_page_html.specs.Showing.{shown};
+ghost use Rattle.canary_page_html.specs.declared.shown.TextKind.TheVariants.{Json};
 
 use crate::run_line::run_line;
 use canary_base::error::Memory;
-use canary_markup::shown::{Form, shown};
+use canary_page_html::shown::{TextKind, shown};
 use serde_json::Value;
 use std::alloc::Global;
 
@@ -22,7 +22,7 @@ pub fn line_of(alloc: Global, body: &str) -> Result<Option<String>, Memory> {
         Err(_) => return Ok(None),
     };
     match plainer(alloc, &value)? {
-        Some(line) => Ok(Some(shown(alloc, line.as_str(), Form::Line)?)),
+        Some(line) => Ok(Some(shown(alloc, line.as_str(), TextKind::Line)?)),
         None => Ok(None),
     }
 }
@@ -45,7 +45,7 @@ fn plainer(alloc: Global, value: &Value) -> Result<Option<String>, Memory> {
 pub fn json_of(alloc: Global, body: &str) -> Result<String, Memory>
     ensures { IfOk result (λ text. string_bytes text ≡ shown Json body.now) }
 {
-    shown(alloc, body, Form::Json)
+    shown(alloc, body, TextKind::Json)
 }
 
 // A service: its status, step and weight, and its version and verdict if the reply has them.

@@ -1,15 +1,15 @@
 //! Queries, sent until they are answered.
 ghost use Rattle.std.specs.Prelude.{◌≡◌};
-ghost use Rattle.canary_journal.specs.Meanings.{is_among};
-ghost use Rattle.canary_sending.specs.Messages.{query_text};
-ghost use Rattle.canary_sending.specs.Networks.{GoesOn};
+ghost use Rattle.canary_client_journal.specs.Meanings.{is_among};
+ghost use Rattle.canary_client_journal.specs.Messages.{query_text};
+ghost use Rattle.canary_client_journal.specs.Networks.{GoesOn};
 ghost use Rattle.canary_client.specs.Promises.{IsQuery};
 ghost use Rattle.canary_client.specs.Queries.{why_again, not_found_codes};
 
 use crate::outcome::Stop;
-use canary_journal::meaning::is_of_message;
-use canary_sending::network::{Heard, Network, Why, query};
-use canary_sending::settle::rest;
+use canary_client_journal::meaning::is_of_message;
+use canary_client_journal::network::{Heard, Network, RetryReason, query};
+use canary_client_journal::settle::rest;
 use serde_json::Value;
 use std::alloc::Global;
 
@@ -30,11 +30,11 @@ pub fn answer<N: Network>(
     let message = query(alloc, path)?;
     for tried in 0..tries {
         let why = match network.exchange(alloc, message.as_str()) {
-            Ok(heard) => match why_again(alloc, &heard)? {
-                None => return Ok(heard),
+            Ok(response) => match why_again(alloc, &response)? {
+                None => return Ok(response),
                 Some(why) => why,
             },
-            Err(Why::Memory) => return Err(Stop::Memory),
+            Err(RetryReason::Memory) => return Err(Stop::Memory),
             Err(why) => why,
         };
         rest(network, tried + 1, tries, why);
@@ -43,20 +43,20 @@ pub fn answer<N: Network>(
 }
 
 // Why a query has to be sent again that got this reply: none if a desk answers a query so.
-fn why_again(alloc: Global, heard: &Heard) -> Result<Option<Why>, Stop> {
-    let value = match Value::from_str(alloc, heard.body.as_str()) {
+fn why_again(alloc: Global, response: &Heard) -> Result<Option<RetryReason>, Stop> {
+    let value = match Value::from_str(alloc, response.body.as_str()) {
         Ok(value) => value,
         Err(fault) if fault.is_memory() => return Err(Stop::Memory),
-        Err(_) => return Ok(Some(Why::Foreign)),
+        Err(_) => return Ok(Some(RetryReason::Foreign)),
     };
     match value.get("code").and_then(Value::as_str) {
-        Some(code) => Ok(why_with(heard.status, code)),
-        None => Ok(Some(Why::Foreign)),
+        Some(code) => Ok(why_with(response.status, code)),
+        None => Ok(Some(RetryReason::Foreign)),
     }
 }
 
 // Why a query is sent again after this status and code; none if the desk answered it with them.
-fn why_with(status: u16, code: &str) -> Option<Why>
+fn why_with(status: u16, code: &str) -> Option<RetryReason>
     ensures { result ≡ why_again status code.now }
 {
     match status {
@@ -64,8 +64,8 @@ fn why_with(status: u16, code: &str) -> Option<Why>
         404 if is_not_found(code) => None,
         400 if is_of_message(code) => None,
         405 if code == "method" => None,
-        503 if code == "no-memory" || code == "storage" => Some(Why::Unavailable),
-        _ => Some(Why::Foreign),
+        503 if code == "no-memory" || code == "storage" => Some(RetryReason::Unavailable),
+        _ => Some(RetryReason::Foreign),
     }
 }
 
@@ -89,13 +89,13 @@ pub fn value_at<N: Network>(
 ) -> Result<Value, Stop>
     ensures { GoesOn N.was_sent N.was_told N.was_unanswered network.old network.new IsQuery }
 {
-    let heard = answer(alloc, network, path, tries)?;
-    let value = match Value::from_str(alloc, heard.body.as_str()) {
+    let response = answer(alloc, network, path, tries)?;
+    let value = match Value::from_str(alloc, response.body.as_str()) {
         Ok(value) => value,
         Err(fault) if fault.is_memory() => return Err(Stop::Memory),
         Err(_) => return Err(Stop::Query),
     };
-    if heard.status == 200 {
+    if response.status == 200 {
         return Ok(value);
     }
     Err(refusal(&value))

@@ -1,18 +1,18 @@
 //! Reports of one measurement.
-ghost use Rattle.canary_sending.specs.Networks.{GoesOn};
+ghost use Rattle.canary_client_journal.specs.Networks.{GoesOn};
 ghost use Rattle.canary_client.specs.Promises.{IsQuery};
 
 use crate::outcome::Stop;
 use crate::query::value_at;
 use canary_base::lists::Text;
 use canary_base::names::{Label, Name};
-use canary_sending::network::Network;
+use canary_client_journal::network::Network;
 use serde_json::Value;
 use std::alloc::{AllocError, Global};
 
 /// A measurement as it is asked for: its ordinal and its moment are not known yet.
 #[derive(Drop)]
-pub struct Measured {
+pub struct NewMeasurement {
     /// The service.
     pub service: Name,
     /// The number of the run.
@@ -30,7 +30,7 @@ pub struct Measured {
 /// `AllocError` if an allocation was refused.
 pub fn report_body(
     alloc: Global,
-    measured: &Measured,
+    measured: &NewMeasurement,
     ordinal: u64,
     taken: u64,
 ) -> Result<Text, AllocError> {
@@ -53,7 +53,7 @@ pub fn report_body(
 pub fn next_ordinal<N: Network>(
     alloc: Global,
     network: &mut N,
-    measured: &Measured,
+    measured: &NewMeasurement,
     tries: u32,
 ) -> Result<u64, Stop>
     ensures { GoesOn N.was_sent N.was_told N.was_unanswered network.old network.new IsQuery }

@@ -1,24 +1,24 @@
 //! `send`: the rows of a measurement file, each a request with its own caller and number, so that
 //! the file is the journal.
 ghost use Rattle.std.specs.Prelude.{◌≡◌, None, IfOk};
-ghost use Rattle.canary_journal.specs.Meanings.{meaning_of};
+ghost use Rattle.canary_client_journal.specs.Meanings.{meaning_of};
 ghost use Rattle.canary_client.specs.Outcomes.{rows_outcome};
 ghost use Rattle.canary_client.specs.Rows.{row_again};
 
-use crate::outcome::{Outcome, Stop, say, show, tell};
-use crate::place::{Place, place_of};
+use crate::endpoint::{DeskEndpoint, endpoint_of};
+use crate::outcome::{ClientExit, Stop, say, show, tell};
 use crate::plain::json_of;
 use crate::tcp::Tcp;
 use canary_base::lists::Text;
 use canary_canonical::writing;
-use canary_files::bounded::{Bounded, Limited, MOST_BYTES};
-use canary_files::import::MOST_ROWS;
-use canary_files::row::{Refusal, Row, RowFault, is_header, row_of};
-use canary_journal::meaning::{Meaning, meaning_of};
+use canary_cli_words::words::AskedDesk;
+use canary_client_journal::meaning::{Meaning, meaning_of};
+use canary_client_journal::network::{Heard, Network, RetryReason, request};
+use canary_client_journal::settle::rest;
+use canary_files::bounded::{Bounded, Limited, MAX_BYTES};
+use canary_files::import::MAX_ROWS;
+use canary_files::row::{CsvFault, Row, RowRefusal, is_header, row_of};
 use canary_plan::command::Command;
-use canary_sending::network::{Heard, Network, Why, request};
-use canary_sending::settle::rest;
-use canary_words::words::AskedDesk;
 use csv::{ByteRecord, ErrorKind, Reader, ReaderBuilder};
 use serde_json::Value;
 use std::alloc::Global;
@@ -41,8 +41,8 @@ pub fn send<R: Read, W: Write, F: Write>(
     input: &mut R,
     output: &mut W,
     errors: &mut F,
-) -> Outcome {
-    let mut counts = Counts::NONE;
+) -> ClientExit {
+    let mut counts = RowCounts::NONE;
     match try_send(rt, desk, csv, input, output, &mut counts) {
         Ok(()) => {
             counts.tell(rt.alloc(), errors);
@@ -50,7 +50,7 @@ pub fn send<R: Read, W: Write, F: Write>(
         }
         Err(stop) => {
             let outcome = tell(stop, errors);
-            if counts != Counts::NONE {
+            if counts != RowCounts::NONE {
                 counts.tell(rt.alloc(), errors);
             }
             outcome
@@ -71,14 +71,14 @@ enum RowEnd {
 
 // How many rows had which end.
 #[derive(Clone, Copy, Debug, PartialEq, Eq)]
-struct Counts {
+struct RowCounts {
     recorded: u64,
     repeated: u64,
     refused: u64,
 }
 
-impl Counts {
-    const NONE: Counts = Counts {
+impl RowCounts {
+    const NONE: RowCounts = RowCounts {
         recorded: 0,
         repeated: 0,
         refused: 0,
@@ -95,13 +95,13 @@ impl Counts {
     }
 
     // How a call ends of whose rows each has its line.
-    fn outcome(&self) -> Outcome
+    fn outcome(&self) -> ClientExit
         ensures { result ≡ rows_outcome self.now.refused }
     {
         if self.refused == 0 {
-            Outcome::Done
+            ClientExit::Done
         } else {
-            Outcome::RowsRefused
+            ClientExit::RowsRefused
         }
     }
 
@@ -124,9 +124,9 @@ fn try_send<R: Read, W: Write>(
     csv: &Text,
     input: &mut R,
     output: &mut W,
-    counts: &mut Counts,
+    counts: &mut RowCounts,
 ) -> Result<(), Stop> {
-    let place = place_of(rt, desk)?;
+    let place = endpoint_of(rt, desk)?;
     let mut network = Tcp::new(rt, &place);
     if csv.as_str() == INPUT {
         return send_file(rt.alloc(), &mut network, input, place, output, counts);
@@ -142,13 +142,13 @@ fn send_file<N: Network, R: Read, W: Write>(
     alloc: Global,
     network: &mut N,
     input: &mut R,
-    place: Place,
+    place: DeskEndpoint,
     output: &mut W,
-    counts: &mut Counts,
+    counts: &mut RowCounts,
 ) -> Result<(), Stop> {
     let bounded = Bounded {
         source: input,
-        left: MOST_BYTES,
+        left: MAX_BYTES,
     };
     let mut reader = reader_of(alloc, bounded);
     let mut fields = ByteRecord::new(alloc);
@@ -200,9 +200,9 @@ fn send_rows<N: Network, S: Read + Limited, W: Write>(
     fields: &mut ByteRecord,
     tries: u32,
     output: &mut W,
-    counts: &mut Counts,
+    counts: &mut RowCounts,
 ) -> Result<(), Stop> {
-    for done in 0..MOST_ROWS {
+    for done in 0..MAX_ROWS {
         if !has_next(reader, fields)? {
             return Ok(());
         }
@@ -226,25 +226,31 @@ fn send_row<N: Network, W: Write>(
     match row_of(alloc, fields) {
         Ok(row) => {
             let message = message_of(alloc, row)?;
-            let heard = answered(alloc, network, message.as_str(), tries)?;
-            show_line(alloc, number, heard.status, heard.body.as_str(), output)?;
-            agreed(alloc, &heard)?;
-            end_of(alloc, &heard)
+            let response = answered(alloc, network, message.as_str(), tries)?;
+            show_line(
+                alloc,
+                number,
+                response.status,
+                response.body.as_str(),
+                output,
+            )?;
+            agreed(alloc, &response)?;
+            end_of(alloc, &response)
         }
-        Err(RowFault::Refused(refusal)) => {
+        Err(CsvFault::Refused(refusal)) => {
             show_line(alloc, number, 400, body_of(refusal), output)?;
             Ok(RowEnd::Refused)
         }
-        Err(RowFault::Memory) => Err(Stop::Memory),
+        Err(CsvFault::Memory) => Err(Stop::Memory),
     }
 }
 
 // What came of a row that was settled with this reply.
-fn end_of(alloc: Global, heard: &Heard) -> Result<RowEnd, Stop> {
-    if heard.status == 200 {
+fn end_of(alloc: Global, response: &Heard) -> Result<RowEnd, Stop> {
+    if response.status == 200 {
         return Ok(RowEnd::Recorded);
     }
-    let value = match Value::from_str(alloc, heard.body.as_str()) {
+    let value = match Value::from_str(alloc, response.body.as_str()) {
         Ok(value) => value,
         Err(fault) if fault.is_memory() => return Err(Stop::Memory),
         Err(_) => return Ok(RowEnd::Refused),
@@ -263,11 +269,11 @@ fn message_of(alloc: Global, row: Row) -> Result<Text, Stop> {
 }
 
 // The body of the reply that a desk would give to a row that is refused unread.
-fn body_of(refusal: Refusal) -> &'static str {
+fn body_of(refusal: RowRefusal) -> &'static str {
     match refusal {
-        Refusal::Unreadable => "{\"code\":\"unreadable\"}",
-        Refusal::BadName => "{\"code\":\"bad-name\"}",
-        Refusal::BadNumber => "{\"code\":\"bad-number\"}",
+        RowRefusal::Unreadable => "{\"code\":\"unreadable\"}",
+        RowRefusal::BadName => "{\"code\":\"bad-name\"}",
+        RowRefusal::BadNumber => "{\"code\":\"bad-number\"}",
     }
 }
 
@@ -279,15 +285,16 @@ fn answered<N: Network>(
     tries: u32,
 ) -> Result<Heard, Stop>
     ensures told { IfOk result (N.was_told network.new message.now) }
-    ensures counts { IfOk result (λ heard. row_again (meaning_of heard.status heard.body) ≡ None) }
+    ensures counts { IfOk result
+        (λ response. row_again (meaning_of response.status response.body) ≡ None) }
 {
     for tried in 0..tries {
         let why = match network.exchange(alloc, message) {
-            Ok(heard) => match why_again(alloc, &heard)? {
-                None => return Ok(heard),
+            Ok(response) => match why_again(alloc, &response)? {
+                None => return Ok(response),
                 Some(why) => why,
             },
-            Err(Why::Memory) => return Err(Stop::Memory),
+            Err(RetryReason::Memory) => return Err(Stop::Memory),
             Err(why) => why,
         };
         rest(network, tried + 1, tries, why);
@@ -296,19 +303,20 @@ fn answered<N: Network>(
 }
 
 // Why a row has to be sent again that got this reply.
-fn why_again(alloc: Global, heard: &Heard) -> Result<Option<Why>, Stop>
-    ensures { IfOk result (λ why. why ≡ row_again (meaning_of heard.now.status heard.now.body)) }
+fn why_again(alloc: Global, response: &Heard) -> Result<Option<RetryReason>, Stop>
+    ensures { IfOk result
+        (λ why. why ≡ row_again (meaning_of response.now.status response.now.body)) }
 {
-    match meaning_of(alloc, heard.status, heard.body.as_str())? {
-        Meaning::Unavailable => Ok(Some(Why::Unavailable)),
-        Meaning::Foreign => Ok(Some(Why::Foreign)),
+    match meaning_of(alloc, response.status, response.body.as_str())? {
+        Meaning::Unavailable => Ok(Some(RetryReason::Unavailable)),
+        Meaning::Foreign => Ok(Some(RetryReason::Foreign)),
         _ => Ok(None),
     }
 }
 
 // Whether the desk and the file agree on what stands under a row's number.
-fn agreed(alloc: Global, heard: &Heard) -> Result<(), Stop> {
-    match meaning_of(alloc, heard.status, heard.body.as_str())? {
+fn agreed(alloc: Global, response: &Heard) -> Result<(), Stop> {
+    match meaning_of(alloc, response.status, response.body.as_str())? {
         Meaning::Reused => Err(Stop::RowReused),
         Meaning::Ahead(_) => Err(Stop::RowAhead),
         Meaning::Unread => Err(Stop::RowUnread),

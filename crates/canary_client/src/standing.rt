@@ -3,7 +3,7 @@ ghost use Rattle.std.specs.Prelude.{◌≡◌, ◌≤◌, IfSome, IsTrue, option
 ghost use Rattle.canary_client.specs.Standings.{why_of, why_of_line, why_by, word_of, is_standing};
 ghost use Rattle.canary_client.specs.Standings.{meets, ended_at};
 
-use crate::outcome::{Outcome, Stop};
+use crate::outcome::{ClientExit, Stop};
 use canary_base::moments::Moment;
 use canary_plan::line::{Line, LineEvent};
 use jiff::Timestamp;
@@ -25,7 +25,7 @@ const DAY: u64 = 86_400;
 
 /// The status of a service.
 #[derive(Clone, Copy, Debug, PartialEq, Eq)]
-pub enum Status {
+pub enum ServiceStatus {
     /// The release is done.
     Healthy,
     /// The attempt was aborted.
@@ -36,14 +36,14 @@ pub enum Status {
     Progressing,
 }
 
-impl Status {
+impl ServiceStatus {
     // The status of this word.
-    fn read(word: &str) -> Option<Status> {
+    fn read(word: &str) -> Option<ServiceStatus> {
         match word {
-            "Healthy" => Some(Status::Healthy),
-            "Degraded" => Some(Status::Degraded),
-            "Paused" => Some(Status::Paused),
-            "Progressing" => Some(Status::Progressing),
+            "Healthy" => Some(ServiceStatus::Healthy),
+            "Degraded" => Some(ServiceStatus::Degraded),
+            "Paused" => Some(ServiceStatus::Paused),
+            "Progressing" => Some(ServiceStatus::Progressing),
             _ => None,
         }
     }
@@ -53,10 +53,10 @@ impl Status {
         ensures { result.now ≡ word_of self }
     {
         match self {
-            Status::Healthy => "Healthy",
-            Status::Degraded => "Degraded",
-            Status::Paused => "Paused",
-            Status::Progressing => "Progressing",
+            ServiceStatus::Healthy => "Healthy",
+            ServiceStatus::Degraded => "Degraded",
+            ServiceStatus::Paused => "Paused",
+            ServiceStatus::Progressing => "Progressing",
         }
     }
 }
@@ -89,7 +89,7 @@ impl Hold {
 
 /// Why a service stands as it does.
 #[derive(Clone, Copy, Debug, PartialEq, Eq)]
-pub enum Why {
+pub enum StandingReason {
     /// Its status says all.
     Plain,
     /// This analysis is Inconclusive: somebody has to decide.
@@ -118,49 +118,49 @@ pub enum Why {
     },
 }
 
-impl Why {
+impl StandingReason {
     /// Why a service stands so, by its hold and by the last line of its history that says where it
     /// stands.
-    pub fn of(hold: Hold, last: Option<Line>) -> Why
+    pub fn of(hold: Hold, last: Option<Line>) -> StandingReason
         ensures { result ≡ why_of hold last }
     {
         match hold {
             Hold::None => by_line(last),
-            Hold::Step => Why::Held(Hold::Step),
-            Hold::Background => Why::Held(Hold::Background),
-            Hold::Both => Why::Held(Hold::Both),
+            Hold::Step => StandingReason::Held(Hold::Step),
+            Hold::Background => StandingReason::Held(Hold::Background),
+            Hold::Both => StandingReason::Held(Hold::Both),
         }
     }
 }
 
 // Why a service is as it is, by the last line that says so; `Plain` without a line.
-fn by_line(last: Option<Line>) -> Why
+fn by_line(last: Option<Line>) -> StandingReason
     ensures { result ≡ why_of_line last }
 {
     match last {
         Some(line) => by_event(line.moment.get(), line.event),
-        None => Why::Plain,
+        None => StandingReason::Plain,
     }
 }
 
 // What the event of such a line says of why; its moment is when a pause begins.
-fn by_event(moment: u64, event: LineEvent) -> Why
+fn by_event(moment: u64, event: LineEvent) -> StandingReason
     requires { moment ≤ 253370764799 }
     ensures { result ≡ why_by moment event }
 {
     match event {
-        LineEvent::PauseEntered { step: _ } => Why::Waiting,
+        LineEvent::PauseEntered { step: _ } => StandingReason::Waiting,
         LineEvent::TimedPauseEntered { step: _, seconds } => {
             let seconds = seconds.get() as u64;
-            Why::Pause {
+            StandingReason::Pause {
                 seconds,
                 until: moment + seconds,
             }
         }
-        LineEvent::AnalysisEntered { step: _, run } => Why::Analysis { run },
-        LineEvent::Aborted => Why::Aborted,
-        LineEvent::AbortedBy { run } => Why::AbortedBy { run },
-        _ => Why::Plain,
+        LineEvent::AnalysisEntered { step: _, run } => StandingReason::Analysis { run },
+        LineEvent::Aborted => StandingReason::Aborted,
+        LineEvent::AbortedBy { run } => StandingReason::AbortedBy { run },
+        _ => StandingReason::Plain,
     }
 }
 
@@ -168,11 +168,11 @@ fn by_event(moment: u64, event: LineEvent) -> Why
 #[derive(Clone, Copy, Debug, PartialEq, Eq)]
 pub struct Standing {
     /// Its status.
-    pub status: Status,
+    pub status: ServiceStatus,
     /// The index of its step.
     pub step: u64,
     /// Why it stands so.
-    pub why: Why,
+    pub why: StandingReason,
 }
 
 impl Standing {
@@ -181,20 +181,20 @@ impl Standing {
         ensures { result ≡ meets self.now.status self.now.why word.now }
     {
         word == self.status.word()
-            || word == "Held" && matches!(self.why, Why::Held(_))
-            || word == "Waiting" && matches!(self.why, Why::Waiting)
+            || word == "Held" && matches!(self.why, StandingReason::Held(_))
+            || word == "Waiting" && matches!(self.why, StandingReason::Waiting)
     }
 
     /// How `watch` ends at this word, which the service meets.
-    pub fn ended_at(&self, word: &str) -> Outcome
+    pub fn ended_at(&self, word: &str) -> ClientExit
         ensures { result ≡ ended_at self.now.status word.now }
     {
         if word == "Held" {
-            return Outcome::Held;
+            return ClientExit::Held;
         }
         match self.status {
-            Status::Degraded => Outcome::Refused,
-            _ => Outcome::Done,
+            ServiceStatus::Degraded => ClientExit::Refused,
+            _ => ClientExit::Done,
         }
     }
 
@@ -207,23 +207,23 @@ impl Standing {
     pub fn words(&self, alloc: Global, now: u64) -> Result<String, AllocError> {
         let step = self.step;
         match self.why {
-            Why::Plain => Ok(String::new(alloc)),
-            Why::Held(Hold::Background) => {
+            StandingReason::Plain => Ok(String::new(alloc)),
+            StandingReason::Held(Hold::Background) => {
                 String::from_str(alloc, ", held: the background is Inconclusive")
             }
-            Why::Held(Hold::Both) => {
+            StandingReason::Held(Hold::Both) => {
                 format!(in alloc; ", held: step {step} and the background are Inconclusive")
             }
-            Why::Held(_) => format!(in alloc; ", held: step {step} is Inconclusive"),
-            Why::Waiting => String::from_str(alloc, ", waits for a promotion"),
-            Why::Pause { seconds, until } => {
+            StandingReason::Held(_) => format!(in alloc; ", held: step {step} is Inconclusive"),
+            StandingReason::Waiting => String::from_str(alloc, ", waits for a promotion"),
+            StandingReason::Pause { seconds, until } => {
                 let text = moment_text(alloc, until, now)?;
                 let text = text.as_str();
                 format!(in alloc; ", pause of {seconds} s until {text}")
             }
-            Why::Analysis { run } => format!(in alloc; ", analysis run {run}"),
-            Why::Aborted => String::from_str(alloc, ", aborted by a command"),
-            Why::AbortedBy { run } => format!(in alloc; ", aborted by run {run}"),
+            StandingReason::Analysis { run } => format!(in alloc; ", analysis run {run}"),
+            StandingReason::Aborted => String::from_str(alloc, ", aborted by a command"),
+            StandingReason::AbortedBy { run } => format!(in alloc; ", aborted by run {run}"),
         }
     }
 }
@@ -250,14 +250,14 @@ fn moment_text(alloc: Global, seconds: u64, now: u64) -> Result<String, AllocErr
 ///
 /// # Errors
 /// `Query` if it is no such reply.
-pub fn parts_of(service: &Value) -> Result<(Status, u64, Hold), Stop> {
+pub fn parts_of(service: &Value) -> Result<(ServiceStatus, u64, Hold), Stop> {
     let status = service.get("status").and_then(Value::as_str);
     let step = service.get("step").and_then(Value::as_u64);
     let hold = service.get("hold").and_then(Value::as_str);
     let (Some(status), Some(step), Some(hold)) = (status, step, hold) else {
         return Err(Stop::Query);
     };
-    match (Status::read(status), Hold::read(hold)) {
+    match (ServiceStatus::read(status), Hold::read(hold)) {
         (Some(status), Some(hold)) => Ok((status, step, hold)),
         _ => Err(Stop::Query),
     }

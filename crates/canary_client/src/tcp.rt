@@ -1,10 +1,10 @@
 //! The way to a desk over TCP: one connection for each message.
-use crate::clock::{Span, pause_after};
-use crate::http::{Front, Head, MOST_DESK_HEAD, front_of};
+use crate::clock::{Deadline, pause_after};
+use crate::endpoint::DeskEndpoint;
+use crate::http::{HeadProgress, MAX_DESK_HEAD, ReplyHead, front_of};
 use crate::outcome::say;
-use crate::place::Place;
 use canary_base::lists::Text;
-use canary_sending::network::{Heard, Network, Why};
+use canary_client_journal::network::{Heard, Network, RetryReason};
 use std::alloc::Global;
 use std::io::{self, ErrorKind, Read, Write};
 use std::net::{SocketAddr, TcpStream};
@@ -24,13 +24,13 @@ pub struct Tcp<'a> {
     // The longest time of an exchange.
     limit: Duration,
     // The span of the whole call, if that has one.
-    call: Option<Span>,
+    call: Option<Deadline>,
 }
 
 impl<'a> Tcp<'a> {
     /// The way to the desk at this place, where each exchange may take as long as a reply there,
     /// from its connection to the last byte of the reply.
-    pub fn new(rt: &'a HostRuntime, place: &Place) -> Tcp<'a> {
+    pub fn new(rt: &'a HostRuntime, place: &DeskEndpoint) -> Tcp<'a> {
         Tcp {
             rt,
             desk: place.desk,
@@ -41,7 +41,7 @@ impl<'a> Tcp<'a> {
 
     /// The same, of a call whose exchanges and pauses all end with this span: nothing is sent once
     /// that is over.
-    pub fn within(rt: &'a HostRuntime, place: &Place, call: Span) -> Tcp<'a> {
+    pub fn within(rt: &'a HostRuntime, place: &DeskEndpoint, call: Deadline) -> Tcp<'a> {
         let mut tcp = Tcp::new(rt, place);
         tcp.call = Some(call);
         tcp
@@ -58,7 +58,7 @@ impl<'a> Tcp<'a> {
     // A connection for one exchange, which ends in time.
     fn connect(&self) -> Option<Exchange<'a>> {
         let limit = self.cut(self.limit)?;
-        let span = Span::lasting(self.rt, limit)?;
+        let span = Deadline::lasting(self.rt, limit)?;
         let stream = TcpStream::connect_timeout(self.rt, &self.desk, limit).ok()?;
         Some(Exchange {
             rt: self.rt,
@@ -73,19 +73,19 @@ impl<'a> Tcp<'a> {
 #[derive(Drop)]
 struct Exchange<'a> {
     rt: &'a HostRuntime,
-    span: Span,
+    span: Deadline,
     limit: Duration,
     stream: TcpStream,
 }
 
 impl<'a> Exchange<'a> {
     // The time that is left of the exchange; `Lost` if it is over.
-    fn left(&self) -> Result<Duration, Why> {
-        self.span.cut(self.rt, self.limit).ok_or(Why::Lost)
+    fn left(&self) -> Result<Duration, RetryReason> {
+        self.span.cut(self.rt, self.limit).ok_or(RetryReason::Lost)
     }
 
     // Writes all bytes of a message; `Lost` if the connection or the time ends before.
-    fn send(&mut self, message: &[u8]) -> Result<(), Why> {
+    fn send(&mut self, message: &[u8]) -> Result<(), RetryReason> {
         let mut rest = message;
         for _ in 0..u64::MAX {
             if rest.is_empty() {
@@ -93,108 +93,110 @@ impl<'a> Exchange<'a> {
             }
             let left = self.left()?;
             if self.stream.set_write_timeout(Some(left)).is_err() {
-                return Err(Why::Lost);
+                return Err(RetryReason::Lost);
             }
             let count = passed(self.stream.write(rest))?;
             rest = rest.get(count..).unwrap_or(&[]);
         }
-        Err(Why::Lost)
+        Err(RetryReason::Lost)
     }
 
     // Reads some bytes more, none if a signal came first.
-    fn read_more(&mut self, held: &mut Vec<u8>) -> Result<(), Why> {
+    fn read_more(&mut self, held: &mut Vec<u8>) -> Result<(), RetryReason> {
         let left = self.left()?;
         if self.stream.set_read_timeout(Some(left)).is_err() {
-            return Err(Why::Lost);
+            return Err(RetryReason::Lost);
         }
         let mut piece = [0u8; REPLY_PIECE];
         let count = passed(self.stream.read(&mut piece))?;
         match held.extend_from_slice(piece.get(..count).unwrap_or(&[])) {
             Ok(()) => Ok(()),
-            Err(_) => Err(Why::Memory),
+            Err(_) => Err(RetryReason::Memory),
         }
     }
 
     // Reads until a whole reply is there. Its head is read once, and then its body, of which no
     // more is held than it is long.
-    fn hear(&mut self, alloc: Global) -> Result<Heard, Why> {
+    fn hear(&mut self, alloc: Global) -> Result<Heard, RetryReason> {
         let mut held = Vec::new(alloc);
         let head = self.hear_head(alloc, &mut held)?;
         for _ in 0..u64::MAX {
             if held.len() >= head.length {
                 held.truncate(head.length);
-                return heard(head.status, held);
+                return response(head.status, held);
             }
             self.read_more(&mut held)?;
         }
-        Err(Why::Lost)
+        Err(RetryReason::Lost)
     }
 
     // Reads until the head of the reply is there, and leaves what came of its body. Replies that
     // others follow are ignored (RFC 9110, section 15.2).
-    fn hear_head(&mut self, alloc: Global, held: &mut Vec<u8>) -> Result<Head, Why> {
+    fn hear_head(&mut self, alloc: Global, held: &mut Vec<u8>) -> Result<ReplyHead, RetryReason> {
         for _ in 0..u64::MAX {
             match front_of(held.as_slice())? {
-                Front::Whole(head) => {
+                HeadProgress::Whole(head) => {
                     *held = behind(alloc, held.as_slice(), head.end)?;
                     return Ok(head);
                 }
-                Front::Interim(end) => *held = behind(alloc, held.as_slice(), end)?,
-                Front::Part if held.len() > MOST_DESK_HEAD => return Err(Why::Foreign),
-                Front::Part => self.read_more(held)?,
+                HeadProgress::Interim(end) => *held = behind(alloc, held.as_slice(), end)?,
+                HeadProgress::Part if held.len() > MAX_DESK_HEAD => return Err(
+                    RetryReason::Foreign,
+                ),
+                HeadProgress::Part => self.read_more(held)?,
             }
         }
-        Err(Why::Lost)
+        Err(RetryReason::Lost)
     }
 }
 
 // How many bytes a call passed on: none if a signal came first.
-fn passed(count: io::Result<usize>) -> Result<usize, Why> {
+fn passed(count: io::Result<usize>) -> Result<usize, RetryReason> {
     match count {
-        Ok(0) => Err(Why::Lost),
+        Ok(0) => Err(RetryReason::Lost),
         Ok(count) => Ok(count),
         Err(error) if error.kind() == ErrorKind::Interrupted => Ok(0),
-        Err(_) => Err(Why::Lost),
+        Err(_) => Err(RetryReason::Lost),
     }
 }
 
 // The bytes from this place on.
-fn behind(alloc: Global, bytes: &[u8], place: usize) -> Result<Vec<u8>, Why> {
+fn behind(alloc: Global, bytes: &[u8], place: usize) -> Result<Vec<u8>, RetryReason> {
     match Vec::from_slice(alloc, bytes.get(place..).unwrap_or(&[])) {
         Ok(rest) => Ok(rest),
-        Err(_) => Err(Why::Memory),
+        Err(_) => Err(RetryReason::Memory),
     }
 }
 
 // The reply with this body. A desk's is UTF-8.
-fn heard(status: u16, body: Vec<u8>) -> Result<Heard, Why> {
+fn response(status: u16, body: Vec<u8>) -> Result<Heard, RetryReason> {
     match String::from_utf8(body) {
         Ok(body) => Ok(Heard {
             status,
             body: Text::of(body),
         }),
-        Err(_) => Err(Why::Foreign),
+        Err(_) => Err(RetryReason::Foreign),
     }
 }
 
 impl<'a> Network for Tcp<'a> {
     ghost was_sent = { λ t m. Unit {0} };
 
-    ghost was_told = { λ t m heard. Unit {0} };
+    ghost was_told = { λ t m response. Unit {0} };
 
     ghost was_unanswered = { λ t m why. Unit {0} };
 
     // Sends a message on a connection of its own, and reads the reply, all within one time limit.
-    fn exchange(&mut self, alloc: Global, message: &str) -> Result<Heard, Why> {
+    fn exchange(&mut self, alloc: Global, message: &str) -> Result<Heard, RetryReason> {
         let Some(mut exchange) = self.connect() else {
-            return Err(Why::Unreachable);
+            return Err(RetryReason::Unreachable);
         };
         exchange.send(message.as_bytes())?;
         exchange.hear(alloc)
     }
 
     // Says why a message is sent again, and waits; does neither if the call has no time left.
-    fn pause(&mut self, tried: u32, why: Why) {
+    fn pause(&mut self, tried: u32, why: RetryReason) {
         if let Some(pause) = self.cut(Duration::from_millis(pause_after(tried))) {
             say(&mut self.rt.stderr(), text_of(why));
             thread::sleep(self.rt, pause);
@@ -203,12 +205,12 @@ impl<'a> Network for Tcp<'a> {
 }
 
 // What is said of why a message is sent again.
-fn text_of(why: Why) -> &'static str {
+fn text_of(why: RetryReason) -> &'static str {
     match why {
-        Why::Unreachable => "nobody answers there; trying again",
-        Why::Lost => "the reply was lost; trying again",
-        Why::Foreign => "the reply is not a desk's; trying again",
-        Why::Unavailable => "the desk cannot do it now; trying again",
-        Why::Memory => "out of memory; trying again",
+        RetryReason::Unreachable => "nobody answers there; trying again",
+        RetryReason::Lost => "the reply was lost; trying again",
+        RetryReason::Foreign => "the reply is not a desk's; trying again",
+        RetryReason::Unavailable => "the desk cannot do it now; trying again",
+        RetryReason::Memory => "out of memory; trying again",
     }
 }

@@ -1,14 +1,14 @@
 //! `watch`: a service, a line each time that it stands otherwise.
-use crate::clock::Span;
-use crate::outcome::{Outcome, Stop, say, show, tell};
-use crate::place::{place_of, service_of, waiting};
+use crate::clock::Deadline;
+use crate::endpoint::{endpoint_of, service_of, waiting};
+use crate::outcome::{ClientExit, Stop, say, show, tell};
 use crate::plain::{json_of, line_of};
 use crate::query::value_at;
-use crate::standing::{Hold, Standing, WORDS, Why, is_of_step, last_line, parts_of};
+use crate::standing::{Hold, Standing, StandingReason, WORDS, is_of_step, last_line, parts_of};
 use crate::tcp::Tcp;
 use canary_base::lists::Text;
-use canary_sending::network::Network;
-use canary_words::words::AskedDesk;
+use canary_cli_words::words::AskedDesk;
+use canary_client_journal::network::Network;
 use serde_json::{Map, Value};
 use std::alloc::{AllocError, Global};
 use std::io::Write;
@@ -18,7 +18,7 @@ const UNTIL: &str = "Healthy,Degraded";
 
 /// How a service is watched.
 #[derive(Debug, Drop)]
-pub struct Manner {
+pub struct WatchOptions {
     /// The words at which the call ends, separated by commas; none for those by default.
     pub until: Option<Text>,
     /// Whether each line is a JSON value.
@@ -35,10 +35,10 @@ pub fn watch<W: Write, F: Write>(
     rt: &HostRuntime,
     desk: &AskedDesk,
     service: &Text,
-    manner: &Manner,
+    manner: &WatchOptions,
     output: &mut W,
     errors: &mut F,
-) -> Outcome {
+) -> ClientExit {
     match try_watch(rt, desk, service, manner, output, errors) {
         Ok(outcome) => outcome,
         Err(stop) => tell(stop, errors),
@@ -50,21 +50,21 @@ fn try_watch<W: Write, F: Write>(
     rt: &HostRuntime,
     desk: &AskedDesk,
     service: &Text,
-    manner: &Manner,
+    manner: &WatchOptions,
     output: &mut W,
     errors: &mut F,
-) -> Result<Outcome, Stop> {
+) -> Result<ClientExit, Stop> {
     let until = until_of(manner)?;
-    let place = waiting(place_of(rt, desk)?);
+    let place = waiting(endpoint_of(rt, desk)?);
     let service = service_of(service)?;
     let service = service.as_str();
     let path = format!(in rt.alloc(); "/services/{service}")?;
-    let call = Span::of_call(rt, place.wait_seconds)?;
+    let call = Deadline::of_call(rt, place.wait_seconds)?;
     let looking = Looking {
         network: Tcp::within(rt, &place, call),
         path,
         tries: place.tries,
-        seen: Seen::nothing(rt.alloc(), manner.is_json),
+        seen: LastShown::nothing(rt.alloc(), manner.is_json),
     };
     match look_until(rt, looking, until, manner.is_forever, call, output, errors) {
         Ok(outcome) => Ok(outcome),
@@ -78,10 +78,10 @@ fn look_until<W: Write, F: Write>(
     looking: Looking<'_>,
     until: &str,
     is_forever: bool,
-    call: Span,
+    call: Deadline,
     output: &mut W,
     errors: &mut F,
-) -> Result<Outcome, Stop> {
+) -> Result<ClientExit, Stop> {
     let mut looking = looking;
     for _ in 0..u64::MAX {
         let looked = looking.look(rt.alloc(), output);
@@ -104,7 +104,7 @@ struct Looking<'a> {
     network: Tcp<'a>,
     path: String,
     tries: u32,
-    seen: Seen,
+    seen: LastShown,
 }
 
 impl Looking<'_> {
@@ -117,7 +117,7 @@ impl Looking<'_> {
 }
 
 // The words at which a call ends.
-fn until_of(manner: &Manner) -> Result<&str, Stop> {
+fn until_of(manner: &WatchOptions) -> Result<&str, Stop> {
     match &manner.until {
         Some(_) if manner.is_forever => Err(Stop::ForeverUntil),
         Some(until) if until.as_str().split(',').all(is_word) => Ok(until.as_str()),
@@ -150,10 +150,10 @@ fn went_on<F: Write>(
 }
 
 // How the call ends if the service stands as one of these words says.
-fn ended_by(standing: &Standing, until: &str) -> Option<Outcome> {
+fn ended_by(standing: &Standing, until: &str) -> Option<ClientExit> {
     let mut ended = None;
     for word in until.split(',') {
-        if standing.meets(word) && ended != Some(Outcome::Held) {
+        if standing.meets(word) && ended != Some(ClientExit::Held) {
             ended = Some(standing.ended_at(word));
         }
     }
@@ -162,16 +162,16 @@ fn ended_by(standing: &Standing, until: &str) -> Option<Outcome> {
 
 // What was shown last, and how the service stood then.
 #[derive(Drop)]
-struct Seen {
+struct LastShown {
     is_json: bool,
     key: String,
     standing: Option<Standing>,
 }
 
-impl Seen {
+impl LastShown {
     // Nothing was seen yet, so the first look shows a line.
-    fn nothing(alloc: Global, is_json: bool) -> Seen {
-        Seen {
+    fn nothing(alloc: Global, is_json: bool) -> LastShown {
+        LastShown {
             is_json,
             key: String::new(alloc),
             standing: None,
@@ -246,7 +246,7 @@ fn standing_of<N: Network>(
     {
         return Ok(None);
     }
-    let why = Why::of(hold, last);
+    let why = StandingReason::of(hold, last);
     Ok(Some(Standing { status, step, why }))
 }
 
@@ -296,14 +296,14 @@ fn number_or_null(number: Option<u64>) -> Value {
 }
 
 // Why, as the members of a JSON value: a word, a run, and when a pause ends.
-fn members_of(why: Why) -> (&'static str, Option<u64>, Option<u64>) {
+fn members_of(why: StandingReason) -> (&'static str, Option<u64>, Option<u64>) {
     match why {
-        Why::Plain => ("plain", None, None),
-        Why::Held(_) => ("held", None, None),
-        Why::Waiting => ("waiting", None, None),
-        Why::Pause { seconds: _, until } => ("pause", None, Some(until)),
-        Why::Analysis { run } => ("analysis", Some(run as u64), None),
-        Why::Aborted => ("aborted", None, None),
-        Why::AbortedBy { run } => ("aborted", Some(run as u64), None),
+        StandingReason::Plain => ("plain", None, None),
+        StandingReason::Held(_) => ("held", None, None),
+        StandingReason::Waiting => ("waiting", None, None),
+        StandingReason::Pause { seconds: _, until } => ("pause", None, Some(until)),
+        StandingReason::Analysis { run } => ("analysis", Some(run as u64), None),
+        StandingReason::Aborted => ("aborted", None, None),
+        StandingReason::AbortedBy { run } => ("aborted", Some(run as u64), None),
     }
 }

@@ -3,16 +3,16 @@ ghost use Rattle.std.specs.Prelude.{◌≡◌, ◌≤◌, length, string_bytes, 
 ghost use Rattle.canary_client.specs.Meant.{report_intent, most_body};
 ghost use Rattle.canary_client.specs.Promises.{intent_of, Means};
 
+use crate::endpoint::service_of;
 use crate::outcome::Stop;
-use crate::place::service_of;
-use crate::report::{Measured, report_body};
+use crate::report::{NewMeasurement, report_body};
 use canary_base::lists::Text;
 use canary_base::names::{Label, Name};
-use canary_canonical::plain::LAST_RUN;
+use canary_canonical::plain::MAX_RUN;
 use canary_canonical::writing;
+use canary_cli_words::words::AskedCommand;
 use canary_manifest::command::{WireFault, command_from_json};
 use canary_plan::command::Command;
-use canary_words::words::AskedCommand;
 use canary_yaml::fault as yaml;
 use canary_yaml::read::json_of;
 use std::alloc::Global;
@@ -20,7 +20,7 @@ use std::fs::{File, Files};
 use std::io::{ErrorKind, Read};
 
 // The most bytes of a manifest's file; the body of a request has fewer.
-const MOST_BYTES: u64 = 65_536;
+const MAX_BYTES: u64 = 65_536;
 
 /// What words ask for.
 #[derive(Drop)]
@@ -37,7 +37,7 @@ pub enum Asking {
         /// What is meant: its words.
         intent: Text,
         /// The measurement.
-        measured: Measured,
+        measured: NewMeasurement,
     },
 }
 
@@ -199,8 +199,8 @@ fn manifest<P: Files + AllocGlobal>(rt: &P, file: &str) -> Result<String, Stop> 
         return Err(Stop::File);
     };
     let mut text = String::new(rt.alloc());
-    match file.take(MOST_BYTES + 1).read_to_string(&mut text) {
-        Ok(_) if text.len() as u64 <= MOST_BYTES => json(rt.alloc(), text),
+    match file.take(MAX_BYTES + 1).read_to_string(&mut text) {
+        Ok(_) if text.len() as u64 <= MAX_BYTES => json(rt.alloc(), text),
         Ok(_) => Err(Stop::Manifest),
         Err(error) if error.kind() == ErrorKind::OutOfMemory => Err(Stop::Memory),
         Err(_) => Err(Stop::File),
@@ -212,7 +212,7 @@ fn json(alloc: Global, text: String) -> Result<String, Stop> {
     match json_of(alloc, text.as_bytes()) {
         Ok(None) => Ok(text),
         Ok(Some(json)) => Ok(json),
-        Err(yaml::Fault::Memory) => Err(Stop::Memory),
+        Err(yaml::YamlFault::Memory) => Err(Stop::Memory),
         Err(_) => Err(Stop::Manifest),
     }
 }
@@ -221,7 +221,7 @@ fn json(alloc: Global, text: String) -> Result<String, Stop> {
 fn of_body(alloc: Global, body: String) -> Result<Asking, Stop>
     ensures { OnOk result (length (string_bytes body) ≤ most_body) }
 {
-    if body.len() as u64 > MOST_BYTES {
+    if body.len() as u64 > MAX_BYTES {
         return Err(Stop::Manifest);
     }
     match intent_in(alloc, body.as_str())? {
@@ -264,7 +264,7 @@ fn report(alloc: Global, words: &AskedCommand) -> Result<Asking, Stop> {
         return Err(Stop::Run);
     };
     let metric = metric_of(&words.third)?;
-    let measured = Measured {
+    let measured = NewMeasurement {
         service,
         run,
         metric,
@@ -283,9 +283,9 @@ fn run_of(word: &Option<Text>) -> Option<u32> {
     }
 }
 
-// Whether a run may have this number: 1 to `LAST_RUN`.
+// Whether a run may have this number: 1 to `MAX_RUN`.
 fn is_run(number: &u32) -> bool {
-    (1..=LAST_RUN).contains(number)
+    (1..=MAX_RUN).contains(number)
 }
 
 // The member of the outcome: the result, or why the measurement failed.
@@ -318,7 +318,7 @@ fn failure_of(alloc: Global, text: &str) -> Result<Text, Stop> {
 }
 
 // A report with this outcome has to be one that the desk reads, whatever its ordinal.
-fn is_taken(alloc: Global, measured: &Measured, is_failure: bool) -> Result<(), Stop> {
+fn is_taken(alloc: Global, measured: &NewMeasurement, is_failure: bool) -> Result<(), Stop> {
     let body = report_body(alloc, measured, 1, 0)?;
     match command_from_json(alloc, body.as_str().as_bytes()) {
         Ok(command) if has_one_entry(&command) => Ok(()),
@@ -337,7 +337,7 @@ fn has_one_entry(command: &Command) -> bool {
 }
 
 // What a report means: its words, without the ordinal and the moment, which come later.
-fn intent_of(alloc: Global, measured: &Measured) -> Result<Text, Stop>
+fn intent_of(alloc: Global, measured: &NewMeasurement) -> Result<Text, Stop>
     ensures { IfOk result (λ intent. intent ≡ report_intent measured.now.service measured.now.run
         measured.now.metric measured.now.outcome) }
 {

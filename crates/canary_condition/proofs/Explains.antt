@@ -7,14 +7,14 @@ use Rattle.std.proofs.lemmas.Bool.Decides.{nat_tests}
 use Rattle.std.proofs.lemmas.List.{append-nil, length-append}
 use Rattle.std.proofs.lemmas.List.Sums.{fold-append}
 use Rattle.canary_condition.specs.declared.condition.Comparison.TheVariants.{Equal}
-use Rattle.canary_condition.specs.declared.explanation.Course.{Course}
-use Rattle.canary_condition.specs.declared.explanation.Course.TheVariants.{At, Stopped}
+use Rattle.canary_condition.specs.declared.explanation.TokenProgress.{TokenProgress}
+use Rattle.canary_condition.specs.declared.explanation.TokenProgress.TheVariants.{At, Stopped}
 use Rattle.canary_condition.specs.declared.explanation.Expected.{Expected}
 use Rattle.canary_condition.specs.declared.explanation.Explained.{Explained}
-use Rattle.canary_condition.specs.declared.explanation.Notes.{Notes}
+use Rattle.canary_condition.specs.declared.explanation.TokenNotes.{TokenNotes}
 use Rattle.canary_condition.specs.declared.explanation.Why.TheVariants.{NoToken, NumberRange, TooDeep, Syntax}
-use Rattle.canary_condition.specs.declared.place.Place.{Place}
-use Rattle.canary_condition.specs.declared.place.Place.TheVariants.{Term}
+use Rattle.canary_condition.specs.declared.token_place.TokenPlace.{TokenPlace}
+use Rattle.canary_condition.specs.declared.token_place.TokenPlace.TheVariants.{Term}
 use Rattle.canary_condition.specs.declared.token.Token.{Token}
 use Rattle.canary_condition.specs.declared.token.Token.TheVariants.{Compares, OutOfRange}
 use Rattle.canary_condition.specs.Trees.{Tree}
@@ -31,12 +31,12 @@ use Rattle.canary_condition.proofs.Running.{run, run_on, run_append, front_leads
 -- ---- from a text to its tokens and their bytes
 
 -- the notes of all tokens, each with its byte
-abbrev noted_all : Notes → List Token → List ℕ → Notes
+abbrev noted_all : TokenNotes → List Token → List ℕ → TokenNotes
 noted_all s [] bs = s
 noted_all s (t ∷ ts) [] = s
 noted_all s (t ∷ ts) (b ∷ bs) = noted_all (noted s b t) ts bs
 
-abbrev explained_by : Notes → Option (List Token) → List ℕ → Option Explained
+abbrev explained_by : TokenNotes → Option (List Token) → List ℕ → Option Explained
 explained_by s None bs = Some (record { at = last_of 0 bs; why = NoToken })
 explained_by s (Some ts) bs = finished (noted_all s ts bs) (last_of 0 bs)
 
@@ -52,11 +52,11 @@ last_same (b ∷ text) zero at x y =
       ]
     ]
 
-cons_explained : (s : Notes) (t : Token) (at : ℕ) (bs : List ℕ) (ts : Option (List Token)) → last_of at bs ≡ last_of 0 bs → explained_by (noted s at t) ts bs ≡ explained_by s (option_map (λ (r : List Token). t ∷ r) ts) (at ∷ bs)
+cons_explained : (s : TokenNotes) (t : Token) (at : ℕ) (bs : List ℕ) (ts : Option (List Token)) → last_of at bs ≡ last_of 0 bs → explained_by (noted s at t) ts bs ≡ explained_by s (option_map (λ (r : List Token). t ∷ r) ts) (at ∷ bs)
 cons_explained s t at bs None e = ap (λ (k : ℕ). Some (record { at = k; why = NoToken })) (sym e)
 cons_explained s t at bs (Some ts) e = ap (finished (noted_all (noted s at t) ts bs)) (sym e)
 
-text_explained : (text : List ℕ) (n at : ℕ) (s : Notes) → explain_after s at n text ≡ explained_by s (tokens_after n text) (begins_after at n text)
+text_explained : (text : List ℕ) (n at : ℕ) (s : TokenNotes) → explain_after s at n text ≡ explained_by s (tokens_after n text) (begins_after at n text)
 text_explained [] n at s = refl
 text_explained (b ∷ text) (suc n) at s = text_explained text n (suc at) s
 text_explained (b ∷ text) zero at s =
@@ -169,12 +169,12 @@ is_deep done t = nat_lt 32 (open_brackets (done ++ t ∷ []))
 opened_more : (done : List Token) (n : ℕ) (t : Token) → n ≡ open_brackets done → with_token n t ≡ open_brackets (done ++ t ∷ [])
 opened_more done n t e = ap (λ (k : ℕ). with_token k t) e ∙ sym (fold-append with_token 0 done (t ∷ []))
 
-numbers_noted : (ts : List Token) (bs : List ℕ) (s : Notes) (done : List Token) → (noted_all s ts bs).number ≡ first_all is_number_out s.number done ts bs
+numbers_noted : (ts : List Token) (bs : List ℕ) (s : TokenNotes) (done : List Token) → (noted_all s ts bs).number ≡ first_all is_number_out s.number done ts bs
 numbers_noted [] bs s done = refl
 numbers_noted (t ∷ ts) [] s done = refl
 numbers_noted (t ∷ ts) (b ∷ bs) s done = numbers_noted ts bs (noted s b t) (done ++ t ∷ [])
 
-brackets_noted : (ts : List Token) (bs : List ℕ) (s : Notes) (done : List Token) → s.opened ≡ open_brackets done → (noted_all s ts bs).bracket ≡ first_all is_deep s.bracket done ts bs
+brackets_noted : (ts : List Token) (bs : List ℕ) (s : TokenNotes) (done : List Token) → s.opened ≡ open_brackets done → (noted_all s ts bs).bracket ≡ first_all is_deep s.bracket done ts bs
 brackets_noted [] bs s done e = refl
 brackets_noted (t ∷ ts) [] s done e = refl
 brackets_noted (t ∷ ts) (b ∷ bs) s done e =
@@ -205,11 +205,11 @@ shallow (t ∷ ts) done h n =
 -- ---- how far the tokens go
 
 -- at this byte stands a token that may not stand there
-record StopsAt (from : Place) (n : ℕ) (ts : List Token) (bs : List ℕ) (at : ℕ) (e : Expected) : Type 0 where
+record StopsAt (from : TokenPlace) (n : ℕ) (ts : List Token) (bs : List ℕ) (at : ℕ) (e : Expected) : Type 0 where
   front : List Token
   t : Token
   rest : List Token
-  place : Place
+  place : TokenPlace
   opened : ℕ
   are : ts ≡ front ++ t ∷ rest
   runs : run from n front ≡ Some (place, opened)
@@ -217,19 +217,19 @@ record StopsAt (from : Place) (n : ℕ) (ts : List Token) (bs : List ℕ) (at : 
   expected_is : e ≡ expected place opened
   at_is : at ≡ slice_index bs (length front)
 
-abbrev CourseBy : Place → ℕ → List Token → List ℕ → Course → ℕ → Type 0
+abbrev CourseBy : TokenPlace → ℕ → List Token → List ℕ → TokenProgress → ℕ → Type 0
 CourseBy from n ts bs (At place) opened = run from n ts ≡ Some (place, opened)
 CourseBy from n ts bs (Stopped at e) opened = StopsAt from n ts bs at e
 
-stopped_kept : (ts : List Token) (bs : List ℕ) (s : Notes) (at : ℕ) (e : Expected) → s.course ≡ Stopped at e → (noted_all s ts bs).course ≡ Stopped at e
+stopped_kept : (ts : List Token) (bs : List ℕ) (s : TokenNotes) (at : ℕ) (e : Expected) → s.course ≡ Stopped at e → (noted_all s ts bs).course ≡ Stopped at e
 stopped_kept [] bs s at e h = h
 stopped_kept (t ∷ ts) [] s at e h = h
-stopped_kept (t ∷ ts) (b ∷ bs) s at e h = stopped_kept ts bs (noted s b t) at e (ap (λ (c : Course). course_after c s.opened b t) h)
+stopped_kept (t ∷ ts) (b ∷ bs) s at e h = stopped_kept ts bs (noted s b t) at e (ap (λ (c : TokenProgress). course_after c s.opened b t) h)
 
-one_run : (from after : Place) (n : ℕ) (t : Token) (ts : List Token) → next from n t ≡ Some after → run from n (t ∷ ts) ≡ run after (with_token n t) ts
-one_run from after n t ts e = ap (λ (r : Option Place). elim r [ None ↦ None | Some after ↦ run after (with_token n t) ts ]) e
+one_run : (from after : TokenPlace) (n : ℕ) (t : Token) (ts : List Token) → next from n t ≡ Some after → run from n (t ∷ ts) ≡ run after (with_token n t) ts
+one_run from after n t ts e = ap (λ (r : Option TokenPlace). elim r [ None ↦ None | Some after ↦ run after (with_token n t) ts ]) e
 
-one_on : (from after : Place) (n : ℕ) (t : Token) (ts : List Token) (b : ℕ) (bs : List ℕ) (c : Course) (opened : ℕ) → next from n t ≡ Some after → CourseBy after (with_token n t) ts bs c opened → CourseBy from n (t ∷ ts) (b ∷ bs) c opened
+one_on : (from after : TokenPlace) (n : ℕ) (t : Token) (ts : List Token) (b : ℕ) (bs : List ℕ) (c : TokenProgress) (opened : ℕ) → next from n t ≡ Some after → CourseBy after (with_token n t) ts bs c opened → CourseBy from n (t ∷ ts) (b ∷ bs) c opened
 one_on from after n t ts b bs (At place) opened e h = one_run from after n t ts e ∙ h
 one_on from after n t ts b bs (Stopped at x) opened e h =
     record {
@@ -245,19 +245,19 @@ one_on from after n t ts b bs (Stopped at x) opened e h =
       at_is = h.at_is;
     }
 
-courses : (ts : List Token) (bs : List ℕ) (s : Notes) (from : Place) → length bs ≡ suc (length ts) → s.course ≡ At from → CourseBy from s.opened ts bs (noted_all s ts bs).course (noted_all s ts bs).opened
-courses [] bs s from e h = subst (λ (c : Course). CourseBy from s.opened [] bs c s.opened) (sym h) refl
+courses : (ts : List Token) (bs : List ℕ) (s : TokenNotes) (from : TokenPlace) → length bs ≡ suc (length ts) → s.course ≡ At from → CourseBy from s.opened ts bs (noted_all s ts bs).course (noted_all s ts bs).opened
+courses [] bs s from e h = subst (λ (c : TokenProgress). CourseBy from s.opened [] bs c s.opened) (sym h) refl
 courses (t ∷ ts) [] s from e h = absurd (omega (arith, e))
 courses (t ∷ ts) (b ∷ bs) s from e h =
-    let after_is : (noted s b t).course ≡ course_after (At from) s.opened b t = ap (λ (c : Course). course_after c s.opened b t) h in
-    let all : Notes = noted_all (noted s b t) ts bs in
+    let after_is : (noted s b t).course ≡ course_after (At from) s.opened b t = ap (λ (c : TokenProgress). course_after c s.opened b t) h in
+    let all : TokenNotes = noted_all (noted s b t) ts bs in
     elim (next from s.opened t) as (λ r. next from s.opened t ≡ r → CourseBy from s.opened (t ∷ ts) (b ∷ bs) all.course all.opened) [
       | None ↦ λ stuck.
-          let stops : (noted s b t).course ≡ Stopped b (expected from s.opened) = after_is ∙ ap (λ (r : Option Place). elim r [ None ↦ Stopped b (expected from s.opened) | Some after ↦ At after ]) stuck in
-          subst (λ (c : Course). CourseBy from s.opened (t ∷ ts) (b ∷ bs) c all.opened) (sym (stopped_kept ts bs (noted s b t) b (expected from s.opened) stops))
+          let stops : (noted s b t).course ≡ Stopped b (expected from s.opened) = after_is ∙ ap (λ (r : Option TokenPlace). elim r [ None ↦ Stopped b (expected from s.opened) | Some after ↦ At after ]) stuck in
+          subst (λ (c : TokenProgress). CourseBy from s.opened (t ∷ ts) (b ∷ bs) c all.opened) (sym (stopped_kept ts bs (noted s b t) b (expected from s.opened) stops))
           (record { front = []; t = t; rest = ts; place = from; opened = s.opened; are = refl; runs = refl; stuck = stuck; expected_is = refl; at_is = refl })
       | Some after ↦ λ goes.
-          let on : (noted s b t).course ≡ At after = after_is ∙ ap (λ (r : Option Place). elim r [ None ↦ Stopped b (expected from s.opened) | Some after ↦ At after ]) goes in
+          let on : (noted s b t).course ≡ At after = after_is ∙ ap (λ (r : Option TokenPlace). elim r [ None ↦ Stopped b (expected from s.opened) | Some after ↦ At after ]) goes in
           one_on from after s.opened t ts b bs all.course all.opened goes (courses ts bs (noted s b t) after (omega (arith, e)) on)
     ] refl
 
@@ -280,18 +280,18 @@ longer (f ∷ front) (u ∷ other) rest more t e =
       | inr h ↦ inr (h.0, ap (λ (x : Token). x ∷ other) (sym heads) ∙ ap (λ (r : List Token). f ∷ r) h.1)
     ]
 
-run_stuck : (front behind : List Token) (t : Token) (place : Place) (opened : ℕ) → run Term 0 front ≡ Some (place, opened) → next place opened t ≡ None → run Term 0 (front ++ t ∷ behind) ≡ None
+run_stuck : (front behind : List Token) (t : Token) (place : TokenPlace) (opened : ℕ) → run Term 0 front ≡ Some (place, opened) → next place opened t ≡ None → run Term 0 (front ++ t ∷ behind) ≡ None
 run_stuck front behind t place opened runs stuck =
-    run_append front (t ∷ behind) Term 0 ∙ ap (λ (r : Option (Place × ℕ)). run_on r (t ∷ behind)) runs
-    ∙ ap (λ (r : Option Place). elim r [ None ↦ None | Some after ↦ run after (with_token opened t) behind ]) stuck
+    run_append front (t ∷ behind) Term 0 ∙ ap (λ (r : Option (TokenPlace × ℕ)). run_on r (t ∷ behind)) runs
+    ∙ ap (λ (r : Option TokenPlace). elim r [ None ↦ None | Some after ↦ run after (with_token opened t) behind ]) stuck
 
-stuck_no_front : (front behind : List Token) (t : Token) (place : Place) (opened : ℕ) → run Term 0 front ≡ Some (place, opened) → next place opened t ≡ None → IsFront (front ++ t ∷ behind) → ⊥
+stuck_no_front : (front behind : List Token) (t : Token) (place : TokenPlace) (opened : ℕ) → run Term 0 front ≡ Some (place, opened) → next place opened t ≡ None → IsFront (front ++ t ∷ behind) → ⊥
 stuck_no_front front behind t place opened runs stuck h =
     let l = front_leads (front ++ t ∷ behind) h in
     not_both (run Term 0 (front ++ t ∷ behind)) (l.place, l.opened) (run_stuck front behind t place opened runs stuck) l.runs
 
 -- up to a token that may not stand
-longest_stopped : (front more : List Token) (t : Token) (place : Place) (opened : ℕ) → run Term 0 front ≡ Some (place, opened) → next place opened t ≡ None → IsLongestFront front (front ++ t ∷ more)
+longest_stopped : (front more : List Token) (t : Token) (place : TokenPlace) (opened : ℕ) → run Term 0 front ≡ Some (place, opened) → next place opened t ≡ None → IsLongestFront front (front ++ t ∷ more)
 longest_stopped front more t place opened runs stuck = (
   run_front front place opened runs,
   λ other rest e h.
@@ -352,7 +352,7 @@ stopped_out text ts at x short e within f =
       ),
     )
 
-end_out : (text : List ℕ) (ts : List Token) (place : Place) (opened : ℕ) → length text ≤ 1024 → tokens_of text ≡ Some ts → length (begins text) ≡ suc (length ts) → IsWithinLimits ts → run Term 0 ts ≡ Some (place, opened) → Explains text (end_at (expected place opened) (last_of 0 (begins text)))
+end_out : (text : List ℕ) (ts : List Token) (place : TokenPlace) (opened : ℕ) → length text ≤ 1024 → tokens_of text ≡ Some ts → length (begins text) ≡ suc (length ts) → IsWithinLimits ts → run Term 0 ts ≡ Some (place, opened) → Explains text (end_at (expected place opened) (last_of 0 (begins text)))
 end_out text ts place opened short e count within runs =
     elim (may_end (expected place opened)) as (λ b. may_end (expected place opened) ≡ b → Explains text (if b then None else Some (record { at = last_of 0 (begins text); why = Syntax (expected place opened) }))) [
       | true ↦ λ may. let w = run_whole ts place opened runs may in (w.0, (short, ts, e, (within, w.1)))
@@ -361,13 +361,13 @@ end_out text ts place opened short e count within runs =
           (inr (short, ts, e, (within, no_tree)), (ts, [], e ∙ ap Some (sym (append-nil ts)), last_is (begins text) 0 (length ts) count, (longest_whole ts (run_front ts place opened runs), expected_there ts place opened runs)))
     ] refl
 
-course_out : (text : List ℕ) (ts : List Token) (course : Course) (opened : ℕ) → length text ≤ 1024 → tokens_of text ≡ Some ts → length (begins text) ≡ suc (length ts) → IsWithinLimits ts → CourseBy Term 0 ts (begins text) course opened → Explains text (course_end course opened (last_of 0 (begins text)))
+course_out : (text : List ℕ) (ts : List Token) (course : TokenProgress) (opened : ℕ) → length text ≤ 1024 → tokens_of text ≡ Some ts → length (begins text) ≡ suc (length ts) → IsWithinLimits ts → CourseBy Term 0 ts (begins text) course opened → Explains text (course_end course opened (last_of 0 (begins text)))
 course_out text ts (At place) opened short e count within h = end_out text ts place opened short e count within h
 course_out text ts (Stopped at x) opened short e count within h = stopped_out text ts at x short e within h
 
 tokens_out : (text : List ℕ) (ts : List Token) → length text ≤ 1024 → tokens_of text ≡ Some ts → length (begins text) ≡ suc (length ts) → Explains text (finished (noted_all start ts (begins text)) (last_of 0 (begins text)))
 tokens_out text ts short e count =
-    let s : Notes = noted_all start ts (begins text) in
+    let s : TokenNotes = noted_all start ts (begins text) in
     let end : ℕ = last_of 0 (begins text) in
     let numbers : FirstBy is_number_out [] ts (begins text) s.number = subst (FirstBy is_number_out [] ts (begins text)) (sym (numbers_noted ts (begins text) start [])) (first_found is_number_out ts [] (begins text) count) in
     let brackets : FirstBy is_deep [] ts (begins text) s.bracket = subst (FirstBy is_deep [] ts (begins text)) (sym (brackets_noted ts (begins text) start [] refl)) (first_found is_deep ts [] (begins text) count) in

@@ -7,10 +7,10 @@ use Rattle.canary_condition.specs.declared.condition.Operand.{Operand}
 use Rattle.canary_condition.specs.declared.condition.Operand.TheVariants.{Whole, Item as ItemOperand, Number}
 use Rattle.canary_condition.specs.declared.token.Token.{Token}
 use Rattle.canary_condition.specs.declared.token.Token.TheVariants.{Compares, OrSign, AndSign, NotSign, Open, Close, OpenItem, CloseItem, ResultWord, Digits, Minus}
-use Rattle.canary_condition.specs.declared.place.Side.{Side}
-use Rattle.canary_condition.specs.declared.place.Side.TheVariants.{Left, Right}
-use Rattle.canary_condition.specs.declared.place.Place.{Place}
-use Rattle.canary_condition.specs.declared.place.Place.TheVariants.{Term, Result as ResultPlace, Item, Index, Comparison as ComparisonPlace, Operand as OperandPlace, End}
+use Rattle.canary_condition.specs.declared.token_place.Side.{Side}
+use Rattle.canary_condition.specs.declared.token_place.Side.TheVariants.{Left, Right}
+use Rattle.canary_condition.specs.declared.token_place.TokenPlace.{TokenPlace}
+use Rattle.canary_condition.specs.declared.token_place.TokenPlace.TheVariants.{Term, Result as ResultPlace, Item, Index, Comparison as ComparisonPlace, Operand as OperandPlace, End}
 use Rattle.canary_condition.specs.Trees.{Tree}
 use Rattle.canary_condition.specs.Trees.Tree.{Or as OrTree, And as AndTree, Not as NotTree, Bracket as BracketTree, Compare as CompareTree}
 use Rattle.canary_condition.specs.Spelling.{Spells, IsOperand, with_token}
@@ -34,7 +34,7 @@ abbrev Ended : Side → List Token → Type 0
 Ended Left ts = (c : Comparison) → (y : Operand) → (more : List Token) → IsOperand y more → IsWhole (ts ++ Compares c ∷ more)
 Ended Right ts = IsWhole ts
 
-abbrev Has : Place → List Token → Type 0
+abbrev Has : TokenPlace → List Token → Type 0
 Has Term ts = Head ts
 Has (ResultPlace side) ts = Ended side ts × ((i : ℕ) → Ended side (ts ++ OpenItem ∷ Digits (pos i) ∷ CloseItem ∷ []))
 Has (Item side) ts = (i : ℕ) → Ended side (ts ++ Digits (pos i) ∷ CloseItem ∷ [])
@@ -99,12 +99,12 @@ closed n ts h =
     (nested_more n Head IsWhole (Open ∷ h.1 ++ Close ∷ []) (λ ts head. head _ (bracket_tight h.1 h.4)) h.0 h.3)
 
 -- what holds of the tokens before a place
-abbrev pub Stands : Place → ℕ → List Token → Type 0
+abbrev pub Stands : TokenPlace → ℕ → List Token → Type 0
 Stands place n ts = Nested n (Has place) ts
 
 -- ---- one step
 
-abbrev pub StandsBy : Option Place → ℕ → List Token → Type 0
+abbrev pub StandsBy : Option TokenPlace → ℕ → List Token → Type 0
 StandsBy None n ts = Unit {0}
 StandsBy (Some place) n ts = Stands place n ts
 
@@ -177,7 +177,7 @@ index_stands : (side : Side) (n : ℕ) (t : Token) (ts : List Token) → Stands 
 index_stands side n CloseItem ts h = nested_more n (Has (Index side)) (Has (after_operand side)) (CloseItem ∷ []) (λ ts k. has_after side (ts ++ CloseItem ∷ []) k) ts h
 index_stands side n t ts h = tt
 
-pub step_stands : (place : Place) (n : ℕ) (t : Token) (ts : List Token) → Stands place n ts → StandsBy (next place n t) (with_token n t) (ts ++ t ∷ [])
+pub step_stands : (place : TokenPlace) (n : ℕ) (t : Token) (ts : List Token) → Stands place n ts → StandsBy (next place n t) (with_token n t) (ts ++ t ∷ [])
 step_stands Term n t ts h = term_stands n t ts h
 step_stands (ResultPlace side) n t ts h = result_stands side n t ts h
 step_stands (Item side) n t ts h = item_stands side n t ts h
@@ -189,7 +189,7 @@ step_stands End n t ts h = end_stands n t ts h
 -- ---- what stands can be completed
 
 -- some tokens that complete any tokens before the place
-record Completed (place : Place) : Type 0 where
+record Completed (place : TokenPlace) : Type 0 where
   more : List Token
   completes : (ts : List Token) → Has place ts → IsWhole (ts ++ more)
 
@@ -200,7 +200,7 @@ ended_completed : (side : Side) → (more : List Token) × ((ts : List Token) �
 ended_completed Left = (Compares Equal ∷ ResultWord ∷ [], λ ts h. h Equal Whole (ResultWord ∷ []) refl)
 ended_completed Right = ([], λ ts h. whole_moved _ _ (sym (append-nil ts)) h)
 
-completed : (place : Place) → Completed place
+completed : (place : TokenPlace) → Completed place
 unfolding shown
 completed Term = record { more = shown; completes = λ ts h. h shown (CompareTree Whole Equal Whole, (ResultWord ∷ [], ResultWord ∷ [], refl, refl, refl)) }
 completed (ResultPlace side) = let e = ended_completed side in record { more = e.0; completes = λ ts h. e.1 ts h.0 }
@@ -217,7 +217,7 @@ front_nested : (n : ℕ) (ts : List Token) → Nested n IsWhole ts → IsFront t
 front_nested zero ts h = ([], whole_moved _ _ (sym (append-nil ts)) h)
 front_nested (suc n) ts h = let k = front_nested n (ts ++ Close ∷ []) (closed n ts h) in (Close ∷ k.0, whole_moved _ _ (onto ts Close k.0) k.1)
 
-pub stands_front : (place : Place) (n : ℕ) (ts : List Token) → Stands place n ts → IsFront ts
+pub stands_front : (place : TokenPlace) (n : ℕ) (ts : List Token) → Stands place n ts → IsFront ts
 stands_front place n ts h =
     let c = completed place in
     let k = front_nested n (ts ++ c.more) (nested_more n (Has place) IsWhole c.more c.completes ts h) in

@@ -7,10 +7,10 @@ use Rattle.canary_condition.specs.declared.condition.Operand.{Operand}
 use Rattle.canary_condition.specs.declared.condition.Operand.TheVariants.{Whole, Item as ItemOperand, Number}
 use Rattle.canary_condition.specs.declared.token.Token.{Token}
 use Rattle.canary_condition.specs.declared.token.Token.TheVariants.{Compares, OrSign, AndSign, NotSign, Open, Close, OpenItem, CloseItem, ResultWord, Digits, Minus}
-use Rattle.canary_condition.specs.declared.place.Side.{Side}
-use Rattle.canary_condition.specs.declared.place.Side.TheVariants.{Left, Right}
-use Rattle.canary_condition.specs.declared.place.Place.{Place}
-use Rattle.canary_condition.specs.declared.place.Place.TheVariants.{Term, Result as ResultPlace, Item, Index, Comparison as ComparisonPlace, Operand as OperandPlace, End}
+use Rattle.canary_condition.specs.declared.token_place.Side.{Side}
+use Rattle.canary_condition.specs.declared.token_place.Side.TheVariants.{Left, Right}
+use Rattle.canary_condition.specs.declared.token_place.TokenPlace.{TokenPlace}
+use Rattle.canary_condition.specs.declared.token_place.TokenPlace.TheVariants.{Term, Result as ResultPlace, Item, Index, Comparison as ComparisonPlace, Operand as OperandPlace, End}
 use Rattle.canary_condition.specs.Trees.{Tree}
 use Rattle.canary_condition.specs.Trees.Tree.{Or as OrTree, And as AndTree, Not as NotTree, Bracket as BracketTree, Compare as CompareTree}
 use Rattle.canary_condition.specs.Spelling.{Level, Spells, IsOperand, with_token}
@@ -20,17 +20,17 @@ use Rattle.canary_condition.specs.Following.{after_operand, next, expected}
 use Rattle.canary_condition.proofs.Placing.{Stands, step_stands, stands_front, StandsBy, no_head}
 
 -- the place behind tokens, with the brackets that are open there
-abbrev pub run : Place → ℕ → List Token → Option (Place × ℕ)
+abbrev pub run : TokenPlace → ℕ → List Token → Option (TokenPlace × ℕ)
 run place n [] = Some (place, n)
 run place n (t ∷ ts) = elim (next place n t) [ None ↦ None | Some after ↦ run after (with_token n t) ts ]
 
 -- ---- what is run over stands
 
-abbrev RunStands : List Token → Option (Place × ℕ) → Type 0
+abbrev RunStands : List Token → Option (TokenPlace × ℕ) → Type 0
 RunStands ts None = Unit {0}
 RunStands ts (Some p) = Stands p.0 p.1 ts
 
-run_stands : (more : List Token) (place : Place) (n : ℕ) (ts : List Token) → Stands place n ts → RunStands (ts ++ more) (run place n more)
+run_stands : (more : List Token) (place : TokenPlace) (n : ℕ) (ts : List Token) → Stands place n ts → RunStands (ts ++ more) (run place n more)
 run_stands [] place n ts h = subst (Stands place n) (sym (append-nil ts)) h
 run_stands (t ∷ more) place n ts h =
     elim (next place n t) as (λ r. StandsBy r (with_token n t) (ts ++ t ∷ []) → RunStands (ts ++ t ∷ more) (elim r [ None ↦ None | Some after ↦ run after (with_token n t) more ])) [
@@ -38,14 +38,14 @@ run_stands (t ∷ more) place n ts h =
       | Some after ↦ λ k. subst (λ (r : List Token). RunStands r (run after (with_token n t) more)) (append_assoc ts (t ∷ []) more) (run_stands more after (with_token n t) (ts ++ t ∷ []) k)
     ] (step_stands place n t ts h)
 
-stands_run : (ts : List Token) (place : Place) (n : ℕ) → run Term 0 ts ≡ Some (place, n) → Stands place n ts
+stands_run : (ts : List Token) (place : TokenPlace) (n : ℕ) → run Term 0 ts ≡ Some (place, n) → Stands place n ts
 stands_run ts place n e = subst (RunStands ts) e (run_stands ts Term 0 [] no_head)
 
-pub run_front : (ts : List Token) (place : Place) (n : ℕ) → run Term 0 ts ≡ Some (place, n) → IsFront ts
+pub run_front : (ts : List Token) (place : TokenPlace) (n : ℕ) → run Term 0 ts ≡ Some (place, n) → IsFront ts
 run_front ts place n e = stands_front place n ts (stands_run ts place n e)
 
 -- where a condition may end it has ended
-whole_there : (place : Place) (n : ℕ) (ts : List Token) → Stands place n ts → may_end (expected place n) ≡ true → IsWhole ts
+whole_there : (place : TokenPlace) (n : ℕ) (ts : List Token) → Stands place n ts → may_end (expected place n) ≡ true → IsWhole ts
 whole_there (ResultPlace Right) zero ts h e = h.0
 whole_there End zero ts h e = h
 whole_there (ResultPlace Right) (suc n) ts h e = absurd (false≢true e)
@@ -57,17 +57,17 @@ whole_there (Index side) n ts h e = absurd (false≢true e)
 whole_there ComparisonPlace n ts h e = absurd (false≢true e)
 whole_there OperandPlace n ts h e = absurd (false≢true e)
 
-pub run_whole : (ts : List Token) (place : Place) (n : ℕ) → run Term 0 ts ≡ Some (place, n) → may_end (expected place n) ≡ true → IsWhole ts
+pub run_whole : (ts : List Token) (place : TokenPlace) (n : ℕ) → run Term 0 ts ≡ Some (place, n) → may_end (expected place n) ≡ true → IsWhole ts
 run_whole ts place n e may = whole_there place n ts (stands_run ts place n e) may
 
 -- ---- what spells a tree is run over
 
 -- behind an operand on this side
-abbrev IsBehind : Side → Place → Type 0
+abbrev IsBehind : Side → TokenPlace → Type 0
 IsBehind side place = (place ≡ after_operand side) ⊎ (place ≡ ResultPlace side)
 
-record Reaches (side : Side) (from : Place) (n : ℕ) (ts rest : List Token) : Type 0 where
-  place : Place
+record Reaches (side : Side) (from : TokenPlace) (n : ℕ) (ts rest : List Token) : Type 0 where
+  place : TokenPlace
   behind : IsBehind side place
   goes : run from n (ts ++ rest) ≡ run place n rest
 
@@ -83,26 +83,26 @@ operand_right (ItemOperand i) n ts rest h = record { place = End; behind = inl r
 operand_right (Number z) n ts rest (inl h) = record { place = End; behind = inl refl; goes = ap (λ (r : List Token). run OperandPlace n (r ++ rest)) h }
 operand_right (Number z) n ts rest (inr h) = record { place = End; behind = inl refl; goes = ap (λ (r : List Token). run OperandPlace n (r ++ rest)) h }
 
-compares_goes : (place : Place) (n : ℕ) (c : Comparison) (rest : List Token) → IsBehind Left place → run place n (Compares c ∷ rest) ≡ run OperandPlace n rest
-compares_goes place n c rest (inl e) = ap (λ (p : Place). run p n (Compares c ∷ rest)) e
-compares_goes place n c rest (inr e) = ap (λ (p : Place). run p n (Compares c ∷ rest)) e
+compares_goes : (place : TokenPlace) (n : ℕ) (c : Comparison) (rest : List Token) → IsBehind Left place → run place n (Compares c ∷ rest) ≡ run OperandPlace n rest
+compares_goes place n c rest (inl e) = ap (λ (p : TokenPlace). run p n (Compares c ∷ rest)) e
+compares_goes place n c rest (inr e) = ap (λ (p : TokenPlace). run p n (Compares c ∷ rest)) e
 
-and_goes : (place : Place) (n : ℕ) (rest : List Token) → IsBehind Right place → run place n (AndSign ∷ rest) ≡ run Term n rest
-and_goes place n rest (inl e) = ap (λ (p : Place). run p n (AndSign ∷ rest)) e
-and_goes place n rest (inr e) = ap (λ (p : Place). run p n (AndSign ∷ rest)) e
+and_goes : (place : TokenPlace) (n : ℕ) (rest : List Token) → IsBehind Right place → run place n (AndSign ∷ rest) ≡ run Term n rest
+and_goes place n rest (inl e) = ap (λ (p : TokenPlace). run p n (AndSign ∷ rest)) e
+and_goes place n rest (inr e) = ap (λ (p : TokenPlace). run p n (AndSign ∷ rest)) e
 
-or_goes : (place : Place) (n : ℕ) (rest : List Token) → IsBehind Right place → run place n (OrSign ∷ rest) ≡ run Term n rest
-or_goes place n rest (inl e) = ap (λ (p : Place). run p n (OrSign ∷ rest)) e
-or_goes place n rest (inr e) = ap (λ (p : Place). run p n (OrSign ∷ rest)) e
+or_goes : (place : TokenPlace) (n : ℕ) (rest : List Token) → IsBehind Right place → run place n (OrSign ∷ rest) ≡ run Term n rest
+or_goes place n rest (inl e) = ap (λ (p : TokenPlace). run p n (OrSign ∷ rest)) e
+or_goes place n rest (inr e) = ap (λ (p : TokenPlace). run p n (OrSign ∷ rest)) e
 
-close_goes : (place : Place) (n : ℕ) (rest : List Token) → IsBehind Right place → run place (suc n) (Close ∷ rest) ≡ run End n rest
-close_goes place n rest (inl e) = let less : suc n - 1 ≡ n = omega arith in ap (λ (p : Place). run p (suc n) (Close ∷ rest)) e ∙ ap (λ (k : ℕ). run End k rest) less
-close_goes place n rest (inr e) = let less : suc n - 1 ≡ n = omega arith in ap (λ (p : Place). run p (suc n) (Close ∷ rest)) e ∙ ap (λ (k : ℕ). run End k rest) less
+close_goes : (place : TokenPlace) (n : ℕ) (rest : List Token) → IsBehind Right place → run place (suc n) (Close ∷ rest) ≡ run End n rest
+close_goes place n rest (inl e) = let less : suc n - 1 ≡ n = omega arith in ap (λ (p : TokenPlace). run p (suc n) (Close ∷ rest)) e ∙ ap (λ (k : ℕ). run End k rest) less
+close_goes place n rest (inr e) = let less : suc n - 1 ≡ n = omega arith in ap (λ (p : TokenPlace). run p (suc n) (Close ∷ rest)) e ∙ ap (λ (k : ℕ). run End k rest) less
 
 open_goes : (n : ℕ) (rest : List Token) → run Term n (Open ∷ rest) ≡ run Term (suc n) rest
 open_goes n rest = let more : n + 1 ≡ suc n = omega arith in ap (λ (k : ℕ). run Term k rest) more
 
-split : (place : Place) (n : ℕ) (ts before after rest : List Token) (t : Token) → ts ≡ before ++ t ∷ after → run place n (ts ++ rest) ≡ run place n (before ++ t ∷ (after ++ rest))
+split : (place : TokenPlace) (n : ℕ) (ts before after rest : List Token) (t : Token) → ts ≡ before ++ t ∷ after → run place n (ts ++ rest) ≡ run place n (before ++ t ∷ (after ++ rest))
 split place n ts before after rest t e = ap (run place n) (ap (λ (r : List Token). r ++ rest) e ∙ append_assoc before (t ∷ after) rest)
 
 tree_runs : (tree : Tree) (level : Level) (n : ℕ) (ts rest : List Token) → Spells tree level ts → Reaches Right Term n ts rest
@@ -133,7 +133,7 @@ tree_runs (CompareTree x c y) level n ts rest h =
 
 -- where tokens spell a tree, they lead to a place where a condition may end
 record Ends (ts : List Token) : Type 0 where
-  place : Place
+  place : TokenPlace
   behind : IsBehind Right place
   runs : run Term 0 ts ≡ Some (place, 0)
 
@@ -142,11 +142,11 @@ whole_runs ts h = let r = tree_runs h.0 AtOr 0 ts [] h.1 in record { place = r.p
 
 -- ---- fronts
 
-abbrev pub run_on : Option (Place × ℕ) → List Token → Option (Place × ℕ)
+abbrev pub run_on : Option (TokenPlace × ℕ) → List Token → Option (TokenPlace × ℕ)
 run_on None ts = None
 run_on (Some p) ts = run p.0 p.1 ts
 
-pub run_append : (ts more : List Token) (place : Place) (n : ℕ) → run place n (ts ++ more) ≡ run_on (run place n ts) more
+pub run_append : (ts more : List Token) (place : TokenPlace) (n : ℕ) → run place n (ts ++ more) ≡ run_on (run place n ts) more
 run_append [] more place n = refl
 run_append (t ∷ ts) more place n =
     elim (next place n t) as (λ r. elim r [ None ↦ None | Some after ↦ run after (with_token n t) (ts ++ more) ] ≡ run_on (elim r [ None ↦ None | Some after ↦ run after (with_token n t) ts ]) more) [
@@ -156,18 +156,18 @@ run_append (t ∷ ts) more place n =
 
 -- the tokens lead to a place
 pub record Leads (ts : List Token) : Type 0 where
-  pub place : Place
+  pub place : TokenPlace
   pub opened : ℕ
   pub runs : run Term 0 ts ≡ Some (place, opened)
 
-none_on : (r : Option (Place × ℕ)) (more : List Token) (p : Place × ℕ) → run_on r more ≡ Some p → r ≡ None → ⊥
+none_on : (r : Option (TokenPlace × ℕ)) (more : List Token) (p : TokenPlace × ℕ) → run_on r more ≡ Some p → r ≡ None → ⊥
 none_on None more p e k = let f : None ≡ Some p = e in cc
 none_on (Some q) more p e k = cc
 
-pub not_both : (r : Option (Place × ℕ)) (p : Place × ℕ) → r ≡ None → r ≡ Some p → ⊥
+pub not_both : (r : Option (TokenPlace × ℕ)) (p : TokenPlace × ℕ) → r ≡ None → r ≡ Some p → ⊥
 not_both r p e k = let f : None ≡ Some p = sym e ∙ k in cc
 
-leads_from : (ts : List Token) (r : Option (Place × ℕ)) → run Term 0 ts ≡ r → (r ≡ None → ⊥) → Leads ts
+leads_from : (ts : List Token) (r : Option (TokenPlace × ℕ)) → run Term 0 ts ≡ r → (r ≡ None → ⊥) → Leads ts
 leads_from ts None e k = absurd (k refl)
 leads_from ts (Some p) e k = record { place = p.0; opened = p.1; runs = e }
 
@@ -179,7 +179,7 @@ front_leads ts h =
 
 -- ---- what is expected
 
-abbrev is_place : Option Place → Bool
+abbrev is_place : Option TokenPlace → Bool
 is_place None = false
 is_place (Some place) = true
 
@@ -238,7 +238,7 @@ agrees_index side n CloseItem = refl
 agrees_index side n t = refl
 
 -- what is expected is what has a place behind it
-agrees : (place : Place) (n : ℕ) (t : Token) → may_stand (expected place n) t ≡ is_place (next place n t)
+agrees : (place : TokenPlace) (n : ℕ) (t : Token) → may_stand (expected place n) t ≡ is_place (next place n t)
 agrees Term n t = agrees_begun t
 agrees (ResultPlace Left) n t = agrees_left n t
 agrees (ResultPlace Right) n t = agrees_right n t
@@ -248,33 +248,33 @@ agrees ComparisonPlace n t = agrees_compared t
 agrees OperandPlace n t = agrees_operand t
 agrees End n t = agrees_end n t
 
-run_one : (ts : List Token) (place : Place) (n : ℕ) (t : Token) → run Term 0 ts ≡ Some (place, n) → run Term 0 (ts ++ t ∷ []) ≡ run place n (t ∷ [])
-run_one ts place n t e = run_append ts (t ∷ []) Term 0 ∙ ap (λ (r : Option (Place × ℕ)). run_on r (t ∷ [])) e
+run_one : (ts : List Token) (place : TokenPlace) (n : ℕ) (t : Token) → run Term 0 ts ≡ Some (place, n) → run Term 0 (ts ++ t ∷ []) ≡ run place n (t ∷ [])
+run_one ts place n t e = run_append ts (t ∷ []) Term 0 ∙ ap (λ (r : Option (TokenPlace × ℕ)). run_on r (t ∷ [])) e
 
-one_stands : (ts : List Token) (place : Place) (n : ℕ) (t : Token) (r : Option Place) → next place n t ≡ r → run Term 0 ts ≡ Some (place, n) → Leads (ts ++ t ∷ []) → is_place r ≡ true
+one_stands : (ts : List Token) (place : TokenPlace) (n : ℕ) (t : Token) (r : Option TokenPlace) → next place n t ≡ r → run Term 0 ts ≡ Some (place, n) → Leads (ts ++ t ∷ []) → is_place r ≡ true
 one_stands ts place n t None r_is e h =
-    let stuck : run place n (t ∷ []) ≡ None = ap (λ (r : Option Place). elim r [ None ↦ None | Some after ↦ run after (with_token n t) [] ]) r_is in
+    let stuck : run place n (t ∷ []) ≡ None = ap (λ (r : Option TokenPlace). elim r [ None ↦ None | Some after ↦ run after (with_token n t) [] ]) r_is in
     absurd (not_both (run place n (t ∷ [])) (h.place, h.opened) stuck (sym (run_one ts place n t e) ∙ h.runs))
 one_stands ts place n t (Some after) r_is e h = refl
 
-stands_one : (ts : List Token) (place : Place) (n : ℕ) (t : Token) (r : Option Place) → next place n t ≡ r → run Term 0 ts ≡ Some (place, n) → is_place r ≡ true → IsFront (ts ++ t ∷ [])
+stands_one : (ts : List Token) (place : TokenPlace) (n : ℕ) (t : Token) (r : Option TokenPlace) → next place n t ≡ r → run Term 0 ts ≡ Some (place, n) → is_place r ≡ true → IsFront (ts ++ t ∷ [])
 stands_one ts place n t None r_is e h = absurd (false≢true h)
 stands_one ts place n t (Some after) r_is e h =
     run_front (ts ++ t ∷ []) after (with_token n t)
-    (run_one ts place n t e ∙ ap (λ (r : Option Place). elim r [ None ↦ None | Some after ↦ run after (with_token n t) [] ]) r_is)
+    (run_one ts place n t e ∙ ap (λ (r : Option TokenPlace). elim r [ None ↦ None | Some after ↦ run after (with_token n t) [] ]) r_is)
 
-behind_ends : (place : Place) → IsBehind Right place → may_end (expected place 0) ≡ true
-behind_ends place (inl e) = ap (λ (p : Place). may_end (expected p 0)) e
-behind_ends place (inr e) = ap (λ (p : Place). may_end (expected p 0)) e
+behind_ends : (place : TokenPlace) → IsBehind Right place → may_end (expected place 0) ≡ true
+behind_ends place (inl e) = ap (λ (p : TokenPlace). may_end (expected p 0)) e
+behind_ends place (inr e) = ap (λ (p : TokenPlace). may_end (expected p 0)) e
 
-same_end : (p q : Place × ℕ) → Some p ≡ Some q → may_end (expected p.0 p.1) ≡ may_end (expected q.0 q.1)
-same_end p q e = ap (λ (r : Option (Place × ℕ)). elim r [ None ↦ false | Some p ↦ may_end (expected p.0 p.1) ]) e
+same_end : (p q : TokenPlace × ℕ) → Some p ≡ Some q → may_end (expected p.0 p.1) ≡ may_end (expected q.0 q.1)
+same_end p q e = ap (λ (r : Option (TokenPlace × ℕ)). elim r [ None ↦ false | Some p ↦ may_end (expected p.0 p.1) ]) e
 
-pub ended_there : (ts : List Token) (place : Place) (n : ℕ) → run Term 0 ts ≡ Some (place, n) → IsWhole ts → may_end (expected place n) ≡ true
+pub ended_there : (ts : List Token) (place : TokenPlace) (n : ℕ) → run Term 0 ts ≡ Some (place, n) → IsWhole ts → may_end (expected place n) ≡ true
 ended_there ts place n e h = let w = whole_runs ts h in same_end (place, n) (w.place, 0) (sym e ∙ w.runs) ∙ behind_ends w.place w.behind
 
 -- what is expected at the place that tokens lead to
-pub expected_there : (ts : List Token) (place : Place) (n : ℕ) → run Term 0 ts ≡ Some (place, n) → IsExpectedAfter ts (expected place n)
+pub expected_there : (ts : List Token) (place : TokenPlace) (n : ℕ) → run Term 0 ts ≡ Some (place, n) → IsExpectedAfter ts (expected place n)
 expected_there ts place n e = (
   λ t. (
     λ front. agrees place n t ∙ one_stands ts place n t (next place n t) refl e (front_leads (ts ++ t ∷ []) front),

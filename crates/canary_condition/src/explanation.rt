@@ -10,10 +10,10 @@ ghost use Rattle.canary_condition.specs.Following.{syntax, end_at, course_end, f
 ghost use Rattle.canary_condition.specs.Following.{explain_after};
 ghost use Rattle.canary_condition.specs.Explaining.{IsACondition, IsExplained};
 
-use crate::condition::{ConditionFault, MOST_BYTES, MOST_DEPTH};
+use crate::condition::{ConditionFault, MAX_BYTES, MAX_DEPTH};
 use crate::lexer::{front_token, is_blank};
-use crate::place::{self, Place};
 use crate::token::{self, Token};
+use crate::token_place::{self, TokenPlace};
 
 /// What may stand at a place of a condition.
 #[derive(Clone, Copy, Debug, PartialEq, Eq)]
@@ -64,23 +64,23 @@ pub struct Explained {
 
 // How far the tokens are those of a condition.
 #[derive(Clone, Copy)]
-enum Course {
+enum TokenProgress {
     // As far as they were read, to this place.
-    At(Place),
+    At(TokenPlace),
     // Up to the token at this byte, where something else was expected.
     Stopped(u32, Expected),
 }
 
 // What was seen in some tokens.
 #[derive(Clone, Copy)]
-struct Notes {
+struct TokenNotes {
     // The byte of the first number out of range.
     number: Option<u32>,
     // The byte of the first bracket that is one too many.
     bracket: Option<u32>,
     // The round brackets that are open.
     opened: usize,
-    course: Course,
+    course: TokenProgress,
 }
 
 // The byte where something holds for the first time, with one more byte where it may hold.
@@ -95,14 +95,14 @@ fn first_of(before: Option<u32>, holds: bool, at: u32) -> Option<u32>
 }
 
 // How far it goes with one more token, at this byte, with so many brackets open before it.
-fn course_after(course: Course, opened: usize, at: u32, token: Token) -> Course
+fn course_after(course: TokenProgress, opened: usize, at: u32, token: Token) -> TokenProgress
     ensures { result ≡ course_after course opened at token }
 {
     match course {
-        Course::Stopped(byte, expected) => Course::Stopped(byte, expected),
-        Course::At(before) => match place::next(before, opened, token) {
-            Some(after) => Course::At(after),
-            None => Course::Stopped(at, place::expected(before, opened)),
+        TokenProgress::Stopped(byte, expected) => TokenProgress::Stopped(byte, expected),
+        TokenProgress::At(before) => match token_place::next(before, opened, token) {
+            Some(after) => TokenProgress::At(after),
+            None => TokenProgress::Stopped(at, token_place::expected(before, opened)),
         },
     }
 }
@@ -117,28 +117,28 @@ fn syntax(at: u32, expected: Expected) -> Explained
     }
 }
 
-impl Notes {
+impl TokenNotes {
     // Of no token.
-    fn new() -> Notes
+    fn new() -> TokenNotes
         ensures { result ≡ start }
     {
-        Notes {
+        TokenNotes {
             number: None,
             bracket: None,
             opened: 0,
-            course: Course::At(Place::Term),
+            course: TokenProgress::At(TokenPlace::Term),
         }
     }
 
     // With one more token, at this byte.
-    fn with(self, at: u32, token: Token) -> Notes
+    fn with(self, at: u32, token: Token) -> TokenNotes
         requires { self.opened < usize.MAX }
         ensures value { result ≡ noted self at token }
     {
         let opened = token::with_token(self.opened, token);
-        Notes {
+        TokenNotes {
             number: first_of(self.number, token::is_out_of_range(token), at),
-            bracket: first_of(self.bracket, opened > MOST_DEPTH, at),
+            bracket: first_of(self.bracket, opened > MAX_DEPTH, at),
             opened,
             course: course_after(self.course, self.opened, at, token),
         }
@@ -165,12 +165,12 @@ impl Notes {
 }
 
 // What is wrong at the end of the tokens, at this byte.
-fn course_end(course: Course, opened: usize, at: u32) -> Option<Explained>
+fn course_end(course: TokenProgress, opened: usize, at: u32) -> Option<Explained>
     ensures { result ≡ course_end course opened at }
 {
     match course {
-        Course::Stopped(byte, expected) => Some(syntax(byte, expected)),
-        Course::At(place) => end_at(place::expected(place, opened), at),
+        TokenProgress::Stopped(byte, expected) => Some(syntax(byte, expected)),
+        TokenProgress::At(place) => end_at(token_place::expected(place, opened), at),
     }
 }
 
@@ -178,7 +178,7 @@ fn course_end(course: Course, opened: usize, at: u32) -> Option<Explained>
 fn end_at(expected: Expected, at: u32) -> Option<Explained>
     ensures { result ≡ end_at expected at }
 {
-    if place::may_end(expected) {
+    if token_place::may_end(expected) {
         return None;
     }
     Some(syntax(at, expected))
@@ -186,10 +186,10 @@ fn end_at(expected: Expected, at: u32) -> Option<Explained>
 
 // Why a text that is not too long is no condition.
 fn explain_bytes(text: &[u8]) -> Option<Explained>
-    requires { length text.now ≤ MOST_BYTES }
+    requires { length text.now ≤ MAX_BYTES }
     ensures { result ≡ explain_after start 0 0 text.now }
 {
-    let mut notes = Notes::new();
+    let mut notes = TokenNotes::new();
     let mut at = 0;
     while at < text.len() {
         if is_blank(text[at]) {
@@ -235,9 +235,9 @@ pub fn explain(text: &str) -> Option<Explained>
         (IsACondition text.now)
         (λ explained. IsExplained text.now explained) }
 {
-    if text.len() > MOST_BYTES {
+    if text.len() > MAX_BYTES {
         return Some(Explained {
-            at: MOST_BYTES as u32,
+            at: MAX_BYTES as u32,
             why: Why::TooLong,
         });
     }

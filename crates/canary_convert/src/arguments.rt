@@ -1,9 +1,9 @@
 //! The values of a template's arguments.
-use crate::documents::Document;
+use crate::documents::ManifestObject;
 use crate::filling::{has_place, has_place_of};
 use crate::json::{list_at, member, push_key, push_value, text_at};
-use crate::place::Place;
-use crate::work::Work;
+use crate::manifest_place::ManifestPlace;
+use crate::work::Conversion;
 use canary_base::error::Memory;
 use canary_base::names::Label;
 use serde_json::Value;
@@ -12,9 +12,9 @@ use std::alloc::Global;
 /// A template, as an analysis of a Rollout uses it.
 #[derive(Clone, Copy)]
 pub(crate) struct Case<'a> {
-    pub(crate) template: Document<'a>,
+    pub(crate) template: ManifestObject<'a>,
     /// The Rollout and its analysis; none if no Rollout names the template.
-    pub(crate) used_by: Option<(Document<'a>, &'a Value)>,
+    pub(crate) used_by: Option<(ManifestObject<'a>, &'a Value)>,
 }
 
 impl<'a> Case<'a> {
@@ -29,7 +29,7 @@ impl<'a> Case<'a> {
 
 /// What an argument is given.
 #[derive(Clone, Copy)]
-pub(crate) enum Given<'a> {
+pub(crate) enum ArgumentValue<'a> {
     /// A text, a number or a truth.
     Value(&'a Value),
     /// What is known only as the agent measures: a `valueFrom`.
@@ -44,12 +44,12 @@ pub(crate) enum Given<'a> {
     Unlisted,
 }
 
-impl<'a> Given<'a> {
+impl<'a> ArgumentValue<'a> {
     /// Whether there is a value, or the argument is not listed.
     pub(crate) fn is_given(self) -> bool {
         match self {
-            Given::Value(_) => true,
-            Given::Unlisted => true,
+            ArgumentValue::Value(_) => true,
+            ArgumentValue::Unlisted => true,
             _ => false,
         }
     }
@@ -57,37 +57,38 @@ impl<'a> Given<'a> {
     /// What it lacks, and what to write.
     pub(crate) fn lack(self) -> &'static str {
         match self {
-            Given::Value(_) => "",
-            Given::Late(_) => "is known only as the agent measures: write a constant",
-            Given::Nothing => "has no value: give it one in the args of the Rollout's analysis",
-            Given::NoField => {
+            ArgumentValue::Value(_) => "",
+            ArgumentValue::Late(_) => "is known only as the agent measures: write a constant",
+            ArgumentValue::Nothing =>
+                "has no value: give it one in the args of the Rollout's analysis",
+            ArgumentValue::NoField => {
                 "is a field that the Rollout has not, or no text in it: correct its fieldPath"
             }
-            Given::Nested => "has a value with {{args. in it: write that value out",
-            Given::Unlisted => "is no argument of the template: add it to its spec.args",
+            ArgumentValue::Nested => "has a value with {{args. in it: write that value out",
+            ArgumentValue::Unlisted => "is no argument of the template: add it to its spec.args",
         }
     }
 }
 
 /// What the argument of that name is given: by the analysis, or else by the template.
-pub(crate) fn given_to<'a>(case: &Case<'a>, name: &str) -> Given<'a> {
+pub(crate) fn given_to<'a>(case: &Case<'a>, name: &str) -> ArgumentValue<'a> {
     let Some(own) = named(case.template.list("args"), name) else {
-        return Given::Unlisted;
+        return ArgumentValue::Unlisted;
     };
     match given_by_analysis(case, name) {
-        Given::Nothing => given_by(case, own),
+        ArgumentValue::Nothing => given_by(case, own),
         found => found,
     }
 }
 
 // What the Rollout's analysis gives that argument; `Nothing` also if no Rollout uses the template.
-fn given_by_analysis<'a>(case: &Case<'a>, name: &str) -> Given<'a> {
+fn given_by_analysis<'a>(case: &Case<'a>, name: &str) -> ArgumentValue<'a> {
     let Some((_, analysis)) = case.used_by else {
-        return Given::Nothing;
+        return ArgumentValue::Nothing;
     };
     match named(list_at(analysis, "args"), name) {
         Some(argument) => given_by(case, argument),
-        None => Given::Nothing,
+        None => ArgumentValue::Nothing,
     }
 }
 
@@ -102,31 +103,31 @@ fn named<'a>(arguments: Option<&'a Vec<Value>>, name: &str) -> Option<&'a Value>
 }
 
 // What this argument gives: its `value`, or else what its `valueFrom` leads to.
-fn given_by<'a>(case: &Case<'a>, argument: &'a Value) -> Given<'a> {
+fn given_by<'a>(case: &Case<'a>, argument: &'a Value) -> ArgumentValue<'a> {
     if let Some(value) = member(argument, "value") {
         return plain(value);
     }
     let Some(source) = member(argument, "valueFrom") else {
-        return Given::Nothing;
+        return ArgumentValue::Nothing;
     };
     match (member(source, "fieldRef"), case.used_by) {
         (Some(field), Some((rollout, _))) => {
             match field_of(rollout.value, text_at(field, "fieldPath")) {
                 Some(value) if is_plain(value) => plain(value),
-                _ => Given::NoField,
+                _ => ArgumentValue::NoField,
             }
         }
-        (Some(_), None) => Given::Nothing,
-        (None, _) => Given::Late(source),
+        (Some(_), None) => ArgumentValue::Nothing,
+        (None, _) => ArgumentValue::Late(source),
     }
 }
 
 // This value, or `Nested` if it is a text with a place of its own: places are filled in once.
-fn plain(value: &Value) -> Given<'_> {
+fn plain(value: &Value) -> ArgumentValue<'_> {
     if has_place(value.as_str().unwrap_or("")) {
-        return Given::Nested;
+        return ArgumentValue::Nested;
     }
-    Given::Value(value)
+    ArgumentValue::Value(value)
 }
 
 // Whether it is a text, a number or a truth.
@@ -173,8 +174,8 @@ const SOURCE: &str = "expected fieldRef with a fieldPath, podTemplateHashValue w
 /// Adds what is wrong in a list of arguments at that place, or `Memory`.
 pub(crate) fn tell_arguments(
     alloc: Global,
-    work: &mut Work,
-    place: Place,
+    work: &mut Conversion,
+    place: ManifestPlace,
     inner: &'static str,
     arguments: &Vec<Value>,
 ) -> Result<(), Memory> {
@@ -187,8 +188,8 @@ pub(crate) fn tell_arguments(
 // Adds that an argument has an invalid name, a list or an object as its value, or no such source.
 fn tell_argument(
     alloc: Global,
-    work: &mut Work,
-    place: Place,
+    work: &mut Conversion,
+    place: ManifestPlace,
     argument: &Value,
 ) -> Result<(), Memory> {
     if Label::read(text_at(argument, "name").as_bytes()).is_none() {
@@ -239,9 +240,14 @@ pub(crate) fn push_late(
 }
 
 // Appends the argument as a member, if it is late, with its source as the value.
-fn push_if_late(alloc: Global, given: Given, name: &str, out: &mut String) -> Result<(), Memory> {
+fn push_if_late(
+    alloc: Global,
+    given: ArgumentValue,
+    name: &str,
+    out: &mut String,
+) -> Result<(), Memory> {
     match given {
-        Given::Late(source) => {
+        ArgumentValue::Late(source) => {
             push_key(out, name)?;
             push_value(alloc, out, source)
         }

@@ -3,13 +3,13 @@ ghost use Rattle.std.specs.Prelude.{IfOk};
 ghost use Rattle.canary_convert.specs.Making.{IsAllOrNothing};
 
 use crate::arguments::Case;
-use crate::documents::{Document, documents_of, index_of};
+use crate::documents::{ManifestObject, documents_of, index_of};
 use crate::finding::Finding;
-use crate::place::Place;
+use crate::manifest_place::ManifestPlace;
 use crate::rollout::convert_rollout;
 use crate::source::Source;
 use crate::template::{convert_template, is_ready, tell_template};
-use crate::work::{Made, Planned, Work};
+use crate::work::{Conversion, Made, Planned};
 use canary_base::error::Memory;
 use canary_base::names::Name;
 use std::alloc::Global;
@@ -33,7 +33,7 @@ pub struct Converted {
 }
 
 // The most documents: what is looked up among them is looked up one by one.
-const MOST_DOCUMENTS: usize = 1_000;
+const MAX_DOCUMENTS: usize = 1_000;
 
 const DOCUMENTS: &str = "more than 1,000 documents: convert fewer at a time";
 
@@ -89,22 +89,26 @@ const REFUSED: [Refused; 6] = [
 pub fn convert(alloc: Global, sources: &[Source]) -> Result<Converted, Memory>
     ensures { IfOk result IsAllOrNothing }
 {
-    let mut work = Work::new(alloc);
+    let mut work = Conversion::new(alloc);
     convert_sources(alloc, &mut work, sources)?;
     Ok(outcome_of(alloc, work))
 }
 
 // Converts the documents of these sources, or reports that there are more than 1,000.
-fn convert_sources(alloc: Global, work: &mut Work, sources: &[Source]) -> Result<(), Memory> {
+fn convert_sources(alloc: Global, work: &mut Conversion, sources: &[Source]) -> Result<(), Memory> {
     let documents = documents_of(alloc, sources)?;
-    if documents.len() > MOST_DOCUMENTS {
-        return work.tell(alloc, Place::of(0, None), &[DOCUMENTS]);
+    if documents.len() > MAX_DOCUMENTS {
+        return work.tell(alloc, ManifestPlace::of(0, None), &[DOCUMENTS]);
     }
     convert_documents(alloc, work, documents.as_slice())
 }
 
 // Checks each document, converts the Rollouts, and then the templates that no Rollout names.
-fn convert_documents(alloc: Global, work: &mut Work, documents: &[Document]) -> Result<(), Memory> {
+fn convert_documents(
+    alloc: Global,
+    work: &mut Conversion,
+    documents: &[ManifestObject],
+) -> Result<(), Memory> {
     for (index, document) in documents.iter().enumerate() {
         look_at(alloc, work, documents, index, document)?;
     }
@@ -122,10 +126,10 @@ fn convert_documents(alloc: Global, work: &mut Work, documents: &[Document]) -> 
 }
 
 // What was made, or else what was found.
-fn outcome_of(alloc: Global, work: Work) -> Converted
+fn outcome_of(alloc: Global, work: Conversion) -> Converted
     ensures { IsAllOrNothing result }
 {
-    let Work {
+    let Conversion {
         findings,
         notes,
         templates,
@@ -160,10 +164,10 @@ fn outcome_of(alloc: Global, work: Work) -> Converted
 // Adds what is wrong with a document, but for what it uses; or `Memory`.
 fn look_at(
     alloc: Global,
-    work: &mut Work,
-    documents: &[Document],
+    work: &mut Conversion,
+    documents: &[ManifestObject],
     index: usize,
-    document: &Document,
+    document: &ManifestObject,
 ) -> Result<(), Memory> {
     let kind = document.kind();
     let place = document.place();
@@ -199,10 +203,10 @@ fn instead_of(kind: &str) -> Option<&'static str> {
 // Adds that a document has an invalid name, or that of another one of its kind before it.
 fn look_at_name(
     alloc: Global,
-    work: &mut Work,
-    documents: &[Document],
+    work: &mut Conversion,
+    documents: &[ManifestObject],
     index: usize,
-    document: &Document,
+    document: &ManifestObject,
 ) -> Result<(), Memory> {
     let (kind, name) = (document.kind(), document.name());
     let place = document.place().at("metadata.name");
@@ -216,7 +220,11 @@ fn look_at_name(
 }
 
 // Converts a template that no Rollout names.
-fn convert_unused(alloc: Global, work: &mut Work, document: &Document) -> Result<(), Memory> {
+fn convert_unused(
+    alloc: Global,
+    work: &mut Conversion,
+    document: &ManifestObject,
+) -> Result<(), Memory> {
     let case = Case {
         template: *document,
         used_by: None,

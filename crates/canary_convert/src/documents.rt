@@ -1,6 +1,6 @@
 //! The documents of the sources.
 use crate::json::{list_at, member, text_at};
-use crate::place::Place;
+use crate::manifest_place::ManifestPlace;
 use crate::source::Source;
 use canary_base::error::Memory;
 use serde_json::Value;
@@ -8,13 +8,13 @@ use std::alloc::Global;
 
 /// A document: that of a source, or an item of its list.
 #[derive(Clone, Copy)]
-pub(crate) struct Document<'a> {
+pub(crate) struct ManifestObject<'a> {
     pub(crate) source: u32,
     item: Option<usize>,
     pub(crate) value: &'a Value,
 }
 
-impl<'a> Document<'a> {
+impl<'a> ManifestObject<'a> {
     /// Its kind, empty if it has none.
     pub(crate) fn kind(&self) -> &'a str {
         text_at(self.value, "kind")
@@ -34,8 +34,8 @@ impl<'a> Document<'a> {
     }
 
     /// Where it stands.
-    pub(crate) fn place(&self) -> Place {
-        Place::of(self.source, self.item)
+    pub(crate) fn place(&self) -> ManifestPlace {
+        ManifestPlace::of(self.source, self.item)
     }
 }
 
@@ -43,21 +43,21 @@ impl<'a> Document<'a> {
 pub(crate) fn documents_of<'a>(
     alloc: Global,
     sources: &'a [Source],
-) -> Result<Vec<Document<'a>>, Memory> {
+) -> Result<Vec<ManifestObject<'a>>, Memory> {
     let mut documents = Vec::new(alloc);
     for (index, source) in sources.iter().enumerate() {
         let source_index = u32::try_from(index).unwrap_or(u32::MAX);
         match items_of(&source.value) {
             Some(items) => {
                 for (item, value) in items.iter().enumerate() {
-                    documents.push(Document {
+                    documents.push(ManifestObject {
                         source: source_index,
                         item: Some(item),
                         value,
                     })?;
                 }
             }
-            None => documents.push(Document {
+            None => documents.push(ManifestObject {
                 source: source_index,
                 item: None,
                 value: &source.value,
@@ -77,7 +77,7 @@ fn items_of(value: &Value) -> Option<&Vec<Value>> {
 }
 
 /// The index of the first document of that kind and name.
-pub(crate) fn index_of(documents: &[Document], kind: &str, name: &str) -> Option<usize> {
+pub(crate) fn index_of(documents: &[ManifestObject], kind: &str, name: &str) -> Option<usize> {
     for (index, document) in documents.iter().enumerate() {
         if document.kind() == kind && document.name() == name {
             return Some(index);

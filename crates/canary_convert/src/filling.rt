@@ -1,10 +1,10 @@
 //! Places to be filled in: `{{args.NAME}}`, with spaces inside the brackets or without.
 //!
 //! A place in a text of JSON stands within a text, since two brackets in a row open nowhere else.
-use crate::arguments::{Case, Given, given_to};
+use crate::arguments::{ArgumentValue, Case, given_to};
 use crate::json::{push_escaped, push_value};
-use crate::place::Place;
-use crate::work::Work;
+use crate::manifest_place::ManifestPlace;
+use crate::work::Conversion;
 use canary_base::error::Memory;
 use serde_json::Value;
 use std::alloc::Global;
@@ -57,9 +57,9 @@ fn place_in(piece: &str) -> Option<(&str, &str)> {
 /// and returns false.
 pub(crate) fn push_filled(
     alloc: Global,
-    work: &mut Work,
+    work: &mut Conversion,
     case: &Case,
-    place: Place,
+    place: ManifestPlace,
     mode: Mode,
     text: &str,
     out: &mut String,
@@ -80,9 +80,9 @@ pub(crate) fn push_filled(
 // The same of a piece, and the two closing brackets behind it.
 fn push_piece(
     alloc: Global,
-    work: &mut Work,
+    work: &mut Conversion,
     case: &Case,
-    place: Place,
+    place: ManifestPlace,
     mode: Mode,
     piece: &str,
     out: &mut String,
@@ -103,19 +103,19 @@ fn push_piece(
 // Appends what an argument is given.
 fn push_argument(
     alloc: Global,
-    work: &mut Work,
+    work: &mut Conversion,
     case: &Case,
-    place: Place,
+    place: ManifestPlace,
     mode: Mode,
     name: &str,
     out: &mut String,
 ) -> Result<bool, Memory> {
     match given_to(case, name) {
-        Given::Value(value) => {
+        ArgumentValue::Value(value) => {
             push_given(alloc, mode, value, out)?;
             Ok(true)
         }
-        Given::Late(_) if matches!(mode, Mode::Late) => {
+        ArgumentValue::Late(_) if matches!(mode, Mode::Late) => {
             push_place(name, out)?;
             Ok(true)
         }
@@ -129,8 +129,8 @@ fn push_argument(
 // Adds what an argument lacks, at the text that has a place of it.
 fn tell_lack(
     alloc: Global,
-    work: &mut Work,
-    place: Place,
+    work: &mut Conversion,
+    place: ManifestPlace,
     name: &str,
     lack: &str,
 ) -> Result<(), Memory> {

@@ -1,9 +1,9 @@
 //! What is found in manifests, and what is noted of them.
-use crate::place::Place;
+use crate::manifest_place::ManifestPlace;
 use canary_base::error::Memory;
 use std::alloc::Global;
 
-const MOST_FINDINGS: usize = 100;
+const MAX_FINDINGS: usize = 100;
 
 /// What is found at a place.
 #[derive(Drop)]
@@ -41,7 +41,7 @@ impl Findings {
     pub(crate) fn tell(
         &mut self,
         alloc: Global,
-        place: Place,
+        place: ManifestPlace,
         at: Option<usize>,
         parts: &[&str],
     ) -> Result<(), Memory> {
@@ -60,7 +60,7 @@ impl Findings {
         if self.has(&finding) {
             return Ok(());
         }
-        if self.list.len() >= MOST_FINDINGS {
+        if self.list.len() >= MAX_FINDINGS {
             self.more = self.more.saturating_add(1);
             return Ok(());
         }
@@ -81,7 +81,7 @@ impl Findings {
 
 impl Finding {
     // Fills in its path and its text, of parts that follow one another.
-    fn write(&mut self, place: Place, parts: &[&str]) -> Result<(), Memory> {
+    fn write(&mut self, place: ManifestPlace, parts: &[&str]) -> Result<(), Memory> {
         place.write(&mut self.path)?;
         for part in parts {
             push_plain(&mut self.text, part)?;

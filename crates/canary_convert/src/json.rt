@@ -24,7 +24,7 @@ pub(crate) fn text_at<'a>(value: &'a Value, key: &str) -> &'a str {
 
 // The most items of a list: no list in a manifest of the desk has more, and what is looked up in
 // one is looked up item by item.
-const MOST_ITEMS: usize = 64;
+const MAX_ITEMS: usize = 64;
 
 /// The list under that key; none if it has more than 64 items.
 pub(crate) fn list_at<'a>(value: &'a Value, key: &str) -> Option<&'a Vec<Value>> {
@@ -33,7 +33,7 @@ pub(crate) fn list_at<'a>(value: &'a Value, key: &str) -> Option<&'a Vec<Value>>
 
 /// The list that this is; none if it has more than 64 items.
 pub(crate) fn list_in(value: &Value) -> Option<&Vec<Value>> {
-    value.as_array().filter(|list| list.len() <= MOST_ITEMS)
+    value.as_array().filter(|list| list.len() <= MAX_ITEMS)
 }
 
 /// Appends a comma, unless what follows is the first member or item.

@@ -5,9 +5,9 @@ ghost use Rattle.canary_convert.specs.Making.{IsQuotedTranslation};
 use crate::arguments::{Case, push_late};
 use crate::filling::{Mode, has_place, is_given, push_filled};
 use crate::json::{member, push_comma, push_key, push_text, quoted, text_at};
-use crate::place::Place;
-use crate::work::{Planned, Work};
-use canary_argo::fault::{Fault, Finding};
+use crate::manifest_place::ManifestPlace;
+use crate::work::{Conversion, Planned};
+use canary_argo::fault::{SyntaxFinding, TranslationFault};
 use canary_argo::form::{Form, Needs, Shape};
 use canary_argo::translation::translate;
 use canary_base::error::Memory;
@@ -36,9 +36,9 @@ const DESK: [&str; 11] = [
 
 /// A metric of a template.
 #[derive(Clone, Copy)]
-pub(crate) struct Spot<'a> {
+pub(crate) struct TemplateMetric<'a> {
     pub(crate) case: Case<'a>,
-    pub(crate) place: Place,
+    pub(crate) place: ManifestPlace,
     pub(crate) metric: &'a Value,
 }
 
@@ -87,7 +87,11 @@ const SUFFIXED: &str = "a name that ends as that of a translated metric: write a
 
 // The key of the provider, empty if there is none. If it is not asked, that is
 // reported.
-fn kind_of<'a>(alloc: Global, work: &mut Work, spot: &Spot<'a>) -> Result<Option<&'a str>, Memory> {
+fn kind_of<'a>(
+    alloc: Global,
+    work: &mut Conversion,
+    spot: &TemplateMetric<'a>,
+) -> Result<Option<&'a str>, Memory> {
     let Some(provider) = member(spot.metric, "provider") else {
         return Ok(Some(""));
     };
@@ -128,7 +132,11 @@ fn has_condition(metric: &Value) -> bool {
 }
 
 // The name, with its places filled in. If it is invalid, that is reported.
-fn name_of(alloc: Global, work: &mut Work, spot: &Spot) -> Result<Option<Label>, Memory> {
+fn name_of(
+    alloc: Global,
+    work: &mut Conversion,
+    spot: &TemplateMetric,
+) -> Result<Option<Label>, Memory> {
     let mut name = String::new(alloc);
     if !push_plain(alloc, work, spot, "name", &mut name)? {
         return Ok(None);
@@ -139,8 +147,8 @@ fn name_of(alloc: Global, work: &mut Work, spot: &Spot) -> Result<Option<Label>,
 // The label of that name. If it is invalid, or ends as a translated one, that is reported.
 fn read_name(
     alloc: Global,
-    work: &mut Work,
-    spot: &Spot,
+    work: &mut Conversion,
+    spot: &TemplateMetric,
     name: &str,
 ) -> Result<Option<Label>, Memory> {
     let label = Label::read(name.as_bytes());
@@ -198,8 +206,8 @@ fn are_digits(text: &str) -> bool {
 // be filled in, that is reported, and false returned.
 fn push_plain(
     alloc: Global,
-    work: &mut Work,
-    spot: &Spot,
+    work: &mut Conversion,
+    spot: &TemplateMetric,
     key: &'static str,
     out: &mut String,
 ) -> Result<bool, Memory> {
@@ -218,7 +226,11 @@ fn push_plain(
 
 /// How the metric is called at the desk. If it has no valid name there, that is
 /// reported.
-pub(crate) fn call(alloc: Global, work: &mut Work, spot: &Spot) -> Result<Option<Called>, Memory> {
+pub(crate) fn call(
+    alloc: Global,
+    work: &mut Conversion,
+    spot: &TemplateMetric,
+) -> Result<Option<Called>, Memory> {
     let Some(kind) = kind_of(alloc, work, spot)? else {
         return Ok(None);
     };
@@ -241,8 +253,8 @@ pub(crate) fn call(alloc: Global, work: &mut Work, spot: &Spot) -> Result<Option
 // The name with the suffix of its form. If both together are too long, that is reported.
 fn labelled(
     alloc: Global,
-    work: &mut Work,
-    spot: &Spot,
+    work: &mut Conversion,
+    spot: &TemplateMetric,
     name: Label,
     form: Form,
 ) -> Result<Option<Called>, Memory> {
@@ -268,7 +280,7 @@ fn labelled(
 
 // The conditions of a metric, with their places filled in; empty if there are none.
 #[derive(Drop)]
-struct Conditions {
+struct ConditionTexts {
     success: String,
     failure: String,
 }
@@ -277,11 +289,11 @@ struct Conditions {
 // reported.
 fn form_of(
     alloc: Global,
-    work: &mut Work,
-    spot: &Spot,
+    work: &mut Conversion,
+    spot: &TemplateMetric,
     kind: &str,
 ) -> Result<Option<Form>, Memory> {
-    let mut conditions = Conditions {
+    let mut conditions = ConditionTexts {
         success: String::new(alloc),
         failure: String::new(alloc),
     };
@@ -294,9 +306,9 @@ fn form_of(
 // Fills in both conditions; false if one cannot be filled in, which is reported.
 fn fill_conditions(
     alloc: Global,
-    work: &mut Work,
-    spot: &Spot,
-    conditions: &mut Conditions,
+    work: &mut Conversion,
+    spot: &TemplateMetric,
+    conditions: &mut ConditionTexts,
 ) -> Result<bool, Memory> {
     let success = push_plain(alloc, work, spot, SUCCESS, &mut conditions.success)?;
     let failure = push_plain(alloc, work, spot, FAILURE, &mut conditions.failure)?;
@@ -306,10 +318,10 @@ fn fill_conditions(
 // The form that both conditions together need; without any, that of the provider's kind.
 fn form_of_conditions(
     alloc: Global,
-    work: &mut Work,
-    spot: &Spot,
+    work: &mut Conversion,
+    spot: &TemplateMetric,
     kind: &str,
-    conditions: &Conditions,
+    conditions: &ConditionTexts,
 ) -> Result<Option<Form>, Memory> {
     let none = Needs::none();
     let success = conditions.success.as_str();
@@ -337,8 +349,8 @@ fn unconditional_form(kind: &str) -> Form {
 // The form that fits these needs. If there is no such form, that is reported.
 fn form_of_needs(
     alloc: Global,
-    work: &mut Work,
-    spot: &Spot,
+    work: &mut Conversion,
+    spot: &TemplateMetric,
     needs: Needs,
 ) -> Result<Option<Form>, Memory> {
     match needs.form() {
@@ -353,8 +365,8 @@ fn form_of_needs(
 // The needs, with those of this condition, unless it is empty. A fault of it is reported.
 fn with_condition(
     alloc: Global,
-    work: &mut Work,
-    spot: &Spot,
+    work: &mut Conversion,
+    spot: &TemplateMetric,
     key: &'static str,
     needs: Needs,
     text: &str,
@@ -374,27 +386,32 @@ fn with_condition(
 // Adds why a condition is not translated. If places of it were filled in, it is shown.
 fn tell_fault(
     alloc: Global,
-    work: &mut Work,
-    spot: &Spot,
+    work: &mut Conversion,
+    spot: &TemplateMetric,
     key: &'static str,
     text: &str,
-    fault: Fault,
+    fault: TranslationFault,
 ) -> Result<(), Memory> {
     let place = spot.place.end(key);
     match fault {
-        Fault::Memory => Err(Memory),
-        Fault::Refused(Finding { why, at }) if text == text_at(spot.metric, key) => {
-            work.findings.tell(alloc, place, Some(at), &[why.text()])
-        }
-        Fault::Refused(Finding { why, .. }) => tell_filled(alloc, work, place, why.text(), text),
+        TranslationFault::Memory => Err(Memory),
+        TranslationFault::Refused(SyntaxFinding { why, at }) if text == text_at(spot.metric, key) =>
+            { work.findings.tell(alloc, place, Some(at), &[why.text()]) }
+        TranslationFault::Refused(SyntaxFinding { why, .. }) => tell_filled(
+            alloc,
+            work,
+            place,
+            why.text(),
+            text,
+        ),
     }
 }
 
 // Adds why a condition is not translated, with its text, which the manifest does not show so.
 fn tell_filled(
     alloc: Global,
-    work: &mut Work,
-    place: Place,
+    work: &mut Conversion,
+    place: ManifestPlace,
     why: &str,
     text: &str,
 ) -> Result<(), Memory> {
@@ -406,8 +423,8 @@ fn tell_filled(
 /// Appends the metric as the desk reads it, and reports what is wrong with it.
 pub(crate) fn push_metric(
     alloc: Global,
-    work: &mut Work,
-    spot: &Spot,
+    work: &mut Conversion,
+    spot: &TemplateMetric,
     out: &mut String,
 ) -> Result<(), Memory> {
     let Some(called) = call(alloc, work, spot)? else {
@@ -427,8 +444,8 @@ pub(crate) fn push_metric(
 // Appends the conditions: translated; for a job, that its result is 1; or else the desk's own.
 fn push_conditions(
     alloc: Global,
-    work: &mut Work,
-    spot: &Spot,
+    work: &mut Conversion,
+    spot: &TemplateMetric,
     called: Called,
     out: &mut String,
 ) -> Result<(), Memory> {
@@ -451,8 +468,8 @@ fn push_conditions(
 // Appends the condition under that key, translated.
 fn push_translated(
     alloc: Global,
-    work: &mut Work,
-    spot: &Spot,
+    work: &mut Conversion,
+    spot: &TemplateMetric,
     key: &'static str,
     form: Form,
     out: &mut String,
@@ -465,8 +482,8 @@ fn push_translated(
 // Appends the translation of a condition, unless it is empty, and notes if NaN fails by it.
 fn push_translation(
     alloc: Global,
-    work: &mut Work,
-    spot: &Spot,
+    work: &mut Conversion,
+    spot: &TemplateMetric,
     key: &'static str,
     form: Form,
     text: &str,
@@ -492,13 +509,13 @@ fn push_translation(
 fn compares_decimals(alloc: Global, text: &str) -> Result<bool, Memory> {
     match Needs::none().with_condition(alloc, text) {
         Ok(needs) => Ok(needs.compares_decimals()),
-        Err(Fault::Memory) => Err(Memory),
-        Err(Fault::Refused(_)) => Ok(false),
+        Err(TranslationFault::Memory) => Err(Memory),
+        Err(TranslationFault::Refused(_)) => Ok(false),
     }
 }
 
 // The translation of a condition, as a text of JSON.
-fn quoted_translation(alloc: Global, text: &str, form: Form) -> Result<String, Fault>
+fn quoted_translation(alloc: Global, text: &str, form: Form) -> Result<String, TranslationFault>
     ensures { IfOk result (λ json. IsQuotedTranslation text.now form (string_bytes json)) }
 {
     let condition = translate(alloc, text, form)?;
@@ -508,8 +525,8 @@ fn quoted_translation(alloc: Global, text: &str, form: Form) -> Result<String, F
 // Appends the member of that key, with its places filled in.
 fn push_desk_member(
     alloc: Global,
-    work: &mut Work,
-    spot: &Spot,
+    work: &mut Conversion,
+    spot: &TemplateMetric,
     key: &'static str,
     out: &mut String,
 ) -> Result<(), Memory> {
@@ -523,8 +540,8 @@ fn push_desk_member(
 // Appends a value, with its places filled in.
 fn push_filled_value(
     alloc: Global,
-    work: &mut Work,
-    spot: &Spot,
+    work: &mut Conversion,
+    spot: &TemplateMetric,
     key: &'static str,
     mode: Mode,
     value: &Value,
@@ -541,8 +558,8 @@ fn push_filled_value(
 /// Adds how an agent measures the metric, if it has a provider.
 pub(crate) fn plan_metric(
     alloc: Global,
-    work: &mut Work,
-    spot: &Spot,
+    work: &mut Conversion,
+    spot: &TemplateMetric,
     template: &str,
 ) -> Result<(), Memory> {
     let Some(provider) = member(spot.metric, "provider") else {
@@ -560,8 +577,8 @@ pub(crate) fn plan_metric(
 // Fills in all of a plan but the template: its names, its provider, and what is late.
 fn write_planned(
     alloc: Global,
-    work: &mut Work,
-    spot: &Spot,
+    work: &mut Conversion,
+    spot: &TemplateMetric,
     called: Called,
     provider: &Value,
     planned: &mut Planned,

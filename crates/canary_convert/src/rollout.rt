@@ -1,12 +1,12 @@
 //! A Rollout.
 use crate::arguments::{Case, tell_arguments};
-use crate::documents::{Document, index_of};
+use crate::documents::{ManifestObject, index_of};
 use crate::json::{
     list_at, member, push_comma, push_head, push_key, push_member, push_others, text_at,
 };
-use crate::place::Place;
+use crate::manifest_place::ManifestPlace;
 use crate::template::{convert_template, push_made_name};
-use crate::work::{Made, Work};
+use crate::work::{Conversion, Made};
 use canary_base::error::Memory;
 use serde_json::Value;
 use std::alloc::Global;
@@ -24,16 +24,16 @@ const CLUSTER: &str =
 
 /// A Rollout among all documents.
 #[derive(Clone, Copy)]
-struct Site<'a> {
-    documents: &'a [Document<'a>],
-    rollout: Document<'a>,
+struct RolloutContext<'a> {
+    documents: &'a [ManifestObject<'a>],
+    rollout: ManifestObject<'a>,
 }
 
 // An analysis of a Rollout.
 #[derive(Clone, Copy)]
 struct Use<'a> {
-    site: Site<'a>,
-    place: Place,
+    site: RolloutContext<'a>,
+    place: ManifestPlace,
     // The keys behind the place that lead to its templates, and to its arguments.
     templates: &'static str,
     arguments: &'static str,
@@ -43,11 +43,11 @@ struct Use<'a> {
 /// Adds the desk's Rollout, with the templates that it uses; or `Memory`.
 pub(crate) fn convert_rollout(
     alloc: Global,
-    work: &mut Work,
-    documents: &[Document],
-    rollout: &Document,
+    work: &mut Conversion,
+    documents: &[ManifestObject],
+    rollout: &ManifestObject,
 ) -> Result<(), Memory> {
-    let site = Site {
+    let site = RolloutContext {
         documents,
         rollout: *rollout,
     };
@@ -62,8 +62,8 @@ pub(crate) fn convert_rollout(
 // Appends the desk's Rollout in JSON; `paused` stays, for the check of the manifest to look at.
 fn push_rollout(
     alloc: Global,
-    work: &mut Work,
-    site: &Site,
+    work: &mut Conversion,
+    site: &RolloutContext,
     out: &mut String,
 ) -> Result<(), Memory> {
     let manifest = site.rollout.value;
@@ -80,8 +80,8 @@ fn push_rollout(
 // Appends the strategy, with its canary if it has one; `blueGreen` stays, for that check, too.
 fn push_strategy(
     alloc: Global,
-    work: &mut Work,
-    site: &Site,
+    work: &mut Conversion,
+    site: &RolloutContext,
     spec: &Value,
     out: &mut String,
 ) -> Result<(), Memory> {
@@ -104,8 +104,8 @@ fn push_strategy(
 // Appends the steps and the analysis beside them; the desk reads no other member of a canary.
 fn push_canary(
     alloc: Global,
-    work: &mut Work,
-    site: &Site,
+    work: &mut Conversion,
+    site: &RolloutContext,
     canary: &Value,
     out: &mut String,
 ) -> Result<(), Memory> {
@@ -133,8 +133,8 @@ fn push_canary(
 // Appends the list of steps, each at its index.
 fn push_steps(
     alloc: Global,
-    work: &mut Work,
-    site: &Site,
+    work: &mut Conversion,
+    site: &RolloutContext,
     steps: &Vec<Value>,
     out: &mut String,
 ) -> Result<(), Memory> {
@@ -150,9 +150,9 @@ fn push_steps(
 // Appends a step as it is, but for its analysis. If it is no object, that is reported.
 fn push_step(
     alloc: Global,
-    work: &mut Work,
-    site: &Site,
-    place: Place,
+    work: &mut Conversion,
+    site: &RolloutContext,
+    place: ManifestPlace,
     step: &Value,
     out: &mut String,
 ) -> Result<(), Memory> {
@@ -180,7 +180,7 @@ fn push_step(
 // Appends an analysis of the desk's templates, without arguments: those are filled in there.
 fn push_analysis(
     alloc: Global,
-    work: &mut Work,
+    work: &mut Conversion,
     used: &Use,
     out: &mut String,
 ) -> Result<(), Memory> {
@@ -204,7 +204,7 @@ fn push_analysis(
 // Appends each item whose template is among the documents, and adds the desk's template for it.
 fn push_templates(
     alloc: Global,
-    work: &mut Work,
+    work: &mut Conversion,
     used: &Use,
     templates: &Vec<Value>,
     out: &mut String,
@@ -222,11 +222,11 @@ fn push_templates(
 // The template that an item of an analysis names. If there is none, that is reported.
 fn template_of<'a>(
     alloc: Global,
-    work: &mut Work,
+    work: &mut Conversion,
     used: &Use<'a>,
-    place: Place,
+    place: ManifestPlace,
     named: &Value,
-) -> Result<Option<Document<'a>>, Memory> {
+) -> Result<Option<ManifestObject<'a>>, Memory> {
     let name = text_at(named, "templateName");
     if is_of_the_cluster(named) {
         work.tell(alloc, place.end("clusterScope"), &[CLUSTER])?;
@@ -264,9 +264,9 @@ fn is_of_the_cluster(named: &Value) -> bool {
 // Appends the item, with the name of the desk's template; and adds that template.
 fn push_used(
     alloc: Global,
-    work: &mut Work,
+    work: &mut Conversion,
     used: &Use,
-    template: Document,
+    template: ManifestObject,
     named: &Value,
     out: &mut String,
 ) -> Result<(), Memory> {

@@ -1,12 +1,14 @@
 //! An AnalysisTemplate.
 use crate::arguments::{Case, tell_arguments};
-use crate::documents::Document;
+use crate::documents::ManifestObject;
 use crate::json::{
     list_at, member, push_comma, push_head, push_key, push_member, push_text, text_at,
 };
-use crate::metric::{Spot, call, has_desk_place, is_desk_given, plan_metric, push_metric};
-use crate::place::Place;
-use crate::work::{Made, Work};
+use crate::manifest_place::ManifestPlace;
+use crate::metric::{
+    TemplateMetric, call, has_desk_place, is_desk_given, plan_metric, push_metric,
+};
+use crate::work::{Conversion, Made};
 use canary_base::error::Memory;
 use canary_base::names::Name;
 use serde_json::Value;
@@ -26,8 +28,8 @@ const DRY_RUN: &str = "expected the name of a metric of the template, or .* (Arg
 /// Adds what is wrong with a template, but for its metrics; or `Memory`.
 pub(crate) fn tell_template(
     alloc: Global,
-    work: &mut Work,
-    template: &Document,
+    work: &mut Conversion,
+    template: &ManifestObject,
 ) -> Result<(), Memory> {
     let place = template.place();
     let Some(spec) = work.object_at(alloc, place.at("spec"), template.value, "spec")? else {
@@ -49,8 +51,8 @@ pub(crate) fn tell_template(
 // Adds each metric that is no object, or has the name of one before it.
 fn tell_metrics(
     alloc: Global,
-    work: &mut Work,
-    place: Place,
+    work: &mut Conversion,
+    place: ManifestPlace,
     metrics: &Vec<Value>,
 ) -> Result<(), Memory> {
     for (index, metric) in metrics.iter().enumerate() {
@@ -78,7 +80,11 @@ fn index_of(metrics: &Vec<Value>, name: &str) -> Option<usize> {
 // ---- the desk's template
 
 /// Adds the desk's template for this case, and how its metrics are measured; or `Memory`.
-pub(crate) fn convert_template(alloc: Global, work: &mut Work, case: &Case) -> Result<(), Memory> {
+pub(crate) fn convert_template(
+    alloc: Global,
+    work: &mut Conversion,
+    case: &Case,
+) -> Result<(), Memory> {
     let mut made = Made::new(alloc, case.template.source);
     case.template.place().write(&mut made.path)?;
     write_name(alloc, work, case, &mut made.name)?;
@@ -88,13 +94,23 @@ pub(crate) fn convert_template(alloc: Global, work: &mut Work, case: &Case) -> R
 }
 
 // Writes the name of the desk's template, and reports an invalid one.
-fn write_name(alloc: Global, work: &mut Work, case: &Case, out: &mut String) -> Result<(), Memory> {
+fn write_name(
+    alloc: Global,
+    work: &mut Conversion,
+    case: &Case,
+    out: &mut String,
+) -> Result<(), Memory> {
     push_made_name(case, out)?;
     look_at_name(alloc, work, case, out.as_str())
 }
 
 // Adds that this is no name, if that of the template itself is one.
-fn look_at_name(alloc: Global, work: &mut Work, case: &Case, name: &str) -> Result<(), Memory> {
+fn look_at_name(
+    alloc: Global,
+    work: &mut Conversion,
+    case: &Case,
+    name: &str,
+) -> Result<(), Memory> {
     if Name::read(name.as_bytes()).is_some()
         || Name::read(case.template.name().as_bytes()).is_none()
     {
@@ -120,7 +136,7 @@ pub(crate) fn push_made_name(case: &Case, out: &mut String) -> Result<(), Memory
 }
 
 // Whether a member of a metric that the desk reads has a place to be filled in.
-fn has_desk_places(template: &Document) -> bool {
+fn has_desk_places(template: &ManifestObject) -> bool {
     let Some(metrics) = template.list("metrics") else {
         return false;
     };
@@ -148,7 +164,7 @@ pub(crate) fn is_ready(case: &Case) -> bool {
 // Writes the desk's template in JSON; `templates` stay, for the check of the manifest to look at.
 fn write_template(
     alloc: Global,
-    work: &mut Work,
+    work: &mut Conversion,
     case: &Case,
     made: &mut Made,
 ) -> Result<(), Memory> {
@@ -170,8 +186,8 @@ fn write_template(
 }
 
 // A metric of this case.
-fn spot_of<'a>(case: &Case<'a>, index: usize, metric: &'a Value) -> Spot<'a> {
-    Spot {
+fn template_metric<'a>(case: &Case<'a>, index: usize, metric: &'a Value) -> TemplateMetric<'a> {
+    TemplateMetric {
         case: *case,
         place: case.template.place().item("spec.metrics", index),
         metric,
@@ -181,19 +197,24 @@ fn spot_of<'a>(case: &Case<'a>, index: usize, metric: &'a Value) -> Spot<'a> {
 // Appends each metric as the desk reads it.
 fn push_metrics<'a>(
     alloc: Global,
-    work: &mut Work,
+    work: &mut Conversion,
     case: &Case<'a>,
     metrics: &'a Vec<Value>,
     out: &mut String,
 ) -> Result<(), Memory> {
     for (index, metric) in metrics.iter().enumerate() {
-        push_metric(alloc, work, &spot_of(case, index, metric), out)?;
+        push_metric(alloc, work, &template_metric(case, index, metric), out)?;
     }
     Ok(())
 }
 
 // Adds how each metric is measured, for the desk's template of that name, if a Rollout uses it.
-fn plan_metrics(alloc: Global, work: &mut Work, case: &Case, name: &str) -> Result<(), Memory> {
+fn plan_metrics(
+    alloc: Global,
+    work: &mut Conversion,
+    case: &Case,
+    name: &str,
+) -> Result<(), Memory> {
     let Some(metrics) = case.template.list("metrics") else {
         return Ok(());
     };
@@ -201,7 +222,7 @@ fn plan_metrics(alloc: Global, work: &mut Work, case: &Case, name: &str) -> Resu
         return Ok(());
     }
     for (index, metric) in metrics.iter().enumerate() {
-        plan_metric(alloc, work, &spot_of(case, index, metric), name)?;
+        plan_metric(alloc, work, &template_metric(case, index, metric), name)?;
     }
     Ok(())
 }
@@ -211,7 +232,7 @@ fn plan_metrics(alloc: Global, work: &mut Work, case: &Case, name: &str) -> Resu
 // Appends `dryRun`, if the template has it, with the names of its metrics at the desk.
 fn push_dry_run<'a>(
     alloc: Global,
-    work: &mut Work,
+    work: &mut Conversion,
     case: &Case<'a>,
     metrics: &'a Vec<Value>,
     out: &mut String,
@@ -237,9 +258,9 @@ fn push_dry_run<'a>(
 // Appends a mark of all metrics, or of that one. If there is no such metric, that is reported.
 fn push_mark<'a>(
     alloc: Global,
-    work: &mut Work,
+    work: &mut Conversion,
     case: &Case<'a>,
-    place: Place,
+    place: ManifestPlace,
     metrics: &'a Vec<Value>,
     name: &str,
     out: &mut String,
@@ -259,7 +280,7 @@ fn push_mark<'a>(
 // Appends a mark of the metric at that index, by its name at the desk, if it has one.
 fn push_marked_metric<'a>(
     alloc: Global,
-    work: &mut Work,
+    work: &mut Conversion,
     case: &Case<'a>,
     metrics: &'a Vec<Value>,
     index: usize,
@@ -268,7 +289,7 @@ fn push_marked_metric<'a>(
     let Some(metric) = metrics.get(index) else {
         return Ok(());
     };
-    match call(alloc, work, &spot_of(case, index, metric))? {
+    match call(alloc, work, &template_metric(case, index, metric))? {
         Some(called) => push_marked(alloc, called.label.as_str(), out),
         None => Ok(()),
     }
@@ -286,8 +307,8 @@ fn push_marked(alloc: Global, name: &str, out: &mut String) -> Result<(), Memory
 // Notes each other metric whose name has that name in it.
 fn note_others(
     alloc: Global,
-    work: &mut Work,
-    place: Place,
+    work: &mut Conversion,
+    place: ManifestPlace,
     metrics: &Vec<Value>,
     name: &str,
 ) -> Result<(), Memory> {

@@ -1,7 +1,7 @@
 //! What was made and found so far.
 use crate::finding::{Finding, Findings};
 use crate::json::{list_in, member};
-use crate::place::Place;
+use crate::manifest_place::ManifestPlace;
 use canary_base::error::Memory;
 use serde_json::Value;
 use std::alloc::Global;
@@ -41,7 +41,7 @@ pub struct Planned {
 
 /// What was made and found so far.
 #[derive(Drop)]
-pub(crate) struct Work {
+pub(crate) struct Conversion {
     pub(crate) findings: Findings,
     pub(crate) notes: Findings,
     pub(crate) templates: Vec<Made>,
@@ -50,7 +50,7 @@ pub(crate) struct Work {
     // The indices of the documents of templates that Rollouts name.
     used: Vec<usize>,
     // The first metric whose conditions do not ask for NaN.
-    nan: Option<Place>,
+    nan: Option<ManifestPlace>,
 }
 
 const NAN: &str =
@@ -124,10 +124,10 @@ impl Planned {
     }
 }
 
-impl Work {
+impl Conversion {
     /// Nothing.
-    pub(crate) fn new(alloc: Global) -> Work {
-        Work {
+    pub(crate) fn new(alloc: Global) -> Conversion {
+        Conversion {
             findings: Findings::new(alloc),
             notes: Findings::new(alloc),
             templates: Vec::new(alloc),
@@ -142,7 +142,7 @@ impl Work {
     pub(crate) fn tell(
         &mut self,
         alloc: Global,
-        place: Place,
+        place: ManifestPlace,
         parts: &[&str],
     ) -> Result<(), Memory> {
         self.findings.tell(alloc, place, None, parts)
@@ -152,14 +152,14 @@ impl Work {
     pub(crate) fn note(
         &mut self,
         alloc: Global,
-        place: Place,
+        place: ManifestPlace,
         parts: &[&str],
     ) -> Result<(), Memory> {
         self.notes.tell(alloc, place, None, parts)
     }
 
     /// Says that the conditions there do not ask for NaN.
-    pub(crate) fn see_nan(&mut self, place: Place) {
+    pub(crate) fn see_nan(&mut self, place: ManifestPlace) {
         if self.nan.is_none() {
             self.nan = Some(place);
         }
@@ -177,7 +177,7 @@ impl Work {
     pub(crate) fn add_template(
         &mut self,
         alloc: Global,
-        place: Place,
+        place: ManifestPlace,
         made: Made,
     ) -> Result<(), Memory> {
         match named(self.templates.as_slice(), made.name.as_str()) {
@@ -192,7 +192,7 @@ impl Work {
     pub(crate) fn plan(
         &mut self,
         alloc: Global,
-        place: Place,
+        place: ManifestPlace,
         planned: Planned,
     ) -> Result<(), Memory> {
         match planned_as(self.plan.as_slice(), &planned) {
@@ -225,7 +225,7 @@ impl Work {
     pub(crate) fn object_at<'a>(
         &mut self,
         alloc: Global,
-        place: Place,
+        place: ManifestPlace,
         value: &'a Value,
         key: &str,
     ) -> Result<Option<&'a Value>, Memory> {
@@ -243,7 +243,7 @@ impl Work {
     pub(crate) fn list_at<'a>(
         &mut self,
         alloc: Global,
-        place: Place,
+        place: ManifestPlace,
         value: &'a Value,
         key: &str,
     ) -> Result<Option<&'a Vec<Value>>, Memory> {

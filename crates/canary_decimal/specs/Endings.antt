@@ -6,8 +6,8 @@ use Rattle.std.specs.Fmt.{decimal}
 use Rattle.canary_decimal.specs.declared.shown.Beside.{Beside}
 use Rattle.canary_decimal.specs.declared.shown.Beside.TheVariants.{Nothing, NaN, Infinite, Null}
 use Rattle.canary_decimal.specs.declared.shown.Units.{Units}
-use Rattle.canary_decimal.specs.declared.shown.Word.{Word}
-use Rattle.canary_decimal.specs.declared.shown.Word.TheVariants.{NaN as NaNWord, MinusInfinite as MinusInfiniteWord, Null as NullWord, Infinite as InfiniteWord}
+use Rattle.canary_decimal.specs.declared.shown.SpecialValue.{SpecialValue}
+use Rattle.canary_decimal.specs.declared.shown.SpecialValue.TheVariants.{NaN as NaNWord, MinusInfinite as MinusInfiniteWord, Null as NullWord, Infinite as InfiniteWord}
 use Rattle.canary_decimal.specs.Spelling.{IsDigits}
 use Rattle.canary_decimal.specs.Reader.{is_digits}
 use Rattle.canary_decimal.specs.Points.{IsWrittenAs}
@@ -98,31 +98,31 @@ is_length u None = false
 is_length u (Some place) = u.length && place == 0
 
 -- what a number stands for, if that is no decimal
-abbrev pub nan_or : ℤ → Option Word → Option Word
+abbrev pub nan_or : ℤ → Option SpecialValue → Option SpecialValue
 nan_or z other = if int_eq z (negsuc 9223372036854775807) then Some NaNWord else other
 
-abbrev pub infinite_or : ℤ → Option Word → Option Word
+abbrev pub infinite_or : ℤ → Option SpecialValue → Option SpecialValue
 infinite_or z other =
     if int_eq z (negsuc 9223372036854775806) then Some MinusInfiniteWord
     else (if int_eq z (pos 9223372036854775807) then Some InfiniteWord else other)
 
-abbrev pub null_of : ℤ → Option Word
+abbrev pub null_of : ℤ → Option SpecialValue
 null_of z = if int_eq z (negsuc 9223372036854775805) then Some NullWord else None
 
-abbrev pub word_of : Beside → ℤ → Option Word
+abbrev pub word_of : Beside → ℤ → Option SpecialValue
 word_of Nothing z = None
 word_of NaN z = nan_or z None
 word_of Infinite z = nan_or z (infinite_or z None)
 word_of Null z = nan_or z (infinite_or z (null_of z))
 
-abbrev pub word_text : Word → List ℕ
+abbrev pub word_text : SpecialValue → List ℕ
 word_text NaNWord = codes "NaN"
 word_text MinusInfiniteWord = codes "-Inf"
 word_text NullWord = codes "null"
 word_text InfiniteWord = codes "+Inf"
 
 -- the same of a number at a place
-abbrev pub word_at : Units → Option ℕ → ℤ → Option Word
+abbrev pub word_at : Units → Option ℕ → ℤ → Option SpecialValue
 word_at u place z = if is_length u place then None else word_of u.beside z
 
 abbrev pub is_nan : Units → Option ℕ → ℤ → Bool

@@ -14,10 +14,10 @@ use std::marker::Model;
 
 /// The greatest multiple. No constant of a condition lies above it, and four numbers above it and
 /// five below its negative are free for what is no decimal.
-pub const MOST_MULTIPLE: u64 = 9_223_372_036_854_775_803;
+pub const MAX_MULTIPLE: u64 = 9_223_372_036_854_775_803;
 
 /// The most digits after the point of a multiple.
-pub const MOST_PLACES: usize = 18;
+pub const MAX_PLACES: usize = 18;
 
 // The number of the digits, or the greatest u64.
 pub(crate) fn leading(digits: &[u8]) -> u64
@@ -58,7 +58,7 @@ fn cut_off(front: u64, rest: u64) -> u64
 fn within(number: u64) -> u64
     ensures { result ≡ min number (9223372036854775803) }
 {
-    number.min(MOST_MULTIPLE)
+    number.min(MAX_MULTIPLE)
 }
 
 // The magnitude of the multiple.
@@ -213,7 +213,7 @@ impl Decimal {
 
     /// The whole number that stands for the decimal in conditions whose constants are multiples of
     /// 10^(1-places): the decimal times 10^places, cut off towards 0; if anything but zeros was cut
-    /// off and the last digit that is left is 0, that digit is 1. Beyond `MOST_MULTIPLE` it is
+    /// off and the last digit that is left is 0, that digit is 1. Beyond `MAX_MULTIPLE` it is
     /// that number.
     pub fn to_multiple(&self, places: usize) -> i64
         requires { places ≤ 18 }

@@ -9,10 +9,10 @@ use arrayvec::ArrayString;
 use itoa::Buffer;
 
 /// The most bytes of a number that is written: a sign, 19 digits, a point and 18 digits.
-pub const MOST_BYTES: usize = 40;
+pub const MAX_BYTES: usize = 40;
 
 // The most digits after a point.
-const MOST_PLACES: usize = 18;
+const MAX_PLACES: usize = 18;
 
 // 10 to the power of so many places.
 fn unit(places: usize) -> u64
@@ -25,7 +25,7 @@ fn unit(places: usize) -> u64
 }
 
 // The digits after the point, up to the last one that is not 0.
-fn fraction(part: u64, places: usize) -> ArrayString<MOST_PLACES>
+fn fraction(part: u64, places: usize) -> ArrayString<MAX_PLACES>
     requires some { 0 < part }
     requires below { part < 10 ^ places }
     requires few { places ≤ 18 }
@@ -52,7 +52,7 @@ fn digit(number: u64) -> char
 }
 
 // The sign and the digits before the point.
-fn front(number: i64, whole: u64) -> ArrayString<MOST_BYTES>
+fn front(number: i64, whole: u64) -> ArrayString<MAX_BYTES>
     ensures text { result.bytes ≡ front_text number whole }
     ensures room { array_string_len result ≤ 21 }
 {
@@ -65,7 +65,7 @@ fn front(number: i64, whole: u64) -> ArrayString<MOST_BYTES>
 }
 
 // With the point and what stands behind it, if that is not 0.
-fn behind(front: ArrayString<MOST_BYTES>, rest: u64, places: usize) -> ArrayString<MOST_BYTES>
+fn behind(front: ArrayString<MAX_BYTES>, rest: u64, places: usize) -> ArrayString<MAX_BYTES>
     requires room { array_string_len front ≤ 21 }
     requires below { rest < 10 ^ places }
     requires few { places ≤ 18 }
@@ -83,7 +83,7 @@ fn behind(front: ArrayString<MOST_BYTES>, rest: u64, places: usize) -> ArrayStri
 /// The number over 10^places as people write it: with no zero before the point but the last digit,
 /// and none at the end after it. Of 953215 and 6 it is `0.953215`, of 1000000 and 6 `1`, of -500
 /// and 6 `-0.0005`.
-pub fn with_point(number: i64, places: usize) -> ArrayString<MOST_BYTES>
+pub fn with_point(number: i64, places: usize) -> ArrayString<MAX_BYTES>
     requires { places ≤ 18 }
     ensures exact { Spells result.bytes number places }
     ensures written { IsWrittenAs result.bytes number places }

@@ -26,7 +26,7 @@ use canary_base::error::Memory;
 use std::alloc::Global;
 
 /// The most digits of an exponent.
-pub const MOST_EXPONENT_DIGITS: usize = 4;
+pub const MAX_EXPONENT_DIGITS: usize = 4;
 
 /// What a text of a measured value says.
 #[derive(Drop)]
@@ -84,7 +84,7 @@ fn power_of(digits: &[u8]) -> Option<usize>
     ensures power { result ≡ power_of digits.now }
     ensures few { IfSome result (λ n. n ≤ 9999) }
 {
-    if is_digits(digits) && digits.len() <= MOST_EXPONENT_DIGITS {
+    if is_digits(digits) && digits.len() <= MAX_EXPONENT_DIGITS {
         Some(leading(digits) as usize)
     } else {
         None

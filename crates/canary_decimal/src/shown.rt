@@ -18,7 +18,7 @@ ghost use Rattle.canary_decimal.specs.Endings.{IsLabelOf, IsShownAs, is_nan, pla
 ghost use Rattle.canary_decimal.specs.Endings.{word_of, word_at, word_text, nan_or, infinite_or};
 ghost use Rattle.canary_decimal.specs.Endings.{null_of};
 
-use crate::point::{MOST_BYTES, with_point};
+use crate::point::{MAX_BYTES, with_point};
 use crate::reading::is_digits;
 use arrayvec::ArrayString;
 
@@ -37,7 +37,7 @@ pub enum Beside {
 
 /// What a number stands for that is no decimal.
 #[derive(Clone, Copy, Debug, PartialEq, Eq)]
-pub enum Word {
+pub enum SpecialValue {
     NaN,
     MinusInfinite,
     Null,
@@ -112,7 +112,7 @@ impl Shown<'_> {
 impl Units {
     /// What people read in place of a number that is reported, at that place of a list or, if none
     /// is given, alone: `NaN`, `null`, `+Inf` or `-Inf`, or the number with its point put back.
-    pub fn text(self, place: Option<u64>, number: i64) -> ArrayString<MOST_BYTES>
+    pub fn text(self, place: Option<u64>, number: i64) -> ArrayString<MAX_BYTES>
         ensures { IsShownAs self place number result.bytes }
     {
         match self.word(place, number) {
@@ -129,7 +129,7 @@ impl Units {
     }
 
     // What a number that is reported there stands for, if that is no decimal.
-    fn word(self, place: Option<u64>, number: i64) -> Option<Word>
+    fn word(self, place: Option<u64>, number: i64) -> Option<SpecialValue>
         ensures { result ≡ word_at self place number }
     {
         if self.is_length(place) {
@@ -159,7 +159,7 @@ impl Units {
 }
 
 // What a number stands for, if that is no decimal.
-fn word_of(beside: Beside, number: i64) -> Option<Word>
+fn word_of(beside: Beside, number: i64) -> Option<SpecialValue>
     ensures { result ≡ word_of beside number }
 {
     match beside {
@@ -171,55 +171,55 @@ fn word_of(beside: Beside, number: i64) -> Option<Word>
 }
 
 // NaN if the number is `NAN`, else the other word.
-fn nan_or(number: i64, other: Option<Word>) -> Option<Word>
+fn nan_or(number: i64, other: Option<SpecialValue>) -> Option<SpecialValue>
     ensures { result ≡ nan_or number other }
 {
     if number == NAN {
-        Some(Word::NaN)
+        Some(SpecialValue::NaN)
     } else {
         other
     }
 }
 
 // An infinity if the number is `MINUS_INFINITE` or `INFINITE`, else the other word.
-fn infinite_or(number: i64, other: Option<Word>) -> Option<Word>
+fn infinite_or(number: i64, other: Option<SpecialValue>) -> Option<SpecialValue>
     ensures { result ≡ infinite_or number other }
 {
     if number == MINUS_INFINITE {
-        Some(Word::MinusInfinite)
+        Some(SpecialValue::MinusInfinite)
     } else if number == INFINITE {
-        Some(Word::Infinite)
+        Some(SpecialValue::Infinite)
     } else {
         other
     }
 }
 
 // Null if the number is `NULL`, else none.
-fn null_of(number: i64) -> Option<Word>
+fn null_of(number: i64) -> Option<SpecialValue>
     ensures { result ≡ null_of number }
 {
     if number == NULL {
-        Some(Word::Null)
+        Some(SpecialValue::Null)
     } else {
         None
     }
 }
 
 // What people read in place of a number that is this word: 4 bytes at most.
-fn name(word: Word) -> &'static str
+fn name(word: SpecialValue) -> &'static str
     ensures text { result.now ≡ word_text word }
     ensures short { length result.now ≤ 4 }
 {
     match word {
-        Word::NaN => "NaN",
-        Word::MinusInfinite => "-Inf",
-        Word::Null => "null",
-        Word::Infinite => "+Inf",
+        SpecialValue::NaN => "NaN",
+        SpecialValue::MinusInfinite => "-Inf",
+        SpecialValue::Null => "null",
+        SpecialValue::Infinite => "+Inf",
     }
 }
 
 // The same as `name`, as a string of the type that `with_point` returns.
-fn written(word: Word) -> ArrayString<MOST_BYTES>
+fn written(word: SpecialValue) -> ArrayString<MAX_BYTES>
     ensures { result.bytes ≡ word_text word }
 {
     let mut text = ArrayString::new();

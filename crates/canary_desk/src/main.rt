@@ -5,7 +5,7 @@
 mod streams;
 
 use canary_cli::perform::{Terminals, give_up, perform, refuse};
-use canary_words::process::words_of;
+use canary_cli_words::process::words_of;
 use std::io::IsTerminal;
 use std::process::ExitCode;
 use streams::fill_closed;

@@ -14,7 +14,7 @@ use Rattle.http1.specs.Message.{known_of}
 use Rattle.http1.specs.Body.{ReadsBody}
 use Rattle.http1.proofs.TextLemmas.{front_within}
 use Rattle.canary_fetch.specs.Replies.{Heard, ReadsHead, is_interim, ReadsInterim, IsFinal, limits, ReadsFinal, ReadsReply, NeverReplies}
-use Rattle.canary_fetch.specs.declared.reply.Stage.TheVariants.{Head}
+use Rattle.canary_fetch.specs.declared.reply.ReplyStage.TheVariants.{Head}
 use Rattle.canary_fetch.specs.Reading.{IsReadingBy, IsPart}
 use Rattle.canary_fetch.proofs.ReadingLemmas.{final_takes}
 

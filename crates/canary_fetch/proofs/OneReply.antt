@@ -9,7 +9,7 @@ use Rattle.http1.specs.Framing.{response_framing}
 use Rattle.http1.specs.Message.{known_of}
 use Rattle.http1.specs.Body.{Body, ReadsBody}
 use Rattle.http1.proofs.OneParse.{body_unique}
-use Rattle.canary_fetch.specs.Replies.{Heard, heard, ReadsInterim, limits, ReadsFinal, ReadsReply}
+use Rattle.canary_fetch.specs.Replies.{Heard, response, ReadsInterim, limits, ReadsFinal, ReadsReply}
 use Rattle.canary_fetch.proofs.ReadingLemmas.{interim_takes, final_takes, final_is_high}
 
 framing_is : (r q : Result Framing FramingError) (f g : Framing) → r ≡ Ok f → q ≡ Ok g → r ≡ q → f ≡ g
@@ -25,7 +25,7 @@ one_final stream a b r q x y =
     let has = subst (λ (f : Framing). ReadsBody limits f y.after x.body r) framing (subst (λ (s : List ℕ). ReadsBody limits x.framing s x.body r) same.1 x.has) in
     let body = body_unique limits y.framing y.after x.body y.body r q has y.has in
     let bytes : a.body ≡ b.body = x.is ∙ ap (λ (z : Body). z.bytes) body.0 ∙ sym y.is in
-    (λ i. heard (status i) (bytes i), body.1)
+    (λ i. response (status i) (bytes i), body.1)
 
 one_behind : (heads : List ResponseHead) (stream after : List ℕ) (a b : Heard) (r q : List ℕ) → ReadsInterim heads stream after → ReadsFinal after a r → ReadsReply stream b q → (a ≡ b) × (r ≡ q)
 one_behind [] stream after a b r q skips x y =

@@ -17,9 +17,9 @@ use Rattle.http1.specs.Message.{known_of}
 use Rattle.http1.specs.Body.{Body, body_of, ReadsBody}
 use Rattle.http1.specs.Decoder.{decoder_for, with_front, Continues, Starves, Ends, HasNoBody}
 use Rattle.http1.proofs.OneParse.{body_from_completes, completes_from_body}
-use Rattle.canary_fetch.specs.declared.reply.Stage.{Stage}
-use Rattle.canary_fetch.specs.declared.reply.Stage.TheVariants.{Head, Body as Within}
-use Rattle.canary_fetch.specs.Replies.{Heard, heard, ReadsHead, is_interim, ReadsInterim, IsFinal, limits, ReadsFinal, ReadsReply, NeverReplies}
+use Rattle.canary_fetch.specs.declared.reply.ReplyStage.{ReplyStage}
+use Rattle.canary_fetch.specs.declared.reply.ReplyStage.TheVariants.{Head, Body as Within}
+use Rattle.canary_fetch.specs.Replies.{Heard, response, ReadsHead, is_interim, ReadsInterim, IsFinal, limits, ReadsFinal, ReadsReply, NeverReplies}
 use Rattle.canary_fetch.specs.Fronts.{IsHeadAt}
 use Rattle.canary_fetch.specs.Reading.{Remains, BeginsWith, IsReadingBy, IsPart}
 
@@ -106,7 +106,7 @@ remains stream after kept status framing h reply rest fresh f head q =
     record {
       body = q.body;
       completes = completes_from_body limits framing after q.body rest (subst₂ (λ (x : Framing) (s : List ℕ). ReadsBody limits x s q.body rest) (sym framed) (sym same.1) q.has);
-      is = λ i. heard (is i) (body i);
+      is = λ i. response (is i) (body i);
       small = q.small;
     }
 
@@ -145,7 +145,7 @@ piece_goes came kept unread piece status len old new c s = record {
   sound = λ more reply rest r. s.sound more reply rest (record {
     body = with_front piece r.body;
     completes = c.back more r.body rest r.completes;
-    is = r.is ∙ ap (heard status) (append_assoc kept piece r.body.bytes);
+    is = r.is ∙ ap (response status) (append_assoc kept piece r.body.bytes);
     small = record { within = r.small.within; fields = r.small.fields };
   });
   whole = λ more reply rest r.
@@ -154,7 +154,7 @@ piece_goes came kept unread piece status len old new c s = record {
       record {
         body = t.0;
         completes = t.2;
-        is = q.is ∙ ap (λ (b : Body). heard status (kept ++ b.bytes)) t.1 ∙ ap (heard status) (sym (append_assoc kept piece t.0.bytes));
+        is = q.is ∙ ap (λ (b : Body). response status (kept ++ b.bytes)) t.1 ∙ ap (response status) (sym (append_assoc kept piece t.0.bytes));
         small = record {
           within = q.small.within;
           fields = subst (λ (b : Body). length b.trailers ≤ 16) t.1 q.small.fields;
@@ -184,22 +184,22 @@ body_waits came kept unread status len (Chunked chunks most) new w s reply rest 
 body_waits came kept unread status len UntilClose new w s reply rest r = w.continues.runs
 
 -- the body ends
-pub body_ends : (came kept unread : List ℕ) (status len count : ℕ) (d : Decoder) (spans : List HeaderSpan) → (e : Ends d unread spans len count) → length kept ≤ 1048576 → length e.trailers ≤ 16 → IsReadingBy came (Within status d) kept unread → BeginsWith came (heard status kept)
+pub body_ends : (came kept unread : List ℕ) (status len count : ℕ) (d : Decoder) (spans : List HeaderSpan) → (e : Ends d unread spans len count) → length kept ≤ 1048576 → length e.trailers ≤ 16 → IsReadingBy came (Within status d) kept unread → BeginsWith came (response status kept)
 body_ends came kept unread status len count d spans e small few s =
-    let r = s.sound [] (heard status kept) (drop len unread ++ []) (record {
+    let r = s.sound [] (response status kept) (drop len unread ++ []) (record {
       body = body_of [] e.trailers;
       completes = e.completes [];
-      is = ap (heard status) (sym (append-nil kept));
+      is = ap (response status) (sym (append-nil kept));
       small = record { within = small; fields = few };
     }) in
-    (drop len unread ++ [], subst (λ (x : List ℕ). ReadsReply x (heard status kept) (drop len unread ++ [])) (append-nil came) r)
+    (drop len unread ++ [], subst (λ (x : List ℕ). ReadsReply x (response status kept) (drop len unread ++ [])) (append-nil came) r)
 
 -- the connection ends, and the body with it
-pub connection_ends : (came kept unread : List ℕ) (status : ℕ) → length (kept ++ unread) ≤ 1048576 → IsReadingBy came (Within status UntilClose) kept unread → ReadsReply came (heard status (kept ++ unread)) []
+pub connection_ends : (came kept unread : List ℕ) (status : ℕ) → length (kept ++ unread) ≤ 1048576 → IsReadingBy came (Within status UntilClose) kept unread → ReadsReply came (response status (kept ++ unread)) []
 connection_ends came kept unread status small s =
     let none : 0 ≤ 16 = omega arith in
-    subst (λ (x : List ℕ). ReadsReply x (heard status (kept ++ unread)) []) (append-nil came)
-    (s.sound [] (heard status (kept ++ unread)) [] (record {
+    subst (λ (x : List ℕ). ReadsReply x (response status (kept ++ unread)) []) (append-nil came)
+    (s.sound [] (response status (kept ++ unread)) [] (record {
       body = body_of unread [];
       completes = (sym (append-nil unread), refl, refl);
       is = refl;
@@ -231,9 +231,9 @@ piece_refuses came kept unread piece status len old new c long s more reply rest
 
 -- ---- the same, of equal parts
 
-pub same_reading : (came kept k unread u : List ℕ) (stage s : Stage) → s ≡ stage → k ≡ kept → u ≡ unread → IsReadingBy came stage kept unread → IsReadingBy came s k u
+pub same_reading : (came kept k unread u : List ℕ) (stage s : ReplyStage) → s ≡ stage → k ≡ kept → u ≡ unread → IsReadingBy came stage kept unread → IsReadingBy came s k u
 same_reading came kept k unread u stage s a b c r =
-    subst (λ (x : Stage). IsReadingBy came x k u) (sym a)
+    subst (λ (x : ReplyStage). IsReadingBy came x k u) (sym a)
     (subst (λ (x : List ℕ). IsReadingBy came stage x u) (sym b)
     (subst (λ (x : List ℕ). IsReadingBy came stage kept x) (sym c) r))
 
@@ -242,5 +242,5 @@ pub whole_range : (xs : List ℕ) (n : ℕ) → n ≡ length xs → slice_range 
 whole_range xs n e = between_from_start xs n ∙ take_all n xs (omega arith)
 
 -- the same, where no reply is whole
-pub same_part : (came : List ℕ) (stage s : Stage) → s ≡ stage → IsPart came stage → IsPart came s
-same_part came stage s e p = subst (λ (x : Stage). IsPart came x) (sym e) p
+pub same_part : (came : List ℕ) (stage s : ReplyStage) → s ≡ stage → IsPart came stage → IsPart came s
+same_part came stage s e p = subst (λ (x : ReplyStage). IsPart came x) (sym e) p

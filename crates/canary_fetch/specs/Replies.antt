@@ -14,8 +14,8 @@ pub record Heard : Type 0 where
   pub status : ℕ
   pub body : List ℕ
 
-abbrev pub heard : ℕ → List ℕ → Heard
-heard status body = record { status = status; body = body }
+abbrev pub response : ℕ → List ℕ → Heard
+response status body = record { status = status; body = body }
 
 -- ---- its head
 
@@ -33,10 +33,11 @@ is_interim status = nat_le 100 status && (nat_lt status 200 && not (status == 10
 abbrev pub ReadsInterim : List ResponseHead → List ℕ → List ℕ → Type 0
 ReadsInterim [] stream rest = stream ≡ rest
 ReadsInterim (h ∷ hs) stream rest =
-    IsTrue (is_interim (status_code h)) × (after : List ℕ) × ReadsHead stream h after × ReadsInterim hs after rest
+    IsTrue (is_interim (status_code h)) × (after : List ℕ) × ReadsHead stream h after
+    × ReadsInterim hs after rest
 
--- the head of a reply with this status, whose fields say that the body ends so: after a length, with
--- the last chunk, or with the connection; and that it is coded no further
+-- the head of a reply with this status, whose fields say that the body ends so: after a length,
+-- with the last chunk, or with the connection; and that it is coded no further
 pub record IsFinal (h : ResponseHead) (status : ℕ) (framing : Framing) : Type 0 where
   pub told : status ≡ status_code h
   pub final : 200 ≤ status
@@ -54,8 +55,8 @@ pub record IsSmall (bytes : List ℕ) (b : Body) : Type 0 where
   pub within : length bytes ≤ 1048576
   pub fields : length b.trailers ≤ 16
 
--- the stream begins with a head that no other follows, and with the body that it says: so many bytes,
--- what the chunks have in order, or all that comes until the connection ends
+-- the stream begins with a head that no other follows, and with the body that it says: so many
+-- bytes, what the chunks have in order, or all that comes until the connection ends
 pub record ReadsFinal (stream : List ℕ) (reply : Heard) (rest : List ℕ) : Type 0 where
   pub head : ResponseHead
   pub framing : Framing
@@ -80,4 +81,5 @@ HasNoReply stream = (reply : Heard) (rest : List ℕ) → ¬ (ReadsReply stream 
 
 -- whatever follows, there is no reply
 abbrev pub NeverReplies : List ℕ → Type 0
-NeverReplies stream = (more : List ℕ) (reply : Heard) (rest : List ℕ) → ¬ (ReadsReply (stream ++ more) reply rest)
+NeverReplies stream = (more : List ℕ) (reply : Heard) (rest : List ℕ)
+    → ¬ (ReadsReply (stream ++ more) reply rest)

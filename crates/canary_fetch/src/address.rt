@@ -42,7 +42,7 @@ pub struct Address<'a> {
 
 // A host and a port.
 #[derive(Clone, Copy, Debug)]
-pub(crate) struct Site<'a> {
+pub(crate) struct HostPort<'a> {
     pub(crate) host: &'a str,
     pub(crate) port: u16,
 }
@@ -59,7 +59,7 @@ impl<'a> Address<'a> {
             return Err(scheme_fault(text));
         };
         let (site, path) = cut(rest);
-        match site_of(site) {
+        match host_port_of(site) {
             Ok(site) => Ok(Address {
                 host: site.host,
                 port: site.port,
@@ -111,7 +111,7 @@ fn cut(text: &str) -> (&str, &str)
 }
 
 // The host and the port that a text spells.
-fn site_of(text: &str) -> Result<Site<'_>, AddressFault>
+fn host_port_of(text: &str) -> Result<HostPort<'_>, AddressFault>
     ensures { IfOk result (λ s. IsSite text.now s.host.now s.port) }
 {
     match text.strip_prefix('[') {
@@ -121,7 +121,7 @@ fn site_of(text: &str) -> Result<Site<'_>, AddressFault>
 }
 
 // The same of a number of IPv6, behind its `[`.
-fn numbered(text: &str) -> Result<Site<'_>, AddressFault>
+fn numbered(text: &str) -> Result<HostPort<'_>, AddressFault>
     ensures { IfOk result (λ s. IsSite (91 ∷ text.now) s.host.now s.port) }
 {
     let Some((host, rest)) = text.split_once(']') else {
@@ -131,7 +131,7 @@ fn numbered(text: &str) -> Result<Site<'_>, AddressFault>
         return Err(AddressFault::Host);
     }
     if rest.is_empty() {
-        return Ok(Site { host, port: PORT });
+        return Ok(HostPort { host, port: PORT });
     }
     match rest.strip_prefix(':') {
         Some(digits) => with_port(host, digits),
@@ -140,12 +140,12 @@ fn numbered(text: &str) -> Result<Site<'_>, AddressFault>
 }
 
 // The same of a name, or a number of IPv4.
-fn named(text: &str) -> Result<Site<'_>, AddressFault>
+fn named(text: &str) -> Result<HostPort<'_>, AddressFault>
     ensures { IfOk result (λ s. IsSite text.now s.host.now s.port) }
 {
     match text.split_once(':') {
         Some((host, digits)) if is_name(host) => with_port(host, digits),
-        None if is_name(text) => Ok(Site {
+        None if is_name(text) => Ok(HostPort {
             host: text,
             port: PORT,
         }),
@@ -154,12 +154,12 @@ fn named(text: &str) -> Result<Site<'_>, AddressFault>
 }
 
 // A host with the port of these digits.
-fn with_port<'a>(host: &'a str, digits: &str) -> Result<Site<'a>, AddressFault>
+fn with_port<'a>(host: &'a str, digits: &str) -> Result<HostPort<'a>, AddressFault>
     ensures host { IfOk result (λ s. s.host.now ≡ host.now) }
     ensures port { IfOk result (λ s. IsPort digits.now s.port) }
 {
     match port_of(digits) {
-        Some(port) => Ok(Site { host, port }),
+        Some(port) => Ok(HostPort { host, port }),
         None => Err(AddressFault::Port),
     }
 }

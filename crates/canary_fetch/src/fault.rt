@@ -3,7 +3,7 @@ use thiserror::Error;
 
 /// Why a message has no reply.
 #[derive(Clone, Copy, Debug, PartialEq, Eq, Error)]
-pub enum Fault {
+pub enum ExchangeFault {
     /// No connection could be made.
     #[error("no connection could be made")]
     Refused,

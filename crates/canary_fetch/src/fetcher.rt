@@ -2,7 +2,7 @@
 ghost use Rattle.std.specs.Prelude.{◌≡◌, ℕ, IfOk, OnOk, OnErr, MatchOption, IfSome, true, false, Err, Some};
 ghost use Rattle.canary_fetch.specs.Asking.{AreSame, Comes, Goes};
 
-use crate::query::{Answer, StartFault};
+use crate::query::{FetchCompletion, StartFault};
 use crate::underway::Underway;
 use mio::{Events, Poll};
 use std::alloc::Global;
@@ -11,7 +11,7 @@ use std::time::{self, Duration, Instant};
 use thiserror::Error;
 
 // The most events that are taken at a time.
-const MOST_EVENTS: usize = 256;
+const MAX_EVENTS: usize = 256;
 
 /// Why nobody can be asked.
 #[derive(Clone, Copy, Debug, PartialEq, Eq, Error)]
@@ -48,7 +48,7 @@ impl Fetcher {
         ensures none { IfOk result (λ fetcher. (token : ℕ) → is_asked fetcher token ≡ false) }
         ensures most { IfOk result (λ fetcher. most_connections fetcher ≡ most) }
     {
-        let Ok(events) = Events::with_capacity(rt.alloc(), MOST_EVENTS) else {
+        let Ok(events) = Events::with_capacity(rt.alloc(), MAX_EVENTS) else {
             return Err(FetchFault::Memory);
         };
         let Ok(poll) = Poll::new(rt) else {
@@ -107,7 +107,7 @@ impl Fetcher {
         {
             return Err(FetchFault::Poll);
         }
-        self.underway.attend_all(&self.events);
+        self.underway.dispatch_all(&self.events);
         self.look_at_clock(rt);
         self.underway.end_late();
         Ok(())
@@ -115,7 +115,7 @@ impl Fetcher {
 
     /// The answer to a message, if there is one that was not given yet. The message is under way no
     /// more.
-    pub fn answer(&mut self) -> Option<Answer>
+    pub fn answer(&mut self) -> Option<FetchCompletion>
         ensures one { MatchOption result (AreSame (is_asked self.old) (is_asked self.new))
             (λ answer. Goes (is_asked self.old) (is_asked self.new) answer.token) }
         ensures outcome { IfSome result (λ answer.

@@ -1,6 +1,6 @@
 //! A connection on which a message is sent and its reply is heard.
-use crate::fault::Fault;
-use crate::reply::{Incoming, Reply};
+use crate::fault::ExchangeFault;
+use crate::reply::{HttpReply, Incoming};
 use mio::net::TcpStream;
 use mio::{Interest, Registry, Token};
 use std::alloc::Global;
@@ -12,17 +12,17 @@ const PIECE: usize = 16_384;
 
 // How often a connection is read in one turn, so that nobody who sends without a pause holds up the
 // others.
-const MOST_READS: u32 = 4;
+const MAX_READS: u32 = 4;
 
 // What one read brought.
 #[derive(Drop)]
-enum Heard {
+enum ReadProgress {
     // Some bytes, and the reply is not whole.
     More,
     // Nothing yet.
     Nothing,
     // The whole reply.
-    Whole(Reply),
+    Whole(HttpReply),
 }
 
 // A connection.
@@ -59,22 +59,22 @@ impl Flight {
 
     // Its turn, after which it is reported once more if bytes may be left. None while the reply is
     // not whole.
-    pub(crate) fn attend(
+    pub(crate) fn dispatch(
         &mut self,
         registry: &Registry,
         token: Token,
         message: &[u8],
-    ) -> Result<Option<Reply>, Fault> {
+    ) -> Result<Option<HttpReply>, ExchangeFault> {
         self.has_more = false;
         let told = self.turn(message);
         if self.is_reported(registry, token) {
             return told;
         }
-        Err(Fault::Cut)
+        Err(ExchangeFault::Cut)
     }
 
     // Its turn: it sends what can be sent of the message, and hears what came.
-    fn turn(&mut self, message: &[u8]) -> Result<Option<Reply>, Fault> {
+    fn turn(&mut self, message: &[u8]) -> Result<Option<HttpReply>, ExchangeFault> {
         self.look_at_connection()?;
         if !self.is_connected {
             return Ok(None);
@@ -92,7 +92,7 @@ impl Flight {
     }
 
     // Notes whether the connection was made.
-    fn look_at_connection(&mut self) -> Result<(), Fault> {
+    fn look_at_connection(&mut self) -> Result<(), ExchangeFault> {
         if self.is_connected {
             return Ok(());
         }
@@ -101,7 +101,7 @@ impl Flight {
                 self.is_connected = self.stream.peer_addr().is_ok();
                 Ok(())
             }
-            _ => Err(Fault::Refused),
+            _ => Err(ExchangeFault::Refused),
         }
     }
 
@@ -128,12 +128,12 @@ impl Flight {
     }
 
     // Hears what came, as far as one turn goes.
-    fn hear(&mut self) -> Result<Option<Reply>, Fault> {
-        'reads: for _ in 0..MOST_READS {
+    fn hear(&mut self) -> Result<Option<HttpReply>, ExchangeFault> {
+        'reads: for _ in 0..MAX_READS {
             match self.hear_some()? {
-                Heard::More => {}
-                Heard::Nothing => return Ok(None),
-                Heard::Whole(reply) => return Ok(Some(reply)),
+                ReadProgress::More => {}
+                ReadProgress::Nothing => return Ok(None),
+                ReadProgress::Whole(reply) => return Ok(Some(reply)),
             }
         }
         self.has_more = true;
@@ -141,18 +141,18 @@ impl Flight {
     }
 
     // Hears the next piece.
-    fn hear_some(&mut self) -> Result<Heard, Fault> {
+    fn hear_some(&mut self) -> Result<ReadProgress, ExchangeFault> {
         let mut piece = [0u8; PIECE];
         match self.stream.read(&mut piece) {
-            Ok(0) => Ok(Heard::Whole(self.incoming.end()?)),
+            Ok(0) => Ok(ReadProgress::Whole(self.incoming.end()?)),
             Ok(count) => match self.incoming.take(piece.get(..count).unwrap_or(&[]))? {
-                Some(reply) => Ok(Heard::Whole(reply)),
-                None => Ok(Heard::More),
+                Some(reply) => Ok(ReadProgress::Whole(reply)),
+                None => Ok(ReadProgress::More),
             },
             Err(error) => match error.kind() {
-                ErrorKind::WouldBlock => Ok(Heard::Nothing),
-                ErrorKind::Interrupted => Ok(Heard::More),
-                _ => Err(Fault::Cut),
+                ErrorKind::WouldBlock => Ok(ReadProgress::Nothing),
+                ErrorKind::Interrupted => Ok(ReadProgress::More),
+                _ => Err(ExchangeFault::Cut),
             },
         }
     }

@@ -7,7 +7,7 @@
 //! In use (canary_agent, src/asking.rt):
 //!
 //!     match self.fetcher.start(rt, token, address, message, limit) {
-//!         Ok(()) => Ok(Asked::Message(Message::new(token, provider))),
+//!         Ok(()) => Ok(AskResult::Message(Message::new(token, provider))),
 #![tactic(auto)]
 
 pub mod address;

@@ -1,22 +1,22 @@
 //! A message, and what it came to.
 ghost use Rattle.std.specs.Prelude.{◌≡◌};
 
-use crate::fault::Fault;
-use crate::reply::Reply;
+use crate::fault::ExchangeFault;
+use crate::reply::HttpReply;
 use std::net::SocketAddr;
 use std::time::Duration;
 use thiserror::Error;
 
 /// What a message came to.
-pub type Outcome = Result<Reply, Fault>;
+pub type FetchResult = Result<HttpReply, ExchangeFault>;
 
 /// What a message came to, with the token under which it was taken in.
 #[derive(Drop)]
-pub struct Answer {
+pub struct FetchCompletion {
     /// The token.
     pub token: usize,
     /// The reply, or why there is none.
-    pub outcome: Outcome,
+    pub outcome: FetchResult,
 }
 
 /// Why a message is not taken in.
@@ -32,23 +32,23 @@ pub enum StartFault {
 
 // A message that was taken in.
 #[derive(Drop)]
-pub(crate) struct Query {
+pub(crate) struct PendingMessage {
     address: SocketAddr,
     message: Vec<u8>,
     // When it ends at the latest.
     ends: Duration,
     // What it came to, once it did.
-    outcome: Option<Outcome>,
+    outcome: Option<FetchResult>,
 }
 
-impl Query {
+impl PendingMessage {
     ghost use Rattle.canary_fetch.specs.Asked.{message_of, outcome_of};
 
     // One that came to nothing yet.
-    pub(crate) fn new(address: SocketAddr, message: Vec<u8>, ends: Duration) -> Query
+    pub(crate) fn new(address: SocketAddr, message: Vec<u8>, ends: Duration) -> PendingMessage
         ensures { message_of result ≡ (address, message.items) }
     {
-        Query {
+        PendingMessage {
             address,
             message,
             ends,
@@ -88,18 +88,18 @@ impl Query {
     }
 
     // It came to this.
-    pub(crate) fn settle(&mut self, outcome: Outcome) {
+    pub(crate) fn settle(&mut self, outcome: FetchResult) {
         self.outcome = Some(outcome);
     }
 
     // Its answer, under this token.
-    pub(crate) fn answer(self, token: usize) -> Answer
+    pub(crate) fn answer(self, token: usize) -> FetchCompletion
         ensures token { result.token ≡ token }
         ensures outcome { result.outcome ≡ outcome_of self }
     {
-        Answer {
+        FetchCompletion {
             token,
-            outcome: self.outcome.unwrap_or(Err(Fault::Timeout)),
+            outcome: self.outcome.unwrap_or(Err(ExchangeFault::Timeout)),
         }
     }
 }

@@ -6,8 +6,8 @@ ghost use Rattle.httparse.specs.Spans.{IsWithin, span_bytes};
 ghost use Rattle.canary_fetch.specs.Unreads.{bytes_unread};
 ghost use Rattle.canary_fetch.specs.Replies.{ReadsReply, HasNoReply};
 
-use crate::fault::Fault;
-use crate::heads::{Front, MOST_BODY, front_of};
+use crate::fault::ExchangeFault;
+use crate::heads::{Front, MAX_BODY, front_of};
 use crate::unread::Unread;
 use http1::chunked::ChunkError;
 use http1::decode::{Decoded, Decoder};
@@ -18,7 +18,7 @@ use std::alloc::Global;
 use std::mem;
 
 // The most fields behind the last chunk. They are read and ignored.
-const MOST_TRAILERS: usize = 16;
+const MAX_TRAILERS: usize = 16;
 
 // The most bytes of the extensions of all chunks, which are ignored, and of the fields behind them.
 const LIMITS: Limits = Limits {
@@ -29,7 +29,7 @@ const LIMITS: Limits = Limits {
 
 /// A reply: its status, and its body as it was before it was cut into chunks.
 #[derive(Drop)]
-pub struct Reply {
+pub struct HttpReply {
     /// The status.
     pub status: u16,
     /// The body.
@@ -38,7 +38,7 @@ pub struct Reply {
 
 // What of a reply comes next.
 #[derive(Clone, Copy, Debug)]
-pub(crate) enum Stage {
+pub(crate) enum ReplyStage {
     // Its head.
     Head,
     // Its body, with what is still to come of it; the number is the status.
@@ -47,7 +47,7 @@ pub(crate) enum Stage {
 
 // What one step of the reader came to.
 #[derive(Clone, Copy, Debug)]
-pub(crate) enum Step {
+pub(crate) enum ParseProgress {
     // Another step may follow.
     Goes,
     // More bytes have to come.
@@ -60,7 +60,7 @@ pub(crate) enum Step {
 #[derive(Drop)]
 pub struct Incoming {
     alloc: Global,
-    stage: Stage,
+    stage: ReplyStage,
     unread: Unread,
     body: Vec<u8>,
     ghost small: { vec_len body ≤ 1048576 },
@@ -69,7 +69,7 @@ pub struct Incoming {
 impl Incoming {
     ghost use Rattle.canary_fetch.specs.Reading.{IsReading, StepsTo, BeginsWith, IsRefusal};
     ghost use Rattle.canary_fetch.specs.Reading.{reply_heard, AwaitsMore, IsPart};
-    ghost use Rattle.canary_fetch.specs.Replies.{heard};
+    ghost use Rattle.canary_fetch.specs.Replies.{response};
 
     /// A reply of which nothing came.
     pub fn new(alloc: Global) -> Incoming
@@ -77,7 +77,7 @@ impl Incoming {
     {
         Incoming {
             alloc,
-            stage: Stage::Head,
+            stage: ReplyStage::Head,
             unread: Unread::new(alloc),
             body: Vec::new(alloc),
         }
@@ -88,7 +88,7 @@ impl Incoming {
     /// # Errors
     /// That of the bytes, after which this is of no more use: `TooLong`, `NotHttp` or `Coded`. Or
     /// `Memory`, also after 2^64 - 1 steps.
-    pub fn take(&mut self, bytes: &[u8]) -> Result<Option<Reply>, Fault>
+    pub fn take(&mut self, bytes: &[u8]) -> Result<Option<HttpReply>, ExchangeFault>
         ensures ok { (came : List ℕ) → IsReading came self.old → IfOk result (λ told.
             MatchOption told (AwaitsMore (came ++ bytes.now) self.new)
             (λ reply. BeginsWith (came ++ bytes.now) (reply_heard reply))) }
@@ -100,13 +100,13 @@ impl Incoming {
         }
         'steps: for _ in 0..u64::MAX {
             match self.step() {
-                Ok(Step::Goes) => {}
-                Ok(Step::Waits) => return Ok(None),
-                Ok(Step::Ends(status)) => return Ok(Some(self.reply(status))),
+                Ok(ParseProgress::Goes) => {}
+                Ok(ParseProgress::Waits) => return Ok(None),
+                Ok(ParseProgress::Ends(status)) => return Ok(Some(self.reply(status))),
                 Err(fault) => return Err(fault),
             }
         }
-        Err(Fault::Memory)
+        Err(ExchangeFault::Memory)
     }
 
     /// The connection ended, on the other side. That ends a body whose head does not say where it
@@ -114,38 +114,38 @@ impl Incoming {
     ///
     /// # Errors
     /// `Cut` if the reply is not whole. `TooLong` or `Memory`.
-    pub fn end(&mut self) -> Result<Reply, Fault>
+    pub fn end(&mut self) -> Result<HttpReply, ExchangeFault>
         ensures ok { (came : List ℕ) → IsReading came self.old
             → IfOk result (λ reply. ReadsReply came (reply_heard reply) []) }
-        ensures cut { (came : List ℕ) → IsPart came self.old.stage → result ≡ Err Fault.Cut
+        ensures cut { (came : List ℕ) → IsPart came self.old.stage → result ≡ Err ExchangeFault.Cut
             → HasNoReply came }
     {
         match self.stage {
-            Stage::Body(status, decoder) => self.end_body(status, decoder),
-            Stage::Head => Err(Fault::Cut),
+            ReplyStage::Body(status, decoder) => self.end_body(status, decoder),
+            ReplyStage::Head => Err(ExchangeFault::Cut),
         }
     }
 
     // The connection ended in a body, of which so much was still to come.
-    fn end_body(&mut self, status: u16, decoder: Decoder) -> Result<Reply, Fault>
-        requires { self.old.stage ≡ Stage.Body status decoder }
+    fn end_body(&mut self, status: u16, decoder: Decoder) -> Result<HttpReply, ExchangeFault>
+        requires { self.old.stage ≡ ReplyStage.Body status decoder }
         ensures ok { (came : List ℕ) → IsReading came self.old
             → IfOk result (λ reply. ReadsReply came (reply_heard reply) []) }
-        ensures cut { (came : List ℕ) → IsPart came self.old.stage → result ≡ Err Fault.Cut
+        ensures cut { (came : List ℕ) → IsPart came self.old.stage → result ≡ Err ExchangeFault.Cut
             → HasNoReply came }
     {
         match decoder {
             Decoder::UntilClose => self.all(status),
-            _ => Err(Fault::Cut),
+            _ => Err(ExchangeFault::Cut),
         }
     }
 
     // The reply whose body is all that came.
-    fn all(&mut self, status: u16) -> Result<Reply, Fault>
-        requires { self.old.stage ≡ Stage.Body status Decoder.UntilClose }
+    fn all(&mut self, status: u16) -> Result<HttpReply, ExchangeFault>
+        requires { self.old.stage ≡ ReplyStage.Body status Decoder.UntilClose }
         ensures ok { (came : List ℕ) → IsReading came self.old
             → IfOk result (λ reply. ReadsReply came (reply_heard reply) []) }
-        ensures whole { result ≢ Err Fault.Cut }
+        ensures whole { result ≢ Err ExchangeFault.Cut }
     {
         let rest = Span {
             start: 0,
@@ -158,64 +158,64 @@ impl Incoming {
     }
 
     // Reads the next piece of what came.
-    fn step(&mut self) -> Result<Step, Fault>
+    fn step(&mut self) -> Result<ParseProgress, ExchangeFault>
         ensures ok { (came : List ℕ) → IsReading came self.old
             → IfOk result (StepsTo came self.new) }
         ensures err { (came : List ℕ) → IsReading came self.old
             → IfErr result (IsRefusal came) }
     {
         match self.stage {
-            Stage::Head => self.read_head(),
-            Stage::Body(status, decoder) => self.read_body(status, decoder),
+            ReplyStage::Head => self.read_head(),
+            ReplyStage::Body(status, decoder) => self.read_body(status, decoder),
         }
     }
 
     // Reads a head, if it is whole.
-    fn read_head(&mut self) -> Result<Step, Fault>
-        requires { self.old.stage ≡ Stage.Head }
+    fn read_head(&mut self) -> Result<ParseProgress, ExchangeFault>
+        requires { self.old.stage ≡ ReplyStage.Head }
         ensures ok { (came : List ℕ) → IsReading came self.old
             → IfOk result (StepsTo came self.new) }
         ensures err { (came : List ℕ) → IsReading came self.old
             → IfErr result (IsRefusal came) }
     {
         match front_of(self.unread.as_slice()) {
-            Ok(Front::Part) => Ok(Step::Waits),
+            Ok(Front::Part) => Ok(ParseProgress::Waits),
             Ok(Front::Interim(len)) => {
                 self.unread.read(len);
-                Ok(Step::Goes)
+                Ok(ParseProgress::Goes)
             }
             Ok(Front::Final(head)) => {
                 let decoder = Decoder::new(head.framing, &LIMITS);
                 self.go_on(head.status, decoder, head.len);
-                Ok(Step::Goes)
+                Ok(ParseProgress::Goes)
             }
             Err(fault) => Err(fault),
         }
     }
 
     // Reads the next piece of a body.
-    fn read_body(&mut self, status: u16, decoder: Decoder) -> Result<Step, Fault>
-        requires { self.old.stage ≡ Stage.Body status decoder }
+    fn read_body(&mut self, status: u16, decoder: Decoder) -> Result<ParseProgress, ExchangeFault>
+        requires { self.old.stage ≡ ReplyStage.Body status decoder }
         ensures ok { (came : List ℕ) → IsReading came self.old
             → IfOk result (StepsTo came self.new) }
         ensures err { (came : List ℕ) → IsReading came self.old
             → IfErr result (IsRefusal came) }
     {
         let mut decoder = decoder;
-        let mut trailers = [EMPTY_HEADER_SPAN; MOST_TRAILERS];
+        let mut trailers = [EMPTY_HEADER_SPAN; MAX_TRAILERS];
         match decoder.decode(self.unread.as_slice(), &mut trailers) {
             Ok(Decoded::NeedMore(len)) => {
                 self.go_on(status, decoder, len);
-                Ok(Step::Waits)
+                Ok(ParseProgress::Waits)
             }
             Ok(Decoded::Data(piece)) => match self.keep(piece) {
                 Ok(()) => {
                     self.go_on(status, decoder, piece.end);
-                    Ok(Step::Goes)
+                    Ok(ParseProgress::Goes)
                 }
                 Err(fault) => Err(fault),
             },
-            Ok(Decoded::End { .. }) => Ok(Step::Ends(status)),
+            Ok(Decoded::End { .. }) => Ok(ParseProgress::Ends(status)),
             Err(error) => Err(fault_of(error)),
         }
     }
@@ -223,52 +223,52 @@ impl Incoming {
     // So many bytes of the body were read, and the decoder says what is still to come.
     fn go_on(&mut self, status: u16, decoder: Decoder, count: usize)
         requires { count ≤ length (bytes_unread self.old.unread) }
-        ensures stage { self.new.stage ≡ Stage.Body status decoder }
+        ensures stage { self.new.stage ≡ ReplyStage.Body status decoder }
         ensures unread { bytes_unread self.new.unread
             ≡ drop count (bytes_unread self.old.unread) }
         ensures body { self.new.body.items ≡ self.old.body.items }
     {
         self.unread.read(count);
-        self.stage = Stage::Body(status, decoder);
+        self.stage = ReplyStage::Body(status, decoder);
     }
 
     // Keeps a piece of the body that is among what was not read yet.
-    fn keep(&mut self, piece: Span) -> Result<(), Fault>
+    fn keep(&mut self, piece: Span) -> Result<(), ExchangeFault>
         requires { IsWithin (length (bytes_unread self.old.unread)) piece }
         ensures body { OnOk result (self.new.body.items ≡ self.old.body.items
             ++ span_bytes (bytes_unread self.old.unread) piece) }
-        ensures long { IfErr result (λ fault. fault ≢ Fault.Memory
+        ensures long { IfErr result (λ fault. fault ≢ ExchangeFault.Memory
             → 1048576 < length self.old.body.items
             + length (span_bytes (bytes_unread self.old.unread) piece)) }
-        ensures whole { result ≢ Err Fault.Cut }
+        ensures whole { result ≢ Err ExchangeFault.Cut }
         ensures unread { bytes_unread self.new.unread ≡ bytes_unread self.old.unread }
         ensures stage { self.new.stage ≡ self.old.stage }
     {
         let piece = piece.of(self.unread.as_slice());
-        if piece.len() > MOST_BODY - self.body.len() {
-            return Err(Fault::TooLong);
+        if piece.len() > MAX_BODY - self.body.len() {
+            return Err(ExchangeFault::TooLong);
         }
         match self.body.extend_from_slice(piece) {
             Ok(()) => Ok(()),
-            Err(_) => Err(Fault::Memory),
+            Err(_) => Err(ExchangeFault::Memory),
         }
     }
 
     // The reply with this status, and with the body that was kept.
-    fn reply(&mut self, status: u16) -> Reply
-        ensures { reply_heard result ≡ heard status self.old.body.items }
+    fn reply(&mut self, status: u16) -> HttpReply
+        ensures { reply_heard result ≡ response status self.old.body.items }
     {
         let body = mem::replace(&mut self.body, Vec::new(self.alloc));
-        Reply { status, body }
+        HttpReply { status, body }
     }
 }
 
 // What is said of a body that cannot be read.
-fn fault_of(error: ReadError) -> Fault {
+fn fault_of(error: ReadError) -> ExchangeFault {
     match error {
         ReadError::TooLarge
         | ReadError::Parse(Error::TooManyHeaders)
-        | ReadError::Chunk(ChunkError::ExtensionsTooLong) => Fault::TooLong,
-        _ => Fault::NotHttp,
+        | ReadError::Chunk(ChunkError::ExtensionsTooLong) => ExchangeFault::TooLong,
+        _ => ExchangeFault::NotHttp,
     }
 }

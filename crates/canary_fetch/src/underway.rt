@@ -4,10 +4,10 @@ ghost use Rattle.std.specs.Prelude.{IfSome, Some};
 ghost use Rattle.std.specs.BTreeMap.{btree_map_len};
 ghost use Rattle.canary_fetch.specs.Asking.{AreSame, Comes, Goes};
 
-use crate::fault::Fault;
+use crate::fault::ExchangeFault;
 use crate::flight::Flight;
-use crate::query::{Answer, Outcome, Query, StartFault};
-use crate::reply::Reply;
+use crate::query::{FetchCompletion, FetchResult, PendingMessage, StartFault};
+use crate::reply::HttpReply;
 use mio::{Events, Poll, Token};
 use std::alloc::Global;
 use std::collections::{BTreeMap, VecDeque};
@@ -20,7 +20,7 @@ pub(crate) struct Underway {
     alloc: Global,
     pub(crate) poll: Poll,
     // By their tokens.
-    queries: BTreeMap<usize, Query>,
+    queries: BTreeMap<usize, PendingMessage>,
     // By the same.
     flights: BTreeMap<usize, Flight>,
     // The tokens of those that wait for a connection, in order.
@@ -78,7 +78,7 @@ impl Underway {
         if self.queue.push_back(token).is_err() {
             return Err(StartFault::Memory);
         }
-        let query = Query::new(address, message, self.now.saturating_add(limit));
+        let query = PendingMessage::new(address, message, self.now.saturating_add(limit));
         if self.queries.insert(token, query).is_err() {
             self.queue.pop_back();
             return Err(StartFault::Memory);
@@ -87,7 +87,7 @@ impl Underway {
     }
 
     // The answer to the first message that came to something. It is under way no more.
-    pub(crate) fn answer(&mut self) -> Option<Answer>
+    pub(crate) fn answer(&mut self) -> Option<FetchCompletion>
         ensures one { MatchOption result (AreSame (is_there self.old) (is_there self.new))
             (λ answer. Goes (is_there self.old) (is_there self.new) answer.token) }
         ensures outcome { IfSome result (λ answer.
@@ -146,7 +146,7 @@ impl Underway {
         };
         match Flight::begun(rt, self.alloc, self.poll.registry(), Token(token), address) {
             Ok(flight) => self.take_off(token, flight),
-            Err(_) => self.settle(token, Err(Fault::Refused)),
+            Err(_) => self.settle(token, Err(ExchangeFault::Refused)),
         }
     }
 
@@ -156,7 +156,7 @@ impl Underway {
         ensures { AreSame (is_there self.old) (is_there self.new) }
     {
         if self.flights.insert(token, flight).is_err() {
-            self.settle(token, Err(Fault::Memory));
+            self.settle(token, Err(ExchangeFault::Memory));
         }
     }
 
@@ -169,16 +169,16 @@ impl Underway {
     }
 
     // Gives each connection that was reported its turn.
-    pub(crate) fn attend_all(&mut self, events: &Events<Global>)
+    pub(crate) fn dispatch_all(&mut self, events: &Events<Global>)
         ensures { AreSame (is_there self.old) (is_there self.new) }
     {
         'events: for event in events.iter() {
-            self.attend(event.token());
+            self.dispatch(event.token());
         }
     }
 
     // The turn of a connection.
-    fn attend(&mut self, token: Token)
+    fn dispatch(&mut self, token: Token)
         ensures { AreSame (is_there self.old) (is_there self.new) }
     {
         match self.turn(token) {
@@ -189,20 +189,20 @@ impl Underway {
     }
 
     // The same: what the message came to; none if that is not known yet, or if it has gone.
-    fn turn(&mut self, token: Token) -> Result<Option<Reply>, Fault>
+    fn turn(&mut self, token: Token) -> Result<Option<HttpReply>, ExchangeFault>
         ensures { AreSame (is_there self.old) (is_there self.new) }
     {
         let Some(query) = self.queries.get(&token.0) else {
             return Ok(None);
         };
         match self.flights.get_mut(&token.0) {
-            Some(flight) => flight.attend(self.poll.registry(), token, query.message()),
+            Some(flight) => flight.dispatch(self.poll.registry(), token, query.message()),
             None => Ok(None),
         }
     }
 
     // A message came to this: its connection is closed.
-    fn settle(&mut self, token: usize, outcome: Outcome)
+    fn settle(&mut self, token: usize, outcome: FetchResult)
         ensures { AreSame (is_there self.old) (is_there self.new) }
     {
         self.flights.remove(&token);
@@ -220,7 +220,7 @@ impl Underway {
             let Some(token) = self.late(from) else {
                 return;
             };
-            self.settle(token, Err(Fault::Timeout));
+            self.settle(token, Err(ExchangeFault::Timeout));
             from = token;
         }
     }

@@ -1,7 +1,7 @@
 //! The bytes of a connection that came and were not read yet.
 ghost use Rattle.std.specs.Prelude.{◌≡◌, ◌≤◌, ◌++◌, OnOk, IfErr, [], drop, length, vec_len};
 
-use crate::fault::Fault;
+use crate::fault::ExchangeFault;
 use std::alloc::Global;
 
 // The bytes that came, and how many of them were read.
@@ -41,14 +41,14 @@ impl Unread {
     }
 
     // More bytes came.
-    pub(crate) fn add(&mut self, bytes: &[u8]) -> Result<(), Fault>
+    pub(crate) fn add(&mut self, bytes: &[u8]) -> Result<(), ExchangeFault>
         ensures ok { OnOk result (bytes_unread self.new ≡ bytes_unread self.old ++ bytes.now) }
-        ensures err { IfErr result (λ fault. fault ≡ Fault.Memory) }
+        ensures err { IfErr result (λ fault. fault ≡ ExchangeFault.Memory) }
     {
         self.forget();
         match self.bytes.extend_from_slice(bytes) {
             Ok(()) => Ok(()),
-            Err(_) => Err(Fault::Memory),
+            Err(_) => Err(ExchangeFault::Memory),
         }
     }
 

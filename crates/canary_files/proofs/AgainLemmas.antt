@@ -26,17 +26,17 @@ use Rattle.canary_once.specs.declared.event.Event.TheVariants as event
 use Rattle.canary_once.specs.declared.event.Answer.{Answer}
 use Rattle.canary_once.specs.declared.event.Answer.TheVariants.{Replied, Unavailable}
 use Rattle.canary_once.specs.Contents.{Contents, count_of, receipts_of, receipt_at, with_receipt, KeepsReceipts}
-use Rattle.canary_once.specs.Answers.{receipt_of, repeat_reply, reused_reply, ahead_reply, answer, answers_of, after, heard, replies_in}
+use Rattle.canary_once.specs.Answers.{receipt_of, repeat_reply, reused_reply, ahead_reply, answer, answers_of, after, answered_events, replies_in}
 use Rattle.canary_once.specs.Single.{request_of, new_reply, settle, reply_to, after_one}
 use Rattle.canary_once.specs.Laws.{RunsOn, OneRequest}
-use Rattle.canary_files.specs.declared.row.Refusal.{Refusal}
-use Rattle.canary_files.specs.declared.row.Refusal.TheVariants.{Unreadable, BadName}
+use Rattle.canary_files.specs.declared.row.RowRefusal.{RowRefusal}
+use Rattle.canary_files.specs.declared.row.RowRefusal.TheVariants.{Unreadable, BadName}
 use Rattle.canary_files.specs.declared.row.Row.{Row}
-use Rattle.canary_files.specs.declared.answer.Told.{Told}
-use Rattle.canary_files.specs.declared.answer.Told.TheVariants.{Answered}
+use Rattle.canary_files.specs.declared.answer.RowReply.{RowReply}
+use Rattle.canary_files.specs.declared.answer.RowReply.TheVariants.{Answered}
 use Rattle.canary_files.specs.Lines.{line_of, told_status, told_body}
 use Rattle.canary_files.specs.Rows.{if_number, number_in, word_in, row_with, row_of, report_of, field}
-use Rattle.canary_files.specs.RowExchanges.{Handling, refused, no_memory, posted, told_of, IsHandling, Exchange, IsExchange, rows_of, lines_from, event_in, answer_in, events_of, answers_in, Point, Holds, IsHandled, AreHandled}
+use Rattle.canary_files.specs.RowExchanges.{Disposition, refused, no_memory, posted, told_of, IsDisposition, Exchange, IsExchange, rows_of, lines_from, event_in, answer_in, events_of, answers_in, DeskState, AnsweredInOrder, IsHandled, AreHandled}
 use Rattle.canary_files.specs.Taking.{Fields}
 use Rattle.canary_files.specs.Importing.{AreDataRows}
 use Rattle.canary_files.specs.Again.{IsAhead, IsLasting, IsHeard, AllLasting, AllHeard, told_by, told_in, IsSettledBy, IsSettledRow, AreTold, TellsAfterwards, TellsSettled, SameLines, ImportsAgain}
@@ -146,7 +146,7 @@ numbered_by : (o : Option ℕ) (n : ℕ) → option_and_then if_number o ≡ Som
 numbered_by None n e = absurd (none-some _ e)
 numbered_by (Some k) n e = numbered_if k n (nat_le 1 k && nat_le k 1000000000) refl e
 
-abbrev number_at : Result Row Refusal → ℕ
+abbrev number_at : Result Row RowRefusal → ℕ
 number_at (Ok row) = row.number
 number_at (Err refusal) = 1
 
@@ -155,7 +155,7 @@ numbered_with caller None report h = omega arith
 numbered_with caller (Some n) None h = omega arith
 numbered_with caller (Some n) (Some report) h = h n refl
 
-numbered_where : (a b : Bool) (o : Result Row Refusal) → 1 ≤ number_at o → 1 ≤ number_at (if not a then Err Unreadable else (if not b then Err BadName else o))
+numbered_where : (a b : Bool) (o : Result Row RowRefusal) → 1 ≤ number_at o → 1 ≤ number_at (if not a then Err Unreadable else (if not b then Err BadName else o))
 numbered_where false b o h = omega arith
 numbered_where true false o h = omega arith
 numbered_where true true o h = h
@@ -166,7 +166,7 @@ numbered fields = numbered_where (length fields == 9) (is_name (field fields 0))
 
 -- ---- what the register tells of a row, in contents that keep receipts
 
-told_kept : (c new : Contents) → KeepsReceipts c new → (o : Result Row Refusal) → 1 ≤ number_at o → IsSettledBy c o → (told_by new o ≡ told_by c o) × IsSettledBy new o
+told_kept : (c new : Contents) → KeepsReceipts c new → (o : Result Row RowRefusal) → 1 ≤ number_at o → IsSettledBy c o → (told_by new o ≡ told_by c o) × IsSettledBy new o
 told_kept c new keeps (Err refusal) some h = (refl, tt)
 told_kept c new keeps (Ok row) some h =
     let place : row.number - 1 < count_of c row.caller = omega (arith, h, some) in
@@ -178,7 +178,7 @@ told_kept c new keeps (Ok row) some h =
 -- ---- one row
 
 module _ (one : OneRequest) where
-  handled_keeps : (c mid : Contents) (o : Handling) → IsHandled c o mid → KeepsReceipts c mid
+  handled_keeps : (c mid : Contents) (o : Disposition) → IsHandled c o mid → KeepsReceipts c mid
   handled_keeps c mid (refused refusal) h = λ q n k e. ap (λ t. receipt_at t q n) h ∙ e
   handled_keeps c mid no_memory h = λ q n k e. ap (λ t. receipt_at t q n) h ∙ e
   handled_keeps c mid (posted r (Replied reply)) h = subst (KeepsReceipts c) (sym (h.1 ∙ (one c r).1)) (one_keeps c r)
@@ -186,10 +186,10 @@ module _ (one : OneRequest) where
 
   all_keep : (c new : Contents) (xs : List Exchange) → AreHandled c xs new → KeepsReceipts c new
   all_keep c new [] h = λ q n k e. ap (λ t. receipt_at t q n) h ∙ e
-  all_keep c new (x ∷ xs) h = λ q n k e. all_keep h.0 new xs h.2 q n k (handled_keeps c h.0 x.handling h.1 q n k e)
+  all_keep c new (x ∷ xs) h = λ q n k e. all_keep h.0 new xs h.2 q n k (handled_keeps c h.0 x.disposition h.1 q n k e)
 
   -- a row that has its line for good has that of the register from then on
-  told_one : SameWhereEqual → (c mid new : Contents) (fields : Fields) (moment : ℕ) (o : Handling) → IsHandling fields moment o → IsHandled c o mid → KeepsReceipts mid new
+  told_one : SameWhereEqual → (c mid new : Contents) (fields : Fields) (moment : ℕ) (o : Disposition) → IsDisposition fields moment o → IsHandled c o mid → KeepsReceipts mid new
       → IsLasting o → (told_of o ≡ told_in new fields) × IsSettledRow new fields
   told_one same c mid new fields moment (refused refusal) is h keeps lasting = (sym (ap (told_by new) is), subst (IsSettledBy new) (sym is) tt)
   told_one same c mid new fields moment no_memory is h keeps lasting = absurd lasting
@@ -209,7 +209,7 @@ module _ (one : OneRequest) where
       )
 
   -- a row whose number is settled changes nothing
-  again_one : (c mid : Contents) (fields : Fields) (moment : ℕ) (o : Handling) → IsHandling fields moment o → IsHandled c o mid → IsSettledRow c fields
+  again_one : (c mid : Contents) (fields : Fields) (moment : ℕ) (o : Disposition) → IsDisposition fields moment o → IsHandled c o mid → IsSettledRow c fields
       → (mid ≡ c) × (IsHeard o → told_of o ≡ told_in c fields)
   again_one c mid fields moment (refused refusal) is h known = (h, λ hears. sym (ap (told_by c) is))
   again_one c mid fields moment no_memory is h known = (h, λ hears. absurd hears)
@@ -227,13 +227,13 @@ module _ (one : OneRequest) where
   all_told : SameWhereEqual → (c new : Contents) (xs : List Exchange) → AllByRecursion IsExchange xs → AreHandled c xs new → AreTold new xs
   all_told same c new [] each h = tt
   all_told same c new (x ∷ xs) each h =
-      (told_one same c h.0 new x.fields x.moment x.handling each.0 h.1 (all_keep h.0 new xs h.2), all_told same h.0 new xs each.1 h.2)
+      (told_one same c h.0 new x.fields x.moment x.disposition each.0 h.1 (all_keep h.0 new xs h.2), all_told same h.0 new xs each.1 h.2)
 
   all_again : (c new : Contents) (xs : List Exchange) → AllByRecursion IsExchange xs → AreHandled c xs new → AllByRecursion (λ x. IsSettledRow c x.fields) xs
-      → (new ≡ c) × AllByRecursion (λ x. IsHeard x.handling → told_of x.handling ≡ told_in c x.fields) xs
+      → (new ≡ c) × AllByRecursion (λ x. IsHeard x.disposition → told_of x.disposition ≡ told_in c x.fields) xs
   all_again c new [] each h known = (h, tt)
   all_again c new (x ∷ xs) each h known =
-      let first = again_one c h.0 x.fields x.moment x.handling each.0 h.1 known.0 in
+      let first = again_one c h.0 x.fields x.moment x.disposition each.0 h.1 known.0 in
       let rest = all_again c new xs each.1 (subst (λ t. AreHandled t xs new) first.0 h.2) known.1 in
       (rest.0, (first.1, rest.1))
 
@@ -242,11 +242,11 @@ module _ (one : OneRequest) where
   same_lines q c new (x ∷ xs) [] e told each h keeps = absurd (let n : 0 ≡ suc (length (rows_of xs)) = ap length e in omega (arith, n))
   same_lines q c new (x ∷ xs) (y ∷ ys) e told each h keeps =
       let fields : y.fields ≡ x.fields = ap (head_or []) e in
-      let next : KeepsReceipts q h.0 = λ p n k f. handled_keeps c h.0 y.handling h.1 p n k (keeps p n k f) in (
+      let next : KeepsReceipts q h.0 = λ p n k f. handled_keeps c h.0 y.disposition h.1 p n k (keeps p n k f) in (
         λ lasting hears.
             let was = told.0 lasting in
             let kept = told_kept q c keeps (row_of x.fields) (numbered x.fields) was.1 in
-            let now = again_one c h.0 y.fields y.moment y.handling each.0 h.1 (subst (IsSettledRow c) (sym fields) kept.1) in
+            let now = again_one c h.0 y.fields y.moment y.disposition each.0 h.1 (subst (IsSettledRow c) (sym fields) kept.1) in
             now.1 hears ∙ ap (told_in c) fields ∙ kept.0 ∙ sym was.0,
         same_lines q h.0 new xs ys (ap tail_of e) told.1 each.1 h.2 next,
       )
@@ -265,33 +265,33 @@ same_text k [] [] e each lasting hears = refl
 same_text k [] (y ∷ ys) e each lasting hears = absurd (let n : suc (length (rows_of ys)) ≡ 0 = ap length e in omega (arith, n))
 same_text k (x ∷ xs) [] e each lasting hears = absurd each
 same_text k (x ∷ xs) (y ∷ ys) e each lasting hears =
-    let line = ap (λ (t : Told). line_of k (told_status t) (told_body t)) (each.0 lasting.0 hears.0) in
+    let line = ap (λ (t : RowReply). line_of k (told_status t) (told_body t)) (each.0 lasting.0 hears.0) in
     let rest = same_text (k + 1) xs ys (ap tail_of e) each.1 lasting.1 hears.1 in
     λ i. line i ++ rest i
 
 -- ---- from whole lists to row after row
 
-one_back : RunsOn → (c new : Contents) (o : Handling) (es : List Event) (gs : List Answer)
-    → replies_in (answer_in o ++ gs) ≡ answers_of c (heard (event_in o ++ es) (answer_in o ++ gs))
-    → new ≡ after c (heard (event_in o ++ es) (answer_in o ++ gs))
-    → (mid : Contents) × IsHandled c o mid × (replies_in gs ≡ answers_of mid (heard es gs)) × (new ≡ after mid (heard es gs))
+one_back : RunsOn → (c new : Contents) (o : Disposition) (es : List Event) (gs : List Answer)
+    → replies_in (answer_in o ++ gs) ≡ answers_of c (answered_events (event_in o ++ es) (answer_in o ++ gs))
+    → new ≡ after c (answered_events (event_in o ++ es) (answer_in o ++ gs))
+    → (mid : Contents) × IsHandled c o mid × (replies_in gs ≡ answers_of mid (answered_events es gs)) × (new ≡ after mid (answered_events es gs))
 one_back goes c new (refused refusal) es gs e f = (c, refl, e, f)
 one_back goes c new no_memory es gs e f = (c, refl, e, f)
 one_back goes c new (posted r (Unavailable fault)) es gs e f = (c, refl, e, f)
 one_back goes c new (posted r (Replied reply)) es gs e f =
     let first = event.Request r ∷ [] in
-    let both = goes c first (heard es gs) in
-    let whole : (reply ∷ replies_in gs) ≡ (answer c [] (event.Request r) ∷ answers_of (after c first) (heard es gs)) = e ∙ both.0 in
+    let both = goes c first (answered_events es gs) in
+    let whole : (reply ∷ replies_in gs) ≡ (answer c [] (event.Request r) ∷ answers_of (after c first) (answered_events es gs)) = e ∙ both.0 in
     (after c first, (ap (head_or reply) whole, refl), ap tail_of whole, f ∙ both.1)
 
-handled_of : RunsOn → (c new : Contents) (xs : List Exchange) → replies_in (answers_in xs) ≡ answers_of c (heard (events_of xs) (answers_in xs)) → new ≡ after c (heard (events_of xs) (answers_in xs))
+handled_of : RunsOn → (c new : Contents) (xs : List Exchange) → replies_in (answers_in xs) ≡ answers_of c (answered_events (events_of xs) (answers_in xs)) → new ≡ after c (answered_events (events_of xs) (answers_in xs))
     → AreHandled c xs new
 handled_of goes c new [] e f = f
 handled_of goes c new (x ∷ xs) e f =
-    let back = one_back goes c new x.handling (events_of xs) (answers_in xs) e f in
+    let back = one_back goes c new x.disposition (events_of xs) (answers_in xs) e f in
     (back.0, back.1, handled_of goes back.0 new xs back.2 back.3)
 
-handled_in : RunsOn → (p q : Point) (xs : List Exchange) → Holds p q xs → q.book.is_honest → AreHandled p.book.contents xs q.book.contents
+handled_in : RunsOn → (p q : DeskState) (xs : List Exchange) → AnsweredInOrder p q xs → q.book.is_honest → AreHandled p.book.contents xs q.book.contents
 handled_in goes p q xs holds honest = handled_of goes p.book.contents q.book.contents xs (holds.answers honest) (holds.contents honest)
 
 -- ---- the records of a file
@@ -317,13 +317,13 @@ one_rows (first ∷ rest) ps qs a b = a.1 ∙ sym b.1
 
 -- ---- the laws
 
-pub afterwards : OneRequest → RunsOn → SameWhereEqual → (p q : Point) → TellsAfterwards p q
+pub afterwards : OneRequest → RunsOn → SameWhereEqual → (p q : DeskState) → TellsAfterwards p q
 afterwards one goes same p q xs holds honest = all_told one same p.book.contents q.book.contents xs holds.each (handled_in goes p q xs holds honest)
 
-pub settled : OneRequest → RunsOn → (p q : Point) → TellsSettled p q
+pub settled : OneRequest → RunsOn → (p q : DeskState) → TellsSettled p q
 settled one goes p q xs holds honest known = all_again one p.book.contents q.book.contents xs holds.each (handled_in goes p q xs holds honest) known
 
-pub again : OneRequest → RunsOn → SameWhereEqual → (p q r s : Point) → ImportsAgain p q r s
+pub again : OneRequest → RunsOn → SameWhereEqual → (p q r s : DeskState) → ImportsAgain p q r s
 again one goes same p q r s bytes u v w x m n first second honest honest2 keeps =
     let xs = first.5.exchanges in
     let ys = second.5.exchanges in

@@ -9,7 +9,7 @@ use Rattle.std.proofs.Math.Seq.{drop-append_seam}
 use Rattle.canary_plan.specs.declared.analysis_parts.AnalysisParts.{AnalysisParts}
 use Rattle.canary_release.specs.declared.effect.Recorded.{Recorded}
 use Rattle.canary_once.specs.Contents.{Contents}
-use Rattle.canary_once.specs.Books.{BookState}
+use Rattle.canary_once.specs.BookCalls.{BookState}
 use Rattle.canary_once.specs.declared.record.RunRecord.{RunRecord}
 use Rattle.canary_once.specs.Records.{past_of, record_numbered, measurements_of}
 use Rattle.canary_files.specs.declared.export.ExportFault.{ExportFault}

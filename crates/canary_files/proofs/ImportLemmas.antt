@@ -4,13 +4,13 @@ use Rattle.std.specs.Prelude.{Result, Ok, Err}
 use Rattle.std.specs.Io.KnownBytes.{Appends}
 use Rattle.std.proofs.lemmas.List.{append-nil, append_assoc, length-append, length-map, map-append}
 use Rattle.canary_once.specs.Laws.{RunsOn}
-use Rattle.canary_files.specs.declared.writing.WriteFault.{WriteFault}
+use Rattle.canary_files.specs.declared.writing.CsvWriteFault.{CsvWriteFault}
 use Rattle.canary_files.specs.declared.import.ImportFault.{ImportFault}
 use Rattle.canary_files.specs.declared.import.ImportFault.TheVariants as fault
 use Rattle.canary_files.specs.declared.reading.FileReader.{FileReader}
 use Rattle.canary_files.specs.Writes.{Known, Writes}
 use Rattle.canary_files.specs.Rows.{header, is_header}
-use Rattle.canary_files.specs.RowExchanges.{Exchange, rows_of, lines_from, lines, told_line, Point, Exchanges, Went}
+use Rattle.canary_files.specs.RowExchanges.{Exchange, rows_of, lines_from, lines, told_line, DeskState, HandledOne, HandledAll}
 use Rattle.canary_files.specs.Taking.{Fields, HasTaken, TakesNext, taken_of, spare_of}
 use Rattle.canary_files.specs.Importing.{Answers, ImportsSome, ImportsTo, KeepsBook, IsSoFar}
 use Rattle.canary_files.proofs.WriteLemmas.{appends_none, appends_more, writes_all}
@@ -20,30 +20,30 @@ use Rattle.canary_files.proofs.HeaderLemmas.{header_is, header_not}
 
 -- ---- lines
 
-lines_more : (k n : ℕ) (xs : List Exchange) (x : Exchange) → k + length xs ≡ n → lines_from k (xs ++ x ∷ []) ≡ lines_from k xs ++ told_line n x.handling
-lines_more k n [] x e = let same : k ≡ n = omega arith in append-nil (told_line k x.handling) ∙ ap (λ m. told_line m x.handling) same
+lines_more : (k n : ℕ) (xs : List Exchange) (x : Exchange) → k + length xs ≡ n → lines_from k (xs ++ x ∷ []) ≡ lines_from k xs ++ told_line n x.disposition
+lines_more k n [] x e = let same : k ≡ n = omega arith in append-nil (told_line k x.disposition) ∙ ap (λ m. told_line m x.disposition) same
 lines_more k n (y ∷ ys) x e =
     let next : k + 1 + length ys ≡ n = omega arith in
-    ap (λ t. told_line k y.handling ++ t) (lines_more (k + 1) n ys x next) ∙ sym (append_assoc (told_line k y.handling) (lines_from (k + 1) ys) (told_line n x.handling))
+    ap (λ t. told_line k y.disposition ++ t) (lines_more (k + 1) n ys x next) ∙ sym (append_assoc (told_line k y.disposition) (lines_from (k + 1) ys) (told_line n x.disposition))
 
 -- ---- the book
 
-pub keeps_of : (p q : Point) (xs : List Exchange) → Went p q xs → KeepsBook p.book q.book
+pub keeps_of : (p q : DeskState) (xs : List Exchange) → HandledAll p q xs → KeepsBook p.book q.book
 keeps_of p q xs went = record { honest = went.honest; in_memory = went.in_memory; sure = went.sure.0; sound = went.sound; receipts = went.receipts }
 
-pub answers_of_went : RunsOn → (w w1 : Known) (p q : Point) (xs : List Exchange) → Went p q xs → Appends w w1 (lines xs) → Answers w w1 p q (rows_of xs)
+pub answers_of_went : RunsOn → (w w1 : Known) (p q : DeskState) (xs : List Exchange) → HandledAll p q xs → Appends w w1 (lines xs) → Answers w w1 p q (rows_of xs)
 answers_of_went goes w w1 p q xs went written = record { exchanges = xs; are = refl; holds = holds_of goes p q xs went; written = written }
 
-pub answers_none : RunsOn → (w : Known) (p : Point) → Answers w w p p []
+pub answers_none : RunsOn → (w : Known) (p : DeskState) → Answers w w p p []
 answers_none goes w p = answers_of_went goes w w p p [] (went_none p) (appends_none w)
 
 -- ---- so far
 
 module _ {S : Type 0} (left : S → Known) (spare : S → ℕ) where
-  pub so_far_none : (r : FileReader S) (w : Known) (p : Point) → taken_of r ≡ 1 → IsSoFar left r r w w p p 0
+  pub so_far_none : (r : FileReader S) (w : Known) (p : DeskState) → taken_of r ≡ 1 → IsSoFar left r r w w p p 0
   so_far_none r w p one = record { exchanges = []; many = refl; taken = one; stands = λ file s. s; went = went_none p; written = appends_none w }
 
-  module _ (r0 r1 r2 : FileReader S) (w w1 : Known) (p p1 : Point) (n : ℕ) (so : IsSoFar left r0 r1 w w1 p p1 n) (fields : Fields) where
+  module _ (r0 r1 r2 : FileReader S) (w w1 : Known) (p p1 : DeskState) (n : ℕ) (so : IsSoFar left r0 r1 w w1 p p1 n) (fields : Fields) where
     rows_more : (x : Exchange) → x.fields ≡ fields → rows_of so.exchanges ++ fields ∷ [] ≡ rows_of (so.exchanges ++ x ∷ [])
     rows_more x same = ap (λ (f : Fields). rows_of so.exchanges ++ f ∷ []) (sym same) ∙ sym (map-append (λ (y : Exchange). y.fields) so.exchanges (x ∷ []))
 
@@ -53,11 +53,11 @@ module _ {S : Type 0} (left : S → Known) (spare : S → ℕ) where
           let P : List Fields → Type 0 = λ t. HasTaken left file r2 (header ∷ t) in
           subst P (rows_more x same) (takes file (header ∷ rows_of so.exchanges) (so.stands file s))
 
-      module _ (w2 : Known) (p2 : Point) (x : Exchange) (same : x.fields ≡ fields) (e : Exchanges p1 p2 x) where
-        went_more : Went p p2 (so.exchanges ++ x ∷ [])
+      module _ (w2 : Known) (p2 : DeskState) (x : Exchange) (same : x.fields ≡ fields) (e : HandledOne p1 p2 x) where
+        went_more : HandledAll p p2 (so.exchanges ++ x ∷ [])
         went_more = went_then p p1 p2 so.exchanges (x ∷ []) so.went (went_one p1 p2 x e)
 
-        pub so_far_more : taken_of r2 ≡ taken_of r1 + 1 → Writes {E = WriteFault} w1 w2 (told_line (n + 1) x.handling) (Ok tt) → IsSoFar left r0 r2 w w2 p p2 (n + 1)
+        pub so_far_more : taken_of r2 ≡ taken_of r1 + 1 → Writes {E = CsvWriteFault} w1 w2 (told_line (n + 1) x.disposition) (Ok tt) → IsSoFar left r0 r2 w w2 p p2 (n + 1)
         so_far_more one wrote =
             let m : length so.exchanges ≡ n = so.many in
             let number : 1 + length so.exchanges ≡ n + 1 = omega (arith, m) in
@@ -69,10 +69,10 @@ module _ {S : Type 0} (left : S → Known) (spare : S → ℕ) where
               stands = has_more x same;
               went = went_more;
               written = subst P (sym (lines_more 1 (n + 1) so.exchanges x number))
-                  (appends_more w w1 w2 (lines so.exchanges) (told_line (n + 1) x.handling) so.written (writes_all w1 w2 (told_line (n + 1) x.handling) wrote));
+                  (appends_more w w1 w2 (lines so.exchanges) (told_line (n + 1) x.disposition) so.written (writes_all w1 w2 (told_line (n + 1) x.disposition) wrote));
             }
 
-        pub so_far_until : RunsOn → (f : WriteFault) → Writes w1 w2 (told_line (n + 1) x.handling) (Err f) → (file : Known) → HasTaken left file r0 (header ∷ []) → ImportsTo file (taken_of r2) (spare_of spare r2) w w2 p p2 (Err fault.Write)
+        pub so_far_until : RunsOn → (f : CsvWriteFault) → Writes w1 w2 (told_line (n + 1) x.disposition) (Err f) → (file : Known) → HasTaken left file r0 (header ∷ []) → ImportsTo file (taken_of r2) (spare_of spare r2) w w2 p p2 (Err fault.Write)
         so_far_until goes f wrote file s =
             let m : length so.exchanges ≡ n = so.many in
             let number : length so.exchanges + 1 ≡ n + 1 = omega (arith, m) in
@@ -85,7 +85,7 @@ module _ {S : Type 0} (left : S → Known) (spare : S → ℕ) where
                 back = wrote.back;
                 begins = begins left file r2.reader (header ∷ rows_of (so.exchanges ++ x ∷ [])) (has_more x same file s).stands;
                 holds = holds_of goes p p2 (so.exchanges ++ x ∷ []) went_more;
-                line = ap (λ k. told_line k x.handling) number ∙ wrote.parts;
+                line = ap (λ k. told_line k x.disposition) number ∙ wrote.parts;
                 short = wrote.short;
                 written = appends_more w w1 w2 (lines so.exchanges) wrote.front so.written wrote.written;
               },
@@ -152,7 +152,7 @@ module _ {S : Type 0} (left : S → Known) (spare : S → ℕ) where
 
 -- ---- the header
 
-module _ {S : Type 0} (left : S → Known) (spare : S → ℕ) (file : Known) (r0 r1 : FileReader S) (w : Known) (p : Point) (s : HasTaken left file r0 []) (fields : Fields) where
+module _ {S : Type 0} (left : S → Known) (spare : S → ℕ) (file : Known) (r0 r1 : FileReader S) (w : Known) (p : DeskState) (s : HasTaken left file r0 []) (fields : Fields) where
   pub import_none : RunsOn → TakesNext left spare file r1 [] fields (Ok false) → ImportsTo file (taken_of r1) (spare_of spare r1) w w p p (Ok 0)
   import_none goes takes = (([], [], takes.0, refl, refl, answers_none goes w p), takes.1)
 

@@ -27,7 +27,7 @@ use Rattle.canary_release.specs.declared.effect.Recorded.{Recorded}
 use Rattle.canary_canonical.specs.Forms.{◌⊛◌, some_if, up_to}
 use Rattle.canary_canonical.specs.Readings.{entry_of, report_with}
 use Rattle.canary_files.specs.Rows.{whole_of, whole_in, word_in, moment_in, if_number, number_in, outcome_in, entry_in, only, report_of, row_with}
-use Rattle.canary_files.specs.declared.row.Refusal.TheVariants.{BadName}
+use Rattle.canary_files.specs.declared.row.RowRefusal.TheVariants.{BadName}
 use Rattle.canary_files.specs.Written.{row_fields, result_field, failure_field}
 use Rattle.canary_files.specs.ReadingBack.{IsKept, IsReportable, entry_for, report_for, AreReadBack}
 use Rattle.canary_files.proofs.Kept.{made_where_kept}

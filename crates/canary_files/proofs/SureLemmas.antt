@@ -11,13 +11,13 @@ use Rattle.canary_release.specs.declared.effect.Recorded.{Recorded}
 use Rattle.canary_release.specs.Pasts.{Run}
 use Rattle.canary_release.specs.Parts.{is_broken}
 use Rattle.canary_release.specs.Desks.{ModelService, RevisionMap}
-use Rattle.canary_release.specs.Shapes.{shape}
+use Rattle.canary_release.specs.Stored.{stored_form}
 use Rattle.canary_release.specs.Order.{AreNumbered, IsRun, IsInOrder, is_measured_by, is_of_some}
 use Rattle.canary_once.specs.declared.book.BookFault.{BookFault}
 use Rattle.canary_once.specs.declared.book.BookFault.TheVariants.{Memory as Out, Storage as Failed}
 use Rattle.canary_once.specs.Contents.{Contents}
 use Rattle.canary_once.specs.Sound.{AreContents}
-use Rattle.canary_once.specs.Books.{BookState, IsFault}
+use Rattle.canary_once.specs.BookCalls.{BookState, IsFault}
 use Rattle.canary_once.specs.Records.{past_in, past_of, is_numbered, record_of, measurements_of}
 use Rattle.canary_files.specs.declared.export.ExportFault.{ExportFault}
 use Rattle.canary_files.specs.Exporting.{IsExportFault, fault_of, IsPlaced, ArePlaced}
@@ -102,7 +102,7 @@ found_run templates s n (r ∷ rs) x a i e =
 few : (n : ℕ) → nat_lt 1000000 n ≡ false → n ≤ 1000000
 few n e = grind (arith, nat_tests, e)
 
-few_runs : (m : ModelService) → is_broken (shape m) ≡ false → length m.past.runs ≤ 1000000
+few_runs : (m : ModelService) → is_broken (stored_form m) ≡ false → length m.past.runs ≤ 1000000
 few_runs m e = few (length m.past.runs) (third _ _ _ _ e)
 
 -- ---- measurements

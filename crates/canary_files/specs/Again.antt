@@ -6,13 +6,13 @@ use Rattle.canary_release.specs.declared.reply.Reply.{Reply}
 use Rattle.canary_once.specs.declared.event.Answer.TheVariants.{Replied, Unavailable}
 use Rattle.canary_once.specs.Contents.{Contents, count_of, receipt_at, KeepsReceipts}
 use Rattle.canary_once.specs.Answers.{repeat_reply, ahead_reply}
-use Rattle.canary_files.specs.declared.row.Refusal.{Refusal}
+use Rattle.canary_files.specs.declared.row.RowRefusal.{RowRefusal}
 use Rattle.canary_files.specs.declared.row.Row.{Row}
-use Rattle.canary_files.specs.declared.answer.Told.{Told}
-use Rattle.canary_files.specs.declared.answer.Told.TheVariants.{Refused, Answered}
+use Rattle.canary_files.specs.declared.answer.RowReply.{RowReply}
+use Rattle.canary_files.specs.declared.answer.RowReply.TheVariants.{Refused, Answered}
 use Rattle.canary_files.specs.Writes.{Known}
 use Rattle.canary_files.specs.Rows.{row_of}
-use Rattle.canary_files.specs.RowExchanges.{Handling, refused, no_memory, posted, told_of, Exchange, rows_of, lines, Point, Holds}
+use Rattle.canary_files.specs.RowExchanges.{Disposition, refused, no_memory, posted, told_of, Exchange, rows_of, lines, DeskState, AnsweredInOrder}
 use Rattle.canary_files.specs.Taking.{Fields}
 use Rattle.canary_files.specs.Importing.{ImportsAll}
 
@@ -21,38 +21,38 @@ abbrev pub IsAhead : Reply → Type 0
 IsAhead reply = (expected : ℕ) × (reply ≡ ahead_reply expected)
 
 -- a row has its line for good: it is neither ahead of its turn nor answered 503
-abbrev pub IsLasting : Handling → Type 0
+abbrev pub IsLasting : Disposition → Type 0
 IsLasting (refused refusal) = Unit {0}
 IsLasting no_memory = ⊥
 IsLasting (posted request (Replied reply)) = IsAhead reply → ⊥
 IsLasting (posted request (Unavailable fault)) = ⊥
 
 -- it is not answered 503
-abbrev pub IsHeard : Handling → Type 0
+abbrev pub IsHeard : Disposition → Type 0
 IsHeard (refused refusal) = Unit {0}
 IsHeard no_memory = ⊥
 IsHeard (posted request (Replied reply)) = Unit {0}
 IsHeard (posted request (Unavailable fault)) = ⊥
 
 abbrev pub AllLasting : List Exchange → Type 0
-AllLasting xs = AllByRecursion (λ x. IsLasting x.handling) xs
+AllLasting xs = AllByRecursion (λ x. IsLasting x.disposition) xs
 
 abbrev pub AllHeard : List Exchange → Type 0
-AllHeard xs = AllByRecursion (λ x. IsHeard x.handling) xs
+AllHeard xs = AllByRecursion (λ x. IsHeard x.disposition) xs
 
 -- ---- what the register tells of a row
 
 -- why it is refused, or the reply that is kept under its number, if it is of the same command
-abbrev pub told_by : Contents → Result Row Refusal → Told
+abbrev pub told_by : Contents → Result Row RowRefusal → RowReply
 told_by c (Err refusal) = Refused refusal
 told_by c (Ok row) =
     Answered (Replied (repeat_reply (receipt_at c row.caller row.number) (Report row.report)))
 
-abbrev pub told_in : Contents → Fields → Told
+abbrev pub told_in : Contents → Fields → RowReply
 told_in c fields = told_by c (row_of fields)
 
 -- its number is settled, if it reads
-abbrev pub IsSettledBy : Contents → Result Row Refusal → Type 0
+abbrev pub IsSettledBy : Contents → Result Row RowRefusal → Type 0
 IsSettledBy c (Err refusal) = Unit {0}
 IsSettledBy c (Ok row) = row.number ≤ count_of c row.caller
 
@@ -66,30 +66,31 @@ IsSettledRow c fields = IsSettledBy c (row_of fields)
 abbrev pub AreTold : Contents → List Exchange → Type 0
 AreTold c xs =
     AllByRecursion
-    (λ x. IsLasting x.handling
-    → (told_of x.handling ≡ told_in c x.fields) × IsSettledRow c x.fields) xs
+    (λ x. IsLasting x.disposition
+    → (told_of x.disposition ≡ told_in c x.fields) × IsSettledRow c x.fields) xs
 
 -- so it is of the contents behind rows that were answered
-abbrev pub TellsAfterwards : Point → Point → Type 0
+abbrev pub TellsAfterwards : DeskState → DeskState → Type 0
 TellsAfterwards p q =
-    (xs : List Exchange) → Holds p q xs → q.book.is_honest → AreTold q.book.contents xs
+    (xs : List Exchange) → AnsweredInOrder p q xs → q.book.is_honest → AreTold q.book.contents xs
 
 -- rows whose numbers are settled, or that do not read, change nothing, and have the lines of the
 -- register of the contents, 503 aside
-abbrev pub TellsSettled : Point → Point → Type 0
+abbrev pub TellsSettled : DeskState → DeskState → Type 0
 TellsSettled p q =
-    (xs : List Exchange) → Holds p q xs → q.book.is_honest
+    (xs : List Exchange) → AnsweredInOrder p q xs → q.book.is_honest
     → AllByRecursion (λ x. IsSettledRow p.book.contents x.fields) xs
     → (q.book.contents ≡ p.book.contents)
     × AllByRecursion
-    (λ x. IsHeard x.handling → told_of x.handling ≡ told_in p.book.contents x.fields) xs
+    (λ x. IsHeard x.disposition → told_of x.disposition ≡ told_in p.book.contents x.fields) xs
 
 -- row by row: where a row had its line for good, it has it again, 503 aside
 abbrev pub SameLines : List Exchange → List Exchange → Type 0
 SameLines [] ys = Unit {0}
 SameLines (x ∷ xs) [] = ⊥
 SameLines (x ∷ xs) (y ∷ ys) =
-    (IsLasting x.handling → IsHeard y.handling → told_of y.handling ≡ told_of x.handling)
+    (IsLasting x.disposition → IsHeard y.disposition → told_of y.disposition
+    ≡ told_of x.disposition)
     × SameLines xs ys
 
 -- rows that were answered twice, the second time from these contents to those
@@ -101,7 +102,7 @@ pub record IsAgain (c new : Contents) (first second : List Exchange) : Type 0 wh
 
 -- a file that was imported to its end from p to q is imported to its end again, from r to s, the
 -- receipts of q being kept in r (part 5 of an import is what came of its rows)
-abbrev pub ImportsAgain : Point → Point → Point → Point → Type 0
+abbrev pub ImportsAgain : DeskState → DeskState → DeskState → DeskState → Type 0
 ImportsAgain p q r s =
     (bytes : List ℕ) (u v w x : Known) (m n : ℕ) (first : ImportsAll (Some bytes) u v p q m)
     (second : ImportsAll (Some bytes) w x r s n)

@@ -12,10 +12,10 @@ use Rattle.canary_once.specs.declared.book.BookFault.TheVariants.{Memory as Out,
 use Rattle.canary_once.specs.declared.record.RunRecord.{RunRecord}
 use Rattle.canary_once.specs.Records.{past_of, record_numbered}
 use Rattle.canary_once.specs.Contents.{Contents}
-use Rattle.canary_once.specs.Books.{BookState, StaysInMemory}
+use Rattle.canary_once.specs.BookCalls.{BookState, StaysInMemory}
 use Rattle.canary_files.specs.declared.export.ExportFault.{ExportFault}
 use Rattle.canary_files.specs.declared.export.ExportFault.TheVariants.{Memory, Storage, Write, TooMany, UnknownService}
-use Rattle.canary_files.specs.declared.export.Placed.{Placed}
+use Rattle.canary_files.specs.declared.export.RunAnalysis.{RunAnalysis}
 use Rattle.canary_files.specs.Writes.{Known}
 use Rattle.canary_files.specs.Written.{file_of}
 
@@ -71,7 +71,7 @@ pub record Reads {A : Type 0} (told : Contents → A) (old new : BookState)
   pub value : new.is_honest → IfOk found (λ x. x ≡ told old.contents)
 
 -- what is kept of a run is what the book says of it
-abbrev pub IsLatest : BookState → List ℕ → Option Placed → Type 0
+abbrev pub IsLatest : BookState → List ℕ → Option RunAnalysis → Type 0
 IsLatest now service None = Unit {0}
 IsLatest now service (Some p) =
     now.is_honest → analysis_in now.contents service p.run ≡ Some p.analysis

@@ -3,13 +3,13 @@ use Rattle.std.specs.Prelude.{◌≡◌, ◌≢◌, ◌⊎◌, ℕ, ◌+◌, ◌
 use Rattle.std.specs.Io.KnownBytes.{Appends}
 use Rattle.canary_once.specs.Contents.{KeepsReceipts}
 use Rattle.canary_once.specs.Sound.{AreSoundContents}
-use Rattle.canary_once.specs.Books.{BookState, StaysInMemory}
+use Rattle.canary_once.specs.BookCalls.{BookState, StaysInMemory}
 use Rattle.canary_files.specs.declared.import.ImportFault.{ImportFault}
 use Rattle.canary_files.specs.declared.import.ImportFault.TheVariants as fault
 use Rattle.canary_files.specs.declared.reading.FileReader.{FileReader}
 use Rattle.canary_files.specs.Writes.{Known}
 use Rattle.canary_files.specs.Rows.{header}
-use Rattle.canary_files.specs.RowExchanges.{Exchange, rows_of, lines, told_line, Point, Holds, Went}
+use Rattle.canary_files.specs.RowExchanges.{Exchange, rows_of, lines, told_line, DeskState, AnsweredInOrder, HandledAll}
 use Rattle.canary_files.specs.Taking.{Fields, BeginsWith, HasRecords, HasTaken, taken_of}
 
 -- the first record is the header, and the others are the rows; without any record there are no rows
@@ -21,52 +21,53 @@ AreDataRows (first ∷ rest) rows = (first ≡ header) × (rows ≡ rest)
 
 -- (here `w` is what the writer holds)
 -- these rows were answered, one after another, and their lines were written
-pub record Answers (w new_w : Known) (old new : Point) (rows : List Fields) : Type 0 where
+pub record Answers (w new_w : Known) (old new : DeskState) (rows : List Fields) : Type 0 where
   pub exchanges : List Exchange
   pub are : rows ≡ rows_of exchanges
-  pub holds : Holds old new exchanges
+  pub holds : AnsweredInOrder old new exchanges
   pub written : Appends w new_w (lines exchanges)
 
 -- so were all rows of a file
-abbrev pub ImportsAll : Known → Known → Known → Point → Point → ℕ → Type 0
+abbrev pub ImportsAll : Known → Known → Known → DeskState → DeskState → ℕ → Type 0
 ImportsAll file w new_w old new count =
     (records : List Fields) × (rows : List Fields)
     × HasRecords file records × AreDataRows records rows
     × (count ≡ length rows) × Answers w new_w old new rows
 
 -- so were the first rows of a file of which so many records were taken: all these
-abbrev pub ImportsSome : Known → ℕ → Known → Known → Point → Point → Type 0
+abbrev pub ImportsSome : Known → ℕ → Known → Known → DeskState → DeskState → Type 0
 ImportsSome file taken w new_w old new =
     (records : List Fields) × (rows : List Fields)
     × BeginsWith file records × AreDataRows records rows × Answers w new_w old new rows
     × (taken ≡ length records)
 
 -- so were the first rows of a file, but that the writer failed in the midst of the last one's line
-pub record ImportsUntil (file w new_w : Known) (old new : Point) : Type 0 where
+pub record ImportsUntil (file w new_w : Known) (old new : DeskState) : Type 0 where
   pub exchanges : List Exchange
   pub last : Exchange
   pub front : List ℕ
   pub back : List ℕ
   pub begins : BeginsWith file (header ∷ rows_of (exchanges ++ last ∷ []))
-  pub holds : Holds old new (exchanges ++ last ∷ [])
-  pub line : told_line (length exchanges + 1) last.handling ≡ front ++ back
+  pub holds : AnsweredInOrder old new (exchanges ++ last ∷ [])
+  pub line : told_line (length exchanges + 1) last.disposition ≡ front ++ back
   pub short : 0 < length back
   pub written : Appends w new_w (lines exchanges ++ front)
 
 -- the first record of a file is not the header, and nothing was done
-abbrev pub HasNoHeader : Known → Known → Known → Point → Point → Type 0
+abbrev pub HasNoHeader : Known → Known → Known → DeskState → DeskState → Type 0
 HasNoHeader file w new_w old new =
     (first : Fields) × BeginsWith file (first ∷ []) × (first ≢ header) × Answers w new_w old new []
 
 -- 1,000,000 rows of a file were answered, and it has one more
-abbrev pub ImportsTooMany : Known → Known → Known → Point → Point → Type 0
+abbrev pub ImportsTooMany : Known → Known → Known → DeskState → DeskState → Type 0
 ImportsTooMany file w new_w old new =
     (rows : List Fields) × (more : Fields) × BeginsWith file (header ∷ rows ++ more ∷ [])
     × (length rows ≡ 1000000) × Answers w new_w old new rows
 
 -- what it did, by how it ended, how many records were taken, and how many more bytes are asked for
 -- at most: the reader failed if there are some, and the most bytes were read if there are none
-abbrev pub ImportsTo : Known → ℕ → ℕ → Known → Known → Point → Point → Result ℕ ImportFault → Type 0
+abbrev pub ImportsTo : Known → ℕ → ℕ → Known → Known → DeskState → DeskState → Result ℕ ImportFault
+    → Type 0
 ImportsTo file taken spare w new_w old new (Ok count) =
     (all : ImportsAll file w new_w old new count) × (taken ≡ length all.0)
 ImportsTo file taken spare w new_w old new (Err fault.Read) =
@@ -93,11 +94,11 @@ pub record KeepsBook (old new : BookState) : Type 0 where
 
 -- since a file was at its header these rows were answered, and they are all that were taken
 pub record IsSoFar {S : Type 0} (left : S → Known) (first now : FileReader S) (w now_w : Known)
-    (old new : Point) (count : ℕ) : Type 0 where
+    (old new : DeskState) (count : ℕ) : Type 0 where
   pub exchanges : List Exchange
   pub many : length exchanges ≡ count
   pub taken : taken_of now ≡ count + 1
   pub stands : (file : Known) → HasTaken left file first (header ∷ [])
       → HasTaken left file now (header ∷ rows_of exchanges)
-  pub went : Went old new exchanges
+  pub went : HandledAll old new exchanges
   pub written : Appends w now_w (lines exchanges)

@@ -13,8 +13,8 @@ use Rattle.canary_plan.specs.declared.report.Entry.{Entry}
 use Rattle.canary_plan.specs.declared.report.Report.{Report}
 use Rattle.canary_canonical.specs.Forms.{◌⊛◌, some_if, up_to}
 use Rattle.canary_canonical.specs.Readings.{entry_of, report_with}
-use Rattle.canary_files.specs.declared.row.Refusal.{Refusal}
-use Rattle.canary_files.specs.declared.row.Refusal.TheVariants.{Unreadable, BadName, BadNumber}
+use Rattle.canary_files.specs.declared.row.RowRefusal.{RowRefusal}
+use Rattle.canary_files.specs.declared.row.RowRefusal.TheVariants.{Unreadable, BadName, BadNumber}
 use Rattle.canary_files.specs.declared.row.Row.{Row}
 
 -- the first record of a file
@@ -115,14 +115,14 @@ report_of fields = option_flatten (Some report_with
     ⊛ word_in (field fields 3)
     ⊛ entries_in fields)
 
-abbrev pub row_with : List ℕ → Option ℕ → Option Report → Result Row Refusal
+abbrev pub row_with : List ℕ → Option ℕ → Option Report → Result Row RowRefusal
 row_with caller None report = Err BadNumber
 row_with caller (Some number) None = Err Unreadable
 row_with caller (Some number) (Some report) =
     Ok (record { caller = caller; number = number; report = report })
 
 -- the request that a row is, or the first reason to refuse it
-abbrev pub row_of : List (List ℕ) → Result Row Refusal
+abbrev pub row_of : List (List ℕ) → Result Row RowRefusal
 row_of fields =
     if not (length fields == 9) then Err Unreadable
     else (if not (is_name (field fields 0)) then Err BadName

@@ -3,14 +3,14 @@ ghost use Rattle.std.specs.Prelude.{◌≡◌, ◌≤◌, ◌++◌, ℕ, List, c
 ghost use Rattle.csv.specs.Records.{fields_of};
 ghost use Rattle.canary_files.specs.Lines.{refusal_code, told_status, told_body, line_front};
 ghost use Rattle.canary_files.specs.Lines.{line_of};
-ghost use Rattle.canary_files.specs.RowExchanges.{Handling, Exchange, Exchanges, Books};
-ghost use Rattle.canary_files.specs.RowExchanges.{told_of, told_line, IsHandling, point};
+ghost use Rattle.canary_files.specs.RowExchanges.{Disposition, Exchange, HandledOne, BookStep};
+ghost use Rattle.canary_files.specs.RowExchanges.{told_of, told_line, IsDisposition, desk_state};
 ghost use Rattle.canary_files.specs.Rows.{row_of};
 ghost use Rattle.canary_files.specs.Writes.{Writes};
 ghost use Rattle.canary_release.specs.Replies.{code_alone};
 
-use crate::row::{Refusal, Row, RowFault, row_of};
-use crate::writing::{WriteFault, write_all};
+use crate::row::{CsvFault, Row, RowRefusal, row_of};
+use crate::writing::{CsvWriteFault, write_all};
 use arrayvec::ArrayString;
 use canary_base::moments::Moment;
 use canary_once::book::Book;
@@ -32,21 +32,21 @@ const LINE_ROOM: usize = ROOM + BODY_ROOM + 1;
 
 // What the line of a row tells.
 #[derive(Drop)]
-pub(crate) enum Told {
-    Refused(Refusal),
+pub(crate) enum RowReply {
+    Refused(RowRefusal),
     NoMemory,
     Answered(Answer),
 }
 
-impl Told {
+impl RowReply {
     // The status in the line: 400 of a refusal, 503 if memory ran out, or that of the answer.
     fn status(&self) -> u16
         ensures { result ≡ told_status self.now }
     {
         match self {
-            Told::Refused(_) => 400,
-            Told::NoMemory => 503,
-            Told::Answered(answer) => answer.status(),
+            RowReply::Refused(_) => 400,
+            RowReply::NoMemory => 503,
+            RowReply::Answered(answer) => answer.status(),
         }
     }
 
@@ -55,21 +55,21 @@ impl Told {
         ensures { result.now ≡ told_body self.now }
     {
         match self {
-            Told::Refused(refusal) => refusal_body(*refusal),
-            Told::NoMemory => "{\"code\":\"no-memory\"}",
-            Told::Answered(answer) => answer.body(),
+            RowReply::Refused(refusal) => refusal_body(*refusal),
+            RowReply::NoMemory => "{\"code\":\"no-memory\"}",
+            RowReply::Answered(answer) => answer.body(),
         }
     }
 }
 
 // The body of a refused row: an object in JSON with its code alone.
-fn refusal_body(refusal: Refusal) -> &'static str
+fn refusal_body(refusal: RowRefusal) -> &'static str
     ensures { result.now ≡ code_alone (refusal_code refusal) }
 {
     match refusal {
-        Refusal::Unreadable => "{\"code\":\"unreadable\"}",
-        Refusal::BadName => "{\"code\":\"bad-name\"}",
-        Refusal::BadNumber => "{\"code\":\"bad-number\"}",
+        RowRefusal::Unreadable => "{\"code\":\"unreadable\"}",
+        RowRefusal::BadName => "{\"code\":\"bad-name\"}",
+        RowRefusal::BadNumber => "{\"code\":\"bad-number\"}",
     }
 }
 
@@ -82,13 +82,13 @@ pub(crate) fn answer_row<W: Write, C: Clock, B: Book>(
     writer: &mut W,
     clock: &mut C,
     book: &mut B,
-) -> Result<(), WriteFault>
+) -> Result<(), CsvWriteFault>
     ensures { (x : Exchange) × (x.fields ≡ fields_of fields.now)
-        × Exchanges
-        (point (C.tells clock.old) (B.state book.old))
-        (point (C.tells clock.new) (B.state book.new)) x
+        × HandledOne
+        (desk_state (C.tells clock.old) (B.state book.old))
+        (desk_state (C.tells clock.new) (B.state book.new)) x
         × Writes (W.contents writer.old) (W.contents writer.new)
-        (told_line number x.handling) result }
+        (told_line number x.disposition) result }
 {
     let moment = clock.now();
     let told = handle(alloc, fields, moment, book);
@@ -96,23 +96,23 @@ pub(crate) fn answer_row<W: Write, C: Clock, B: Book>(
 }
 
 // Handles a row at a moment, and answers what its line is to tell.
-fn handle<B: Book>(alloc: Global, fields: &ByteRecord, moment: Moment, book: &mut B) -> Told
-    ensures { (h : Handling) × (result ≡ told_of h)
-        × IsHandling (fields_of fields.now) moment h
-        × Books (B.state book.old) (B.state book.new) h }
+fn handle<B: Book>(alloc: Global, fields: &ByteRecord, moment: Moment, book: &mut B) -> RowReply
+    ensures { (h : Disposition) × (result ≡ told_of h)
+        × IsDisposition (fields_of fields.now) moment h
+        × BookStep (B.state book.old) (B.state book.new) h }
 {
     match row_of(alloc, fields) {
         Ok(row) => post_row(alloc, row, moment, book),
-        Err(RowFault::Refused(refusal)) => Told::Refused(refusal),
-        Err(RowFault::Memory) => Told::NoMemory,
+        Err(CsvFault::Refused(refusal)) => RowReply::Refused(refusal),
+        Err(CsvFault::Memory) => RowReply::NoMemory,
     }
 }
 
 // The same where the row is a request.
-fn post_row<B: Book>(alloc: Global, row: Row, moment: Moment, book: &mut B) -> Told
-    ensures { (fields : List (List ℕ)) → row_of fields ≡ Ok row → (h : Handling)
-        × (result ≡ told_of h) × IsHandling fields moment h
-        × Books (B.state book.old) (B.state book.new) h }
+fn post_row<B: Book>(alloc: Global, row: Row, moment: Moment, book: &mut B) -> RowReply
+    ensures { (fields : List (List ℕ)) → row_of fields ≡ Ok row → (h : Disposition)
+        × (result ≡ told_of h) × IsDisposition fields moment h
+        × BookStep (B.state book.old) (B.state book.new) h }
 {
     let Row {
         caller,
@@ -120,12 +120,12 @@ fn post_row<B: Book>(alloc: Global, row: Row, moment: Moment, book: &mut B) -> T
         report,
     } = row;
     let command = Command::Report(report);
-    Told::Answered(post(alloc, book, moment, caller, number, &command))
+    RowReply::Answered(post(alloc, book, moment, caller, number, &command))
 }
 
 // Writes the line of a row, at once if its body is short. It takes no memory. What went out before
 // a fault are the first bytes of the line.
-fn write_line<W: Write>(writer: &mut W, number: u64, told: &Told) -> Result<(), WriteFault>
+fn write_line<W: Write>(writer: &mut W, number: u64, told: &RowReply) -> Result<(), CsvWriteFault>
     ensures { Writes (W.contents writer.old) (W.contents writer.new)
         (line_of number (told_status told.now) (told_body told.now)) result }
 {
@@ -149,7 +149,7 @@ fn whole_line(number: u64, status: u16, body: &str) -> ArrayString<LINE_ROOM>
 }
 
 // Writes the line of a row, part after part.
-fn write_parts<W: Write>(writer: &mut W, number: u64, told: &Told) -> Result<(), WriteFault>
+fn write_parts<W: Write>(writer: &mut W, number: u64, told: &RowReply) -> Result<(), CsvWriteFault>
     ensures { Writes (W.contents writer.old) (W.contents writer.new)
         (line_of number (told_status told.now) (told_body told.now)) result }
 {
@@ -173,7 +173,7 @@ fn line_front(number: u64, status: u16) -> ArrayString<ROOM>
 }
 
 // Writes a text, ended with LF.
-fn write_ended<W: Write>(writer: &mut W, text: &str) -> Result<(), WriteFault>
+fn write_ended<W: Write>(writer: &mut W, text: &str) -> Result<(), CsvWriteFault>
     ensures { Writes (W.contents writer.old) (W.contents writer.new)
         (text.now ++ codes "\n") result }
 {

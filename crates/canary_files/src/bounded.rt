@@ -7,7 +7,7 @@ use std::io;
 use std::io::{ErrorKind, Read};
 
 /// Once so many bytes of a file were read, no more are asked for.
-pub const MOST_BYTES: u64 = 1_000_000_000;
+pub const MAX_BYTES: u64 = 1_000_000_000;
 
 /// A reader of which so many bytes at most are asked for.
 pub trait Limited {

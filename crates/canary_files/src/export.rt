@@ -11,7 +11,7 @@ ghost use Rattle.canary_files.specs.Exporting.{IsExportFault, ArePlaced, IsPlace
 ghost use Rattle.canary_files.specs.Exporting.{HasRun};
 
 use crate::records::Records;
-use crate::writing::{WriteFault, write_all};
+use crate::writing::{CsvWriteFault, write_all};
 use canary_base::error::Memory;
 use canary_base::lists::Listed;
 use canary_base::names::{Label, Name};
@@ -24,7 +24,7 @@ use std::io::Write;
 use thiserror::Error;
 
 /// The most measurements that are exported.
-pub const MOST_ROWS: u64 = 1_000_000_000;
+pub const MAX_ROWS: u64 = 1_000_000_000;
 
 // How many measurements are read and written at once.
 const ROWS_AT_ONCE: u32 = 32_768;
@@ -76,7 +76,7 @@ impl From<BookFault> for ExportFault {
 
 // Whose measurements are written, under which caller.
 #[derive(Clone, Copy)]
-struct Source {
+struct ExportSource {
     caller: Name,
     service: Name,
 }
@@ -84,7 +84,7 @@ struct Source {
 // A run, by its number, and its analysis, which has the names of the metrics. That of the last row
 // is kept, so that the book is asked once a run and not once a row.
 #[derive(Drop)]
-struct Placed {
+struct RunAnalysis {
     run: u32,
     analysis: BoundAnalysis,
 }
@@ -111,7 +111,7 @@ pub fn export<W: Write, B: Book>(
         (file_in (B.state book.old).contents service caller) result }
     ensures rows { (B.state book.new).is_honest → IfOk result (λ rows.
         (rows ≡ length (recorded_of (B.state book.old).contents service))
-        × (rows ≤ MOST_ROWS)) }
+        × (rows ≤ MAX_ROWS)) }
     ensures why { (B.state book.new).is_honest
         → IfErr result (Tells (B.state book.old).contents service) }
     ensures sure { (B.state book.new).is_honest
@@ -123,7 +123,7 @@ pub fn export<W: Write, B: Book>(
 {
     find_service(book, &service)?;
     write_header(alloc, out)?;
-    let source = Source { caller, service };
+    let source = ExportSource { caller, service };
     write_rows(alloc, book, &source, out)
 }
 
@@ -157,7 +157,7 @@ fn write_header<W: Write>(alloc: Global, out: &mut W) -> Result<(), ExportFault>
 fn write_rows<W: Write, B: Book>(
     alloc: Global,
     book: &mut B,
-    source: &Source,
+    source: &ExportSource,
     out: &mut W,
 ) -> Result<u64, ExportFault>
     ensures stays { Stays (B.state book.old) (B.state book.new) }
@@ -168,7 +168,7 @@ fn write_rows<W: Write, B: Book>(
         0 (recorded_of (B.state book.old).contents source.now.service)) result }
     ensures rows { (B.state book.new).is_honest → IfOk result (λ rows.
         (rows ≡ length (recorded_of (B.state book.old).contents source.now.service))
-        × (rows ≤ MOST_ROWS)) }
+        × (rows ≤ MAX_ROWS)) }
     ensures why { (B.state book.new).is_honest
         → IfErr result (TellsPage
         (length (recorded_of (B.state book.old).contents source.now.service))) }
@@ -190,12 +190,12 @@ fn write_rows<W: Write, B: Book>(
 fn write_page<W: Write, B: Book>(
     alloc: Global,
     book: &mut B,
-    source: &Source,
-    latest: &mut Option<Placed>,
+    source: &ExportSource,
+    latest: &mut Option<RunAnalysis>,
     from: u64,
     out: &mut W,
 ) -> Result<u64, ExportFault>
-    requires some { from ≤ MOST_ROWS }
+    requires some { from ≤ MAX_ROWS }
     requires latest { IsLatest (B.state book.old) source.now.service latest.old }
     ensures stays { Stays (B.state book.old) (B.state book.new) }
     ensures latest { OnOk result
@@ -209,7 +209,7 @@ fn write_page<W: Write, B: Book>(
     ensures rows { (B.state book.new).is_honest → IfOk result (λ rows.
         rows ≡ from + length
         (measurements_of (B.state book.old).contents source.now.service from 32768)) }
-    ensures grows { IfOk result (λ rows. (from ≤ rows) × (rows ≤ MOST_ROWS)) }
+    ensures grows { IfOk result (λ rows. (from ≤ rows) × (rows ≤ MAX_ROWS)) }
     ensures why { (B.state book.new).is_honest → IfErr result (TellsPage
         (from + length
         (measurements_of (B.state book.old).contents source.now.service from 32768))) }
@@ -224,13 +224,13 @@ fn write_page<W: Write, B: Book>(
 fn write_measurements<W: Write, B: Book>(
     alloc: Global,
     book: &mut B,
-    source: &Source,
-    latest: &mut Option<Placed>,
+    source: &ExportSource,
+    latest: &mut Option<RunAnalysis>,
     from: u64,
     page: &[Recorded],
     out: &mut W,
 ) -> Result<u64, ExportFault>
-    requires some { from ≤ MOST_ROWS }
+    requires some { from ≤ MAX_ROWS }
     requires latest { IsLatest (B.state book.old) source.now.service latest.old }
     ensures stays { Stays (B.state book.old) (B.state book.new) }
     ensures latest { OnOk result
@@ -240,13 +240,13 @@ fn write_measurements<W: Write, B: Book>(
         (rows_text source.now.caller source.now.service
         (name_of (past_of (B.state book.old).contents source.now.service))
         from page.now) result }
-    ensures rows { IfOk result (λ rows. (rows ≡ from + length page.now) × (rows ≤ MOST_ROWS)) }
+    ensures rows { IfOk result (λ rows. (rows ≡ from + length page.now) × (rows ≤ MAX_ROWS)) }
     ensures why { IfErr result (TellsPage (from + length page.now)) }
     ensures sure { (B.state book.new).is_honest
         → ArePlaced (past_of (B.state book.old).contents source.now.service) page.now
         → IfErr result (IsExportFault (B.state book.old).is_sure) }
 {
-    if page.len() as u64 > MOST_ROWS - from {
+    if page.len() as u64 > MAX_ROWS - from {
         return Err(ExportFault::TooMany);
     }
     let text = rows_text(alloc, book, source, latest, from, page)?;
@@ -258,12 +258,12 @@ fn write_measurements<W: Write, B: Book>(
 fn rows_text<B: Book>(
     alloc: Global,
     book: &mut B,
-    source: &Source,
-    latest: &mut Option<Placed>,
+    source: &ExportSource,
+    latest: &mut Option<RunAnalysis>,
     from: u64,
     page: &[Recorded],
 ) -> Result<Listed<u8>, ExportFault>
-    requires some { from + length page.now ≤ MOST_ROWS }
+    requires some { from + length page.now ≤ MAX_ROWS }
     requires latest { IsLatest (B.state book.old) source.now.service latest.old }
     ensures latest { OnOk result
         (IsLatest (B.state book.new) source.now.service latest.new) }
@@ -287,8 +287,8 @@ fn rows_text<B: Book>(
 fn with_row<B: Book>(
     alloc: Global,
     book: &mut B,
-    source: &Source,
-    latest: &mut Option<Placed>,
+    source: &ExportSource,
+    latest: &mut Option<RunAnalysis>,
     records: Records,
     number: u64,
     recorded: &Recorded,
@@ -313,8 +313,8 @@ fn with_row<B: Book>(
 // The name of the metric of a measurement.
 fn metric_name<B: Book>(
     book: &mut B,
-    source: &Source,
-    latest: &mut Option<Placed>,
+    source: &ExportSource,
+    latest: &mut Option<RunAnalysis>,
     recorded: &Recorded,
 ) -> Result<Label, ExportFault>
     requires { IsLatest (B.state book.old) source.now.service latest.old }
@@ -328,7 +328,7 @@ fn metric_name<B: Book>(
         → IsPlaced (past_of (B.state book.old).contents source.now.service) recorded.now
         → IfErr result (IsExportFault (B.state book.old).is_sure) }
 {
-    let placed = place_of(book, source, latest.take(), recorded.run)?;
+    let placed = analysis_for(book, source, latest.take(), recorded.run)?;
     let name = name_at(&placed.analysis, recorded.metric);
     *latest = Some(placed);
     match name {
@@ -338,12 +338,12 @@ fn metric_name<B: Book>(
 }
 
 // The analysis of a run, which is asked for where it is not that of the last row.
-fn place_of<B: Book>(
+fn analysis_for<B: Book>(
     book: &mut B,
-    source: &Source,
-    latest: Option<Placed>,
+    source: &ExportSource,
+    latest: Option<RunAnalysis>,
     run: u32,
-) -> Result<Placed, ExportFault>
+) -> Result<RunAnalysis, ExportFault>
     requires { IsLatest (B.state book.old) source.now.service latest }
     ensures stays { Stays (B.state book.old) (B.state book.new) }
     ensures placed { IfOk result (λ placed. (placed.run ≡ run)
@@ -362,7 +362,7 @@ fn place_of<B: Book>(
         return Err(ExportFault::Storage);
     };
     match book.run(&source.service, number)? {
-        Some(record) => Ok(Placed {
+        Some(record) => Ok(RunAnalysis {
             run,
             analysis: record.analysis,
         }),
@@ -385,6 +385,6 @@ fn put<W: Write>(out: &mut W, text: &Listed<u8>) -> Result<(), ExportFault>
 {
     match write_all(out, text.as_slice()) {
         Ok(()) => Ok(()),
-        Err(WriteFault) => Err(ExportFault::Write),
+        Err(CsvWriteFault) => Err(ExportFault::Write),
     }
 }

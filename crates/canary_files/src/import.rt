@@ -2,7 +2,7 @@
 ghost use Rattle.std.specs.Prelude.{◌≡◌, ◌≢◌, ◌≤◌, ◌∷◌, [], Ok, Err, IfOk};
 ghost use Rattle.canary_files.specs.Writes.{Known};
 ghost use Rattle.canary_files.specs.Rows.{header};
-ghost use Rattle.canary_files.specs.RowExchanges.{point};
+ghost use Rattle.canary_files.specs.RowExchanges.{desk_state};
 ghost use Rattle.canary_files.specs.Taking.{HasTaken, taken_of, spare_of};
 ghost use Rattle.canary_files.specs.Importing.{ImportsTo, KeepsBook};
 
@@ -19,7 +19,7 @@ use std::io::{Read, Write};
 use thiserror::Error;
 
 /// The most rows of one file.
-pub const MOST_ROWS: u64 = 1_000_000;
+pub const MAX_ROWS: u64 = 1_000_000;
 
 /// Why a file was not imported to its end.
 #[derive(Clone, Copy, Debug, PartialEq, Eq, Error)]
@@ -73,11 +73,11 @@ pub fn import<S: Read + Limited, W: Write, C: Clock, B: Book>(
     ensures rows { (bytes : Known) → HasTaken S.remaining bytes file.old []
         → ImportsTo bytes (taken_of file.new) (spare_of S.spare file.new)
         (W.contents output.old) (W.contents output.new)
-        (point (C.tells clock.old) (B.state book.old))
-        (point (C.tells clock.new) (B.state book.new)) result }
+        (desk_state (C.tells clock.old) (B.state book.old))
+        (desk_state (C.tells clock.new) (B.state book.new)) result }
     ensures once { taken_of file.old ≢ 0 → (result ≡ Ok 0) × (file.new ≡ file.old)
         × (output.new ≡ output.old) × (clock.new ≡ clock.old) × (book.new ≡ book.old) }
-    ensures limit { IfOk result (λ rows. rows ≤ MOST_ROWS) }
+    ensures limit { IfOk result (λ rows. rows ≤ MAX_ROWS) }
     ensures header { result ≡ Err ImportFault.Header → (output.new ≡ output.old)
         × (clock.new ≡ clock.old) × (book.new ≡ book.old) }
     ensures kept { KeepsBook (B.state book.old) (B.state book.new) }
@@ -111,14 +111,14 @@ fn import_rows<S: Read + Limited, W: Write, C: Clock, B: Book>(
     ensures rows { (bytes : Known) → HasTaken S.remaining bytes file.old (header ∷ [])
         → ImportsTo bytes (taken_of file.new) (spare_of S.spare file.new)
         (W.contents output.old) (W.contents output.new)
-        (point (C.tells clock.old) (B.state book.old))
-        (point (C.tells clock.new) (B.state book.new)) result }
-    ensures limit { IfOk result (λ rows. rows ≤ MOST_ROWS) }
+        (desk_state (C.tells clock.old) (B.state book.old))
+        (desk_state (C.tells clock.new) (B.state book.new)) result }
+    ensures limit { IfOk result (λ rows. rows ≤ MAX_ROWS) }
     ensures headed { result ≢ Err ImportFault.Header }
     ensures kept { KeepsBook (B.state book.old) (B.state book.new) }
 {
     running_on();
-    'rows: for done in 0..MOST_ROWS {
+    'rows: for done in 0..MAX_ROWS {
         match next_record(file, fields) {
             Ok(true) => {}
             Ok(false) => return Ok(done),
@@ -130,7 +130,7 @@ fn import_rows<S: Read + Limited, W: Write, C: Clock, B: Book>(
     }
     match next_record(file, fields) {
         Ok(true) => Err(ImportFault::RowsSpent),
-        Ok(false) => Ok(MOST_ROWS),
+        Ok(false) => Ok(MAX_ROWS),
         Err(fault) => Err(fault),
     }
 }

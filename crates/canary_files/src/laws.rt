@@ -1,7 +1,7 @@
 //! Laws over the definitions alone.
 ghost use Rattle.canary_files.specs.ReadingBack.{AreReadBack, AreExportsReadBack};
 ghost use Rattle.canary_files.specs.ReadingBack.{AreFilesReadBack};
-ghost use Rattle.canary_files.specs.RowExchanges.{point};
+ghost use Rattle.canary_files.specs.RowExchanges.{desk_state};
 ghost use Rattle.canary_files.specs.Again.{TellsAfterwards, TellsSettled, ImportsAgain};
 
 use canary_once::book::Book;
@@ -31,12 +31,13 @@ pub fn files_read_back()
 /// all lines are the same, and nothing changes.
 pub fn again<C: Clock, B: Book>()
     ensures afterwards { (c d : C) (f g : B)
-        → TellsAfterwards (point (C.tells c) (B.state f)) (point (C.tells d) (B.state g)) }
+        → TellsAfterwards (desk_state (C.tells c) (B.state f))
+        (desk_state (C.tells d) (B.state g)) }
     ensures settled { (c d : C) (f g : B)
-        → TellsSettled (point (C.tells c) (B.state f)) (point (C.tells d) (B.state g)) }
+        → TellsSettled (desk_state (C.tells c) (B.state f)) (desk_state (C.tells d) (B.state g)) }
     ensures again { (c d e h : C) (f g i j : B)
-        → ImportsAgain (point (C.tells c) (B.state f)) (point (C.tells d) (B.state g))
-        (point (C.tells e) (B.state i)) (point (C.tells h) (B.state j)) }
+        → ImportsAgain (desk_state (C.tells c) (B.state f)) (desk_state (C.tells d) (B.state g))
+        (desk_state (C.tells e) (B.state i)) (desk_state (C.tells h) (B.state j)) }
 {
     running_on();
     one_request();

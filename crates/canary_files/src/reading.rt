@@ -6,7 +6,7 @@ ghost use Rattle.canary_files.specs.Writes.{Known};
 ghost use Rattle.canary_files.specs.Taking.{StandsBehind, HasTaken, TakesNext, taken_of, IsEnd};
 ghost use Rattle.canary_files.specs.Taking.{left_of, spare_of};
 
-use crate::bounded::{Bounded, Limited, MOST_BYTES};
+use crate::bounded::{Bounded, Limited, MAX_BYTES};
 use crate::import::ImportFault;
 use csv::{ByteRecord, ErrorKind, Reader, ReaderBuilder};
 use std::alloc::Global;
@@ -23,11 +23,11 @@ pub struct FileReader<S> {
 /// A measurement file at its first record, of which 1,000,000,000 bytes are asked for at most.
 pub fn file_reader<R: Read + Drop>(alloc: Global, source: R) -> FileReader<Bounded<R>>
     ensures begins { HasTaken (λ b. R.remaining b.source) (R.remaining source) result [] }
-    ensures spare { spare_of left_of result ≡ MOST_BYTES }
+    ensures spare { spare_of left_of result ≡ MAX_BYTES }
 {
     let bounded = Bounded {
         source,
-        left: MOST_BYTES,
+        left: MAX_BYTES,
     };
     FileReader {
         reader: reader_of(alloc, bounded),

@@ -15,7 +15,7 @@ use canary_base::moments::Moment;
 use canary_base::names::{Label, Name};
 use canary_base::numbers::Number;
 use canary_canonical::form::FormFault;
-use canary_canonical::plain::{LAST_ORDINAL, LAST_RUN};
+use canary_canonical::plain::{MAX_ORDINAL, MAX_RUN};
 use canary_condition::outcome::{FailureText, Outcome, Value};
 use canary_plan::report::{Entry, Report};
 use csv::ByteRecord;
@@ -27,7 +27,7 @@ const FIELDS: usize = 9;
 
 /// Why a row is refused before the register is asked.
 #[derive(Clone, Copy, Debug, PartialEq, Eq)]
-pub enum Refusal {
+pub enum RowRefusal {
     /// It has not nine fields, or a field behind the number does not say what it is to say.
     Unreadable,
     /// The caller is an invalid name.
@@ -49,25 +49,25 @@ pub struct Row {
 
 /// Why no row was read.
 #[derive(Clone, Copy, Debug, PartialEq, Eq)]
-pub enum RowFault {
+pub enum CsvFault {
     /// It is refused.
-    Refused(Refusal),
+    Refused(RowRefusal),
     /// An allocation was refused.
     Memory,
 }
 
 /// The request that a row is, or the first reason to refuse it.
-pub fn row_of(alloc: Global, fields: &ByteRecord) -> Result<Row, RowFault>
+pub fn row_of(alloc: Global, fields: &ByteRecord) -> Result<Row, CsvFault>
     ensures { IsRowRead (row_of (fields_of fields.now)) result }
 {
     if fields.len() != FIELDS {
-        return Err(RowFault::Refused(Refusal::Unreadable));
+        return Err(CsvFault::Refused(RowRefusal::Unreadable));
     }
     let Some(caller) = Name::read(field(fields, 0)) else {
-        return Err(RowFault::Refused(Refusal::BadName));
+        return Err(CsvFault::Refused(RowRefusal::BadName));
     };
     let Some(number) = number_in(field(fields, 1)) else {
-        return Err(RowFault::Refused(Refusal::BadNumber));
+        return Err(CsvFault::Refused(RowRefusal::BadNumber));
     };
     match report_of(alloc, fields) {
         Ok(report) => Ok(Row {
@@ -75,8 +75,8 @@ pub fn row_of(alloc: Global, fields: &ByteRecord) -> Result<Row, RowFault>
             number,
             report,
         }),
-        Err(FormFault::Unreadable) => Err(RowFault::Refused(Refusal::Unreadable)),
-        Err(FormFault::Memory) => Err(RowFault::Memory),
+        Err(FormFault::Unreadable) => Err(CsvFault::Refused(RowRefusal::Unreadable)),
+        Err(FormFault::Memory) => Err(CsvFault::Memory),
     }
 }
 
@@ -113,7 +113,7 @@ fn report_with(service: Name, run: u32, entries: Listed<Entry>) -> Option<Report
     ensures { result ≡ report_with service run entries }
 {
     let count = entries.as_slice().len();
-    let is_within = 1 <= run && run <= LAST_RUN && 1 <= count && count <= 32;
+    let is_within = 1 <= run && run <= MAX_RUN && 1 <= count && count <= 32;
     if !is_within {
         return None;
     }
@@ -139,7 +139,7 @@ fn entry_in(alloc: Global, fields: &ByteRecord) -> Result<Entry, FormFault>
 fn entry_of(metric: Label, ordinal: u32, taken: Moment, outcome: Outcome) -> Option<Entry>
     ensures { result ≡ entry_of metric ordinal taken outcome }
 {
-    let is_within = 1 <= ordinal && ordinal <= LAST_ORDINAL;
+    let is_within = 1 <= ordinal && ordinal <= MAX_ORDINAL;
     if !is_within {
         return None;
     }

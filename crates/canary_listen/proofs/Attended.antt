@@ -8,10 +8,10 @@ use Rattle.std.proofs.lemmas.Bool.{cases_lt}
 use Rattle.std.proofs.lemmas.Bool.Decides.{eqb_tells}
 use Rattle.canary_wire.specs.Conversing.{Talk, begun, so_far, TakesTurn}
 use Rattle.canary_wire.specs.Crowds.{Turn, Crowd, all_held, IsNew, Becomes, Comes, HasTurn, Goes}
-use Rattle.canary_once.specs.Books.{BookState}
+use Rattle.canary_once.specs.BookCalls.{BookState}
 use Rattle.canary_once.specs.Contents.{Contents, KeepsReceipts}
 use Rattle.canary_once.specs.Sound.{AreSoundContents}
-use Rattle.canary_wire.specs.Exchanges.{Exchange, Point, point, Went, Holds}
+use Rattle.canary_wire.specs.Dispositions.{Exchange, DeskState, desk_state, HandledAll, AnsweredInOrder}
 use Rattle.canary_listen.specs.Placing.{IsUnchanged}
 use Rattle.canary_listen.specs.Attending.{Attendance, attendance, nobody, IsServed, KeepsServed, Attends, ServesAll}
 
@@ -23,18 +23,18 @@ keeps_same a b e turns s = subst (λ (x : Attendance). IsServed turns x) e s
 pub keeps_then : (a b c : Attendance) → KeepsServed a b → KeepsServed b c → KeepsServed a c
 keeps_then a b c x y turns s = y turns (x turns s)
 
-pub attends_none : (p q : Point) (a b : Attendance) → Went p q [] → KeepsServed a b → Attends p q a b
+pub attends_none : (p q : DeskState) (a b : Attendance) → HandledAll p q [] → KeepsServed a b → Attends p q a b
 attends_none p q a b none k = record {
   turns = [];
   went = none;
   keeps = λ before s. subst (λ (t : List Turn). IsServed t b) (sym (append-nil before)) (k before s);
 }
 
-pub attends_kept : (p : Point) (a b : Attendance) → Went p p [] → KeepsServed a b → Attends p p a b
+pub attends_kept : (p : DeskState) (a b : Attendance) → HandledAll p p [] → KeepsServed a b → Attends p p a b
 attends_kept p a b none k = attends_none p p a b none k
 
 -- nor was anything answered as it was looked where the records are
-pub went_unchanged : (clock : (ℕ → ℕ) → Type 0) (s t : BookState) → Went (point clock s) (point clock s) [] → IsUnchanged s t → Went (point clock s) (point clock t) []
+pub went_unchanged : (clock : (ℕ → ℕ) → Type 0) (s t : BookState) → HandledAll (desk_state clock s) (desk_state clock s) [] → IsUnchanged s t → HandledAll (desk_state clock s) (desk_state clock t) []
 went_unchanged clock s t none u = record {
   each = tt;
   moments = none.moments;
@@ -45,14 +45,14 @@ went_unchanged clock s t none u = record {
   receipts = λ honest. subst (λ (c : Contents). KeepsReceipts s.contents c) (sym (u.same honest)) (none.receipts (u.honest honest));
 }
 
-pub attends_and_keeps : (p q : Point) (a b c : Attendance) → Attends p q a b → KeepsServed b c → Attends p q a c
+pub attends_and_keeps : (p q : DeskState) (a b c : Attendance) → Attends p q a b → KeepsServed b c → Attends p q a c
 attends_and_keeps p q a b c x k = record {
   turns = x.turns;
   went = x.went;
   keeps = λ before s. k (before ++ x.turns) (x.keeps before s);
 }
 
-pub keeps_and_attends : (p q : Point) (a b c : Attendance) → KeepsServed a b → Attends p q b c → Attends p q a c
+pub keeps_and_attends : (p q : DeskState) (a b c : Attendance) → KeepsServed a b → Attends p q b c → Attends p q a c
 keeps_and_attends p q a b c k x = record {
   turns = x.turns;
   went = x.went;
@@ -60,13 +60,13 @@ keeps_and_attends p q a b c k x = record {
 }
 
 -- what was held on two stretches was held on both together
-abbrev pub GoOn : Point → Point → Point → Type 0
-GoOn p q r = (xs ys : List Exchange) → Went p q xs → Went q r ys → Went p r (xs ++ ys)
+abbrev pub GoOn : DeskState → DeskState → DeskState → Type 0
+GoOn p q r = (xs ys : List Exchange) → HandledAll p q xs → HandledAll q r ys → HandledAll p r (xs ++ ys)
 
-pub attends_then : (p q r : Point) (a b c : Attendance) → GoOn p q r → Attends p q a b → Attends q r b c → Attends p r a c
+pub attends_then : (p q r : DeskState) (a b c : Attendance) → GoOn p q r → Attends p q a b → Attends q r b c → Attends p r a c
 attends_then p q r a b c on x y = record {
   turns = x.turns ++ y.turns;
-  went = subst (Went p r) (sym (flat_map-append (λ (t : Turn). t.held) x.turns y.turns)) (on (all_held x.turns) (all_held y.turns) x.went y.went);
+  went = subst (HandledAll p r) (sym (flat_map-append (λ (t : Turn). t.held) x.turns y.turns)) (on (all_held x.turns) (all_held y.turns) x.went y.went);
   keeps = λ before s. subst (λ (t : List Turn). IsServed t c) (append_assoc before x.turns y.turns) (y.keeps (before ++ x.turns) (x.keeps before s));
 }
 
@@ -79,7 +79,7 @@ served_nobody = record {
   free = λ client h. refl;
 }
 
-pub serves_all : (p q : Point) (a b : Attendance) → a ≡ nobody → Attends p q a b → ((xs : List Exchange) → Went p q xs → Holds p q xs) → ServesAll p q
+pub serves_all : (p q : DeskState) (a b : Attendance) → a ≡ nobody → Attends p q a b → ((xs : List Exchange) → HandledAll p q xs → AnsweredInOrder p q xs) → ServesAll p q
 serves_all p q a b e x on =
     let s : IsServed x.turns b = x.keeps [] (subst (λ (t : Attendance). IsServed [] t) (sym e) served_nobody) in
     record {
@@ -129,12 +129,12 @@ some_is_none o t e h = cc (e, h)
 there_below : (crowd : Crowd) (n next : ℕ) (t : Talk) → ((client : ℕ) → next ≤ client → crowd client ≡ None) → crowd n ≡ Some t → n < next
 there_below crowd n next t free there = elim (cases_lt n next) [ inl h ↦ h | inr h ↦ absurd (some_is_none (crowd n) t there (free n h)) ]
 
-pub turn_attends : HasTurn → (p q : Point) (crowd new : Crowd) (n next : ℕ) (a b : Talk) → crowd n ≡ Some a → TakesTurn None None None None p q a b → Becomes crowd new n (Some b) → Attends p q (attendance crowd next) (attendance new next)
+pub turn_attends : HasTurn → (p q : DeskState) (crowd new : Crowd) (n next : ℕ) (a b : Talk) → crowd n ≡ Some a → TakesTurn None None None None p q a b → Becomes crowd new n (Some b) → Attends p q (attendance crowd next) (attendance new next)
 turn_attends law p q crowd new n next a b there x becomes =
     let one : Turn = record { client = n; got = x.got; put = x.put; held = x.held } in
     record {
       turns = one ∷ [];
-      went = subst (Went p q) (sym (append-nil x.held)) x.went;
+      went = subst (HandledAll p q) (sym (append-nil x.held)) x.went;
       keeps = λ before s. record {
         crowd = law before one crowd new a b s.crowd there x.order becomes;
         given = below_one before one next (there_below crowd n next a s.free there) s.given;

@@ -73,5 +73,5 @@ none_reported m k gone =
 -- ---- what is owed
 
 -- a client that is there is owed what its conversation owes
-pub owed_there : (crowd : Crowd) (k : ℕ) (t : Talk) → crowd k ≡ Some t → length t.owed ≡ owed_to crowd k
-owed_there crowd k t e = ap (λ (o : Option Talk). unwrap_or (option_map (λ (x : Talk). length x.owed) o) 0) (sym e)
+pub owed_there : (crowd : Crowd) (k : ℕ) (t : Talk) → crowd k ≡ Some t → length t.unsent ≡ owed_to crowd k
+owed_there crowd k t e = ap (λ (o : Option Talk). unwrap_or (option_map (λ (x : Talk). length x.unsent) o) 0) (sym e)

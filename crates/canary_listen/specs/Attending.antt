@@ -3,7 +3,7 @@ use Rattle.std.specs.Prelude.{◌≡◌, ℕ, ◌<◌, ◌≤◌, List, ◌++◌
 use Rattle.std.specs.List.{AllByRecursion}
 use Rattle.canary_wire.specs.Conversing.{Talk}
 use Rattle.canary_wire.specs.Crowds.{Turn, Crowd, all_held, InOrderBy, IsCrowd}
-use Rattle.canary_wire.specs.Exchanges.{Point, Went, Holds}
+use Rattle.canary_wire.specs.Dispositions.{DeskState, HandledAll, AnsweredInOrder}
 
 -- ---- what is served
 
@@ -14,10 +14,10 @@ AreInOrder turns = (client : ℕ) → (t : Talk) × InOrderBy turns client t
 
 -- from one point of the desk to another clients had these turns, in this order: each conversation
 -- is in order, and all exchanges together were held by the desk, one after another
-pub record ServesAll (old new : Point) : Type 0 where
+pub record ServesAll (old new : DeskState) : Type 0 where
   pub turns : List Turn
   pub order : AreInOrder turns
-  pub holds : Holds old new (all_held turns)
+  pub holds : AnsweredInOrder old new (all_held turns)
 
 -- ---- step by step
 
@@ -44,7 +44,7 @@ abbrev pub KeepsServed : Attendance → Attendance → Type 0
 KeepsServed old new = (turns : List Turn) → IsServed turns old → IsServed turns new
 
 -- clients came, had turns or went
-pub record Attends (p q : Point) (old new : Attendance) : Type 0 where
+pub record Attends (p q : DeskState) (old new : Attendance) : Type 0 where
   pub turns : List Turn
-  pub went : Went p q (all_held turns)
+  pub went : HandledAll p q (all_held turns)
   pub keeps : (before : List Turn) → IsServed before old → IsServed (before ++ turns) new

@@ -5,7 +5,7 @@ use Rattle.std.specs.BTreeMap.{get, btree_map_len}
 use Rattle.canary_wire.specs.Conversing.{Talk}
 use Rattle.canary_wire.specs.Crowds.{Crowd}
 use Rattle.canary_wire.specs.Talks.{talk_of}
-use Rattle.canary_listen.specs.declared.attendant.Attendant.{Attendant}
+use Rattle.canary_listen.specs.declared.event_loop.EventLoop.{EventLoop}
 use Rattle.canary_listen.specs.declared.client.Client.{Client}
 use Rattle.canary_listen.specs.declared.clients.Clients.{Clients}
 use Rattle.canary_listen.specs.declared.listener.Listener.{Listener}
@@ -22,7 +22,7 @@ clients_attendance c = attendance (crowd_of c) c.next
 
 -- how many bytes a client has still to take; none if there is no such client
 abbrev pub owed_to : Crowd → ℕ → ℕ
-owed_to crowd client = unwrap_or (option_map (λ t. length t.owed) (crowd client)) 0
+owed_to crowd client = unwrap_or (option_map (λ t. length t.unsent) (crowd client)) 0
 
 -- if there is such a client, the system reports its connection once that is ready
 abbrev pub IsReported : Clients → ℕ → Type 0
@@ -32,7 +32,7 @@ abbrev pub attendance_of : Listener → Attendance
 attendance_of l = clients_attendance l.attendant.clients
 
 -- as many as were to come were accepted, and all have gone
-abbrev pub AreAllServed : Attendant → Type 0
+abbrev pub AreAllServed : EventLoop → Type 0
 AreAllServed a = (a.left ≡ Some 0) × (btree_map_len a.clients.by_number ≡ 0)
 
 abbrev pub IsDone : Listener → Type 0

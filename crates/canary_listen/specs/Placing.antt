@@ -1,6 +1,6 @@
 -- A look at where the records of a book are.
 use Rattle.std.specs.Prelude.{◌≡◌}
-use Rattle.canary_once.specs.Books.{BookState, StaysInMemory}
+use Rattle.canary_once.specs.BookCalls.{BookState, StaysInMemory}
 
 -- it changes nothing
 pub record IsUnchanged (old new : BookState) : Type 0 where

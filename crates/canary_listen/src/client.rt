@@ -1,7 +1,7 @@
 //! A client: its connection, the conversation with it, and how long it may take.
 ghost use Rattle.std.specs.Prelude.{◌≡◌, ◌≢◌, None, false, length};
 ghost use Rattle.canary_wire.specs.Conversing.{TakesTurn};
-ghost use Rattle.canary_wire.specs.Exchanges.{point};
+ghost use Rattle.canary_wire.specs.Dispositions.{desk_state};
 ghost use Rattle.canary_wire.specs.Talks.{talk_of};
 ghost use Rattle.canary_listen.specs.Crowd.{client_talk};
 
@@ -17,7 +17,7 @@ use std::io::{self, ErrorKind, Read, Write};
 use std::net::{IpAddr, Shutdown};
 
 // The most bytes that are read of a client after its last reply: 16 MiB.
-const MOST_DRAINED: usize = 16_777_216;
+const MAX_DRAINED: usize = 16_777_216;
 
 // How many of them at a time.
 const DRAINED_AT_ONCE: usize = 16_384;
@@ -30,32 +30,32 @@ fn its_bytes() -> Interest {
 
 // What becomes of a client after its turn.
 #[derive(Clone, Copy)]
-pub(crate) enum Fate {
+pub(crate) enum AfterTurn {
     // It stays, and has its next turn when its connection is ready for this.
-    Stays(Interest),
+    WaitFor(Interest),
     // It stays, and has its next turn when queries are answered again.
-    Waits,
+    WaitForRoom,
     // It stays, and its replies are held back: it has to take them soon.
-    Owed,
+    HoldReplies,
     // It goes, and this is why.
-    Goes(Cause),
+    Close(Cause),
 }
 
 // What a client does in its turn.
 #[derive(Clone, Copy, Debug, PartialEq, Eq)]
-pub(crate) enum Part {
+pub(crate) enum TurnKind {
     // It sends messages, and takes the replies.
-    Whole,
+    Both,
     // It sends messages. Their replies are held back for a little.
-    Sends,
+    Answer,
     // It takes the replies that were held back.
-    Takes,
+    Send,
 }
 
 // What the turn of a client is about.
 #[derive(Clone, Copy)]
 pub(crate) struct Ready {
-    pub(crate) part: Part,
+    pub(crate) part: TurnKind,
     // The present second.
     pub(crate) now: u64,
     // Whether bytes may be left after a short read: the system reported that the client ended its
@@ -155,15 +155,15 @@ impl Client {
 
     // How many bytes it has still to take.
     pub(crate) fn unsent(&self) -> usize
-        ensures { result ≡ length (client_talk self.now).owed }
+        ensures { result ≡ length (client_talk self.now).unsent }
     {
-        self.conversation.owes()
+        self.conversation.unsent_bytes()
     }
 
     // Since which second it is idle: nothing is unsent, and no message has begun.
     pub(crate) fn idle_since(&self) -> Option<u64> {
         if self.wait.awaited == Awaited::Message
-            && self.conversation.holds() == 0
+            && self.conversation.unanswered_bytes() == 0
             && self.unsent() == 0
         {
             Some(self.wait.since)
@@ -216,23 +216,23 @@ impl Client {
         book: &mut B,
         pace: &mut P,
         ready: Ready,
-    ) -> Fate
+    ) -> AfterTurn
         ensures turn { TakesTurn None None None None
-            (point (C.tells clock.old) (B.state book.old))
-            (point (C.tells clock.new) (B.state book.new))
+            (desk_state (C.tells clock.old) (B.state book.old))
+            (desk_state (C.tells clock.new) (B.state book.new))
             (client_talk self.old) (client_talk self.new) }
-        ensures taken { ready.part ≢ Part.Sends → result ≢ Fate.Owed }
+        ensures taken { ready.part ≢ TurnKind.Answer → result ≢ AfterTurn.HoldReplies }
     {
         let part = self.part(ready);
         let stream = &self.stream;
         let mut input = Input {
             stream,
-            is_open: part != Part::Takes,
+            is_open: part != TurnKind::Send,
             may_hold_more: true,
         };
         let mut output = Output {
             stream,
-            is_open: part != Part::Sends,
+            is_open: part != TurnKind::Answer,
         };
         let wants = self
             .conversation
@@ -240,27 +240,27 @@ impl Client {
         if input.is_open && (input.may_hold_more || ready.may_hold_more) {
             self.is_reported = false;
         }
-        if wants == Wants::Write && part == Part::Sends {
-            return Fate::Owed;
+        if wants == Wants::Write && part == TurnKind::Answer {
+            return AfterTurn::HoldReplies;
         }
-        self.settle(wants, pace.answers_queries(), ready.now)
+        self.after_turn(wants, pace.answers_queries(), ready.now)
     }
 
     // What it does in its turn: one that has bytes to take already takes them first.
-    fn part(&self, ready: Ready) -> Part
-        ensures { ready.part ≢ Part.Sends → result ≢ Part.Sends }
+    fn part(&self, ready: Ready) -> TurnKind
+        ensures { ready.part ≢ TurnKind.Answer → result ≢ TurnKind.Answer }
     {
-        if ready.part == Part::Sends && self.unsent() > 0 {
-            Part::Whole
+        if ready.part == TurnKind::Answer && self.unsent() > 0 {
+            TurnKind::Both
         } else {
             ready.part
         }
     }
 
     // What becomes of it where its conversation waits for this.
-    fn settle(&mut self, wants: Wants, answers_queries: bool, now: u64) -> Fate
+    fn after_turn(&mut self, wants: Wants, answers_queries: bool, now: u64) -> AfterTurn
         ensures same { client_talk self.new ≡ client_talk self.old }
-        ensures told { result ≢ Fate.Owed }
+        ensures told { result ≢ AfterTurn.HoldReplies }
         ensures anew { wants ≢ Wants.Read → self.new.is_reported ≡ false }
     {
         if wants != Wants::Read {
@@ -270,28 +270,28 @@ impl Client {
             Wants::Read => {
                 let awaited = self.next_awaited();
                 self.wait_for(awaited, now);
-                Fate::Stays(its_bytes())
+                AfterTurn::WaitFor(its_bytes())
             }
             Wants::Write => {
                 self.wait_for(Awaited::Reading, now);
-                Fate::Stays(Interest::WRITABLE)
+                AfterTurn::WaitFor(Interest::WRITABLE)
             }
-            Wants::Turn if !answers_queries && self.conversation.holds_query() => {
+            Wants::Yield if !answers_queries && self.conversation.begins_with_query() => {
                 self.wait_for(Awaited::Room, now);
-                Fate::Waits
+                AfterTurn::WaitForRoom
             }
-            Wants::Turn => {
+            Wants::Yield => {
                 self.wait_for(Awaited::Message, now);
-                Fate::Stays(Interest::READABLE | Interest::WRITABLE)
+                AfterTurn::WaitFor(Interest::READABLE | Interest::WRITABLE)
             }
-            Wants::Rest => self.drain(now),
-            Wants::Nothing(cause) => Fate::Goes(cause),
+            Wants::Drain => self.drain(now),
+            Wants::Close(cause) => AfterTurn::Close(cause),
         }
     }
 
     // What of its input is waited for.
     fn next_awaited(&self) -> Awaited {
-        if self.conversation.holds() == 0 {
+        if self.conversation.unanswered_bytes() == 0 {
             Awaited::Message
         } else {
             Awaited::Rest
@@ -310,9 +310,9 @@ impl Client {
     // Its last reply was written: its connection is ended on this side, and what it still sends is
     // read and thrown away for a while. If it were closed at once, the system would answer what is
     // still sent with a reset, and the reply could be lost.
-    fn drain(&mut self, now: u64) -> Fate
+    fn drain(&mut self, now: u64) -> AfterTurn
         ensures same { client_talk self.new ≡ client_talk self.old }
-        ensures told { result ≢ Fate.Owed }
+        ensures told { result ≢ AfterTurn.HoldReplies }
         ensures reported { self.new.is_reported ≡ self.old.is_reported }
     {
         if self.wait.awaited != Awaited::Leaving {
@@ -321,18 +321,18 @@ impl Client {
         }
         let mut bytes = [0u8; DRAINED_AT_ONCE];
         match self.stream.read(&mut bytes) {
-            Ok(0) => return Fate::Goes(Cause::EndOfInput),
+            Ok(0) => return AfterTurn::Close(Cause::EndOfInput),
             Ok(n) => self.drained = self.drained.saturating_add(n),
             Err(error) => {
                 if !would_wait(error.kind()) {
-                    return Fate::Goes(Cause::EndOfInput);
+                    return AfterTurn::Close(Cause::EndOfInput);
                 }
             }
         }
-        if self.drained > MOST_DRAINED {
-            return Fate::Goes(Cause::EndOfInput);
+        if self.drained > MAX_DRAINED {
+            return AfterTurn::Close(Cause::EndOfInput);
         }
-        Fate::Stays(its_bytes())
+        AfterTurn::WaitFor(its_bytes())
     }
 
     // Why it is let go at this second, if it took too long.

@@ -4,12 +4,12 @@ ghost use Rattle.std.specs.Prelude.{IfOk, IfSome, IsTrue, None, Some, vec_len};
 ghost use Rattle.std.specs.Ordering.{nat_cmp};
 ghost use Rattle.std.specs.BTreeMap.{get, btree_map_len};
 ghost use Rattle.canary_wire.specs.Conversing.{begun};
-ghost use Rattle.canary_wire.specs.Exchanges.{point};
+ghost use Rattle.canary_wire.specs.Dispositions.{desk_state};
 ghost use Rattle.canary_wire.specs.Talks.{talk_of};
 ghost use Rattle.canary_listen.specs.Attending.{Attends, KeepsServed, nobody};
 ghost use Rattle.canary_listen.specs.Sums.{in_place_of};
 
-use crate::client::{Client, Fate, Part, Ready};
+use crate::client::{AfterTurn, Client, Ready, TurnKind};
 use crate::limits::Limits;
 use canary_base::error::Memory;
 use canary_once::book::Book;
@@ -23,7 +23,7 @@ use std::net::IpAddr;
 
 // The most conversations that are kept for clients to come: their buffers, five megabytes in all,
 // are neither taken nor cleared again.
-const MOST_SPARE: usize = 64;
+const MAX_SPARE: usize = 64;
 
 // Clients by number. No number is given twice.
 #[derive(Drop)]
@@ -84,14 +84,14 @@ impl Clients {
     pub(crate) fn conversation(
         &mut self,
         alloc: Global,
-        most_owed: usize,
+        max_unsent: usize,
     ) -> Result<Conversation, Memory>
         ensures begun { IfOk result (λ conversation. talk_of conversation ≡ begun) }
         ensures same { clients_attendance self.new ≡ clients_attendance self.old }
     {
         match self.spare.pop() {
-            Some(conversation) => Ok(conversation.renewed(most_owed)),
-            None => Conversation::new(alloc, most_owed),
+            Some(conversation) => Ok(conversation.renewed(max_unsent)),
+            None => Conversation::new(alloc, max_unsent),
         }
     }
 
@@ -101,7 +101,7 @@ impl Clients {
         ensures clients { self.new.by_number ≡ self.old.by_number }
         ensures unsent { self.new.unsent ≡ self.old.unsent }
     {
-        if self.spare.len() < MOST_SPARE {
+        if self.spare.len() < MAX_SPARE {
             let _ = self.spare.push(client.into_conversation());
         }
     }
@@ -131,13 +131,13 @@ impl Clients {
         book: &mut B,
         pace: &mut P,
         ready: Ready,
-    ) -> Option<Fate>
-        ensures attends { Attends (point (C.tells clock.old) (B.state book.old))
-            (point (C.tells clock.new) (B.state book.new))
+    ) -> Option<AfterTurn>
+        ensures attends { Attends (desk_state (C.tells clock.old) (B.state book.old))
+            (desk_state (C.tells clock.new) (B.state book.new))
             (clients_attendance self.old) (clients_attendance self.new) }
         ensures unsent { IfSome result (λ fate. self.new.unsent ≡ in_place_of self.old.unsent
             (owed_to (crowd_of self.old) number) (owed_to (crowd_of self.new) number)) }
-        ensures taken { ready.part ≢ Part.Sends → result ≢ Some Fate.Owed }
+        ensures taken { ready.part ≢ TurnKind.Answer → result ≢ Some AfterTurn.HoldReplies }
     {
         crowds();
         going_on::<C, B>();

@@ -12,14 +12,14 @@
 //!     }
 #![tactic(auto)]
 
-mod attendant;
 mod client;
 mod clients;
+mod event_loop;
 pub mod limits;
 pub mod listener;
 pub mod placed;
 mod reports;
-mod slice;
+mod time_slice;
 pub mod unblocked;
 mod wait;
 pub mod wall_clock;

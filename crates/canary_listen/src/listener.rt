@@ -1,13 +1,13 @@
 //! Serving clients on a socket.
 ghost use Rattle.std.specs.Prelude.{◌≡◌, IfOk, OnOk, if◌then◌else◌};
 ghost use Rattle.std.specs.Duration.{as_nanos};
-ghost use Rattle.canary_wire.specs.Exchanges.{point};
+ghost use Rattle.canary_wire.specs.Dispositions.{desk_state};
 ghost use Rattle.canary_listen.specs.Attending.{Attends, ServesAll, nobody};
 ghost use Rattle.canary_listen.specs.Crowd.{attendance_of, IsDone};
 ghost use Rattle.canary_listen.specs.Placing.{IsUnchanged};
 
-use crate::attendant::{Attendant, SOCKET};
 use crate::clients::Clients;
+use crate::event_loop::{EventLoop, SOCKET};
 use crate::limits::Limits;
 use crate::placed::Placed;
 use crate::reports::Reports;
@@ -24,7 +24,7 @@ use std::time::{self, Duration, Instant};
 use thiserror::Error;
 
 // The most events that are taken at a time.
-const MOST_EVENTS: usize = 256;
+const MAX_EVENTS: usize = 256;
 
 // How many seconds are waited at most before it is asked who takes too long.
 const WAIT_SECONDS: u64 = 1;
@@ -32,7 +32,7 @@ const WAIT_SECONDS: u64 = 1;
 // How often it is asked, without waiting, whether something more comes, behind a round in which
 // something came: some 15 microseconds. Whoever is answered often asks anew that soon, and to
 // be woken takes the system about as long.
-const MOST_ASKED: u32 = 60;
+const MAX_ASKED: u32 = 60;
 
 /// Why no clients are served.
 #[derive(Clone, Copy, Debug, PartialEq, Eq, Error)]
@@ -57,7 +57,7 @@ pub enum ListenFault {
 /// another. Whoever is ready has a turn, and all that are have one before any has the next.
 #[derive(Drop)]
 pub struct Listener {
-    attendant: Attendant,
+    attendant: EventLoop,
     events: Events<Global>,
     start: Option<Instant>,
     // Whether the records of the book were not in place when they were asked for last.
@@ -77,7 +77,7 @@ impl Listener {
     ) -> Result<Listener, ListenFault>
         ensures { IfOk result (λ listener. attendance_of listener ≡ nobody) }
     {
-        let Ok(events) = Events::with_capacity(rt.alloc(), MOST_EVENTS) else {
+        let Ok(events) = Events::with_capacity(rt.alloc(), MAX_EVENTS) else {
             return Err(ListenFault::Memory);
         };
         let Ok(routes) = Routes::new(rt.alloc()) else {
@@ -86,7 +86,7 @@ impl Listener {
         let Ok((poll, socket)) = listen(rt, address) else {
             return Err(ListenFault::Listen);
         };
-        let attendant = Attendant {
+        let attendant = EventLoop {
             poll,
             socket,
             routes,
@@ -145,12 +145,12 @@ impl Listener {
         book: &mut B,
         errors: &mut F,
     ) -> Result<(), ListenFault>
-        ensures attends { Attends (point (C.tells clock.old) (B.state book.old))
-            (point (C.tells clock.new) (B.state book.new))
+        ensures attends { Attends (desk_state (C.tells clock.old) (B.state book.old))
+            (desk_state (C.tells clock.new) (B.state book.new))
             (attendance_of self.old) (attendance_of self.new) }
         ensures serves { attendance_of self.old ≡ nobody
-            → ServesAll (point (C.tells clock.old) (B.state book.old))
-            (point (C.tells clock.new) (B.state book.new)) }
+            → ServesAll (desk_state (C.tells clock.old) (B.state book.old))
+            (desk_state (C.tells clock.new) (B.state book.new)) }
         ensures done { OnOk result (IsDone self.new) }
     {
         going_on::<C, B>();
@@ -184,8 +184,8 @@ impl Listener {
         book: &mut B,
         errors: &mut F,
     ) -> Result<(), ListenFault>
-        ensures { Attends (point (C.tells clock.old) (B.state book.old))
-            (point (C.tells clock.new) (B.state book.new))
+        ensures { Attends (desk_state (C.tells clock.old) (B.state book.old))
+            (desk_state (C.tells clock.new) (B.state book.new))
             (attendance_of self.old) (attendance_of self.new) }
     {
         going_on::<C, B>();
@@ -208,12 +208,12 @@ impl Listener {
         book: &mut B,
         errors: &mut F,
     )
-        ensures { Attends (point (C.tells clock.old) (B.state book.old))
-            (point (C.tells clock.new) (B.state book.new))
+        ensures { Attends (desk_state (C.tells clock.old) (B.state book.old))
+            (desk_state (C.tells clock.new) (B.state book.new))
             (attendance_of self.old) (attendance_of self.new) }
     {
-        self.attendant.attend_all(rt, &self.events, clock, book);
-        self.attendant.sweep();
+        self.attendant.dispatch_all(rt, &self.events, clock, book);
+        self.attendant.close_overdue();
         self.attendant.resume_queries();
         self.attendant.report(errors);
         self.attendant.accept_some(rt.alloc());
@@ -235,7 +235,7 @@ impl Listener {
     fn comes_soon(&mut self) -> io::Result<bool>
         ensures { attendance_of self.new ≡ attendance_of self.old }
     {
-        'asked: for _ in 0..MOST_ASKED {
+        'asked: for _ in 0..MAX_ASKED {
             if self.has_come()? {
                 return Ok(true);
             }

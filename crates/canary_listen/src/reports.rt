@@ -5,7 +5,7 @@ use std::io::Write;
 use std::net::IpAddr;
 
 // The most different lines of one second.
-const MOST_LINES_A_SECOND: usize = 64;
+const MAX_LINES_A_SECOND: usize = 64;
 
 // The faults of connections at one address, of one kind.
 #[derive(Clone, Copy, Debug)]
@@ -52,7 +52,7 @@ impl Reports {
             address,
             times: 1,
         };
-        if self.lines.len() >= MOST_LINES_A_SECOND || self.lines.push(line).is_err() {
+        if self.lines.len() >= MAX_LINES_A_SECOND || self.lines.push(line).is_err() {
             self.dropped = self.dropped.saturating_add(1);
         }
     }

@@ -11,7 +11,7 @@ use std::time::Duration;
 const STANDARD_ERROR: RawFd = 2;
 
 // The most bytes of one write: a pipe that is ready takes these at once (PIPE_BUF).
-const MOST_BYTES: usize = 4_096;
+const MAX_BYTES: usize = 4_096;
 
 // What says whether a descriptor is ready.
 #[derive(Drop)]
@@ -68,7 +68,7 @@ impl<'a, F: Write> Unblocked<'a, F> {
 }
 
 impl<F: Write> Write for Unblocked<'_, F> {
-    // Writes at most `MOST_BYTES`, or fails with `WouldBlock` if that would wait.
+    // Writes at most `MAX_BYTES`, or fails with `WouldBlock` if that would wait.
     fn write(&mut self, buf: &[u8]) -> io::Result<usize> {
         let is_open = match &mut self.gate {
             Some(gate) => gate.is_open()?,
@@ -77,7 +77,7 @@ impl<F: Write> Write for Unblocked<'_, F> {
         if !is_open {
             return Err(ErrorKind::WouldBlock.into());
         }
-        self.errors.write(&buf[..buf.len().min(MOST_BYTES)])
+        self.errors.write(&buf[..buf.len().min(MAX_BYTES)])
     }
 
     // Flushes the writer, without a look at the gate.

@@ -2,7 +2,7 @@
 ghost use Rattle.std.specs.Prelude.{◌≡◌};
 ghost use Rattle.canary_listen.specs.Moments.{next_moment};
 
-use canary_base::moments::{LAST_MOMENT, Moment};
+use canary_base::moments::{MAX_MOMENT, Moment};
 use canary_once::clock::Clock;
 use std::time::{self, SystemTime};
 
@@ -63,7 +63,7 @@ fn next_moment(last: Moment, read: Option<u64>) -> Moment
     ensures { result ≡ next_moment last read }
 {
     match read {
-        Some(seconds) => Moment::new(seconds.min(LAST_MOMENT)).unwrap(),
+        Some(seconds) => Moment::new(seconds.min(MAX_MOMENT)).unwrap(),
         None => last,
     }
 }

@@ -6,7 +6,7 @@ use Rattle.canary_plan.specs.declared.template_spec.MetricSpec.{MetricSpec}
 use Rattle.canary_plan.specs.declared.template_spec.TemplateSpec.{TemplateSpec}
 use Rattle.canary_canonical.specs.Forms.{◌⊛◌, name_in, label_in, list_of}
 use Rattle.canary_canonical.specs.Readings.{dry_run_name_in, metric_with, template_with}
-use Rattle.canary_manifest.specs.declared.template.Numbers.{Numbers}
+use Rattle.canary_manifest.specs.declared.template.MetricLimits.{MetricLimits}
 use Rattle.canary_manifest.specs.Members.{in_member, in_member_or, has, anything, limit_in, count_in, condition_in, duration_in, delay_in, is_other_text, is_no_empty_list, is_negative, some_item}
 
 -- ---- what a manifest says
@@ -26,7 +26,7 @@ metric_of metric = option_flatten (Some metric_with
     ⊛ in_member_or (codes "consecutiveErrorLimit") 4 limit_in metric)
 
 -- its times, its counts and its limits
-abbrev pub numbers_with : Option ℕ → ℕ → Option ℕ → Option ℕ → ℕ → ℕ → ℕ → Numbers
+abbrev pub numbers_with : Option ℕ → ℕ → Option ℕ → Option ℕ → ℕ → ℕ → ℕ → MetricLimits
 numbers_with interval delay count passes failed inconclusive errors =
     record {
       interval = interval;
@@ -39,11 +39,12 @@ numbers_with interval delay count passes failed inconclusive errors =
     }
 
 -- what becomes of a metric by them
-abbrev pub metric_by : (Option ℕ → ℕ → Option ℕ → Option ℕ → ℕ → ℕ → ℕ → Option MetricSpec) → Numbers
+abbrev pub metric_by : (Option ℕ → ℕ → Option ℕ → Option ℕ → ℕ → ℕ → ℕ → Option MetricSpec)
+    → MetricLimits
     → Option MetricSpec
 metric_by w x = w x.interval x.delay x.count x.passes x.failed x.inconclusive x.errors
 
-abbrev pub numbers_of : Data → Option Numbers
+abbrev pub numbers_of : Data → Option MetricLimits
 numbers_of metric = Some numbers_with
     ⊛ in_member_or (codes "interval") None duration_in metric
     ⊛ in_member_or (codes "initialDelay") 0 delay_in metric

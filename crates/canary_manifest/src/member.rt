@@ -19,12 +19,12 @@ ghost use Rattle.canary_manifest.specs.Members.{is_negative_text, is_negative};
 use canary_base::durations::Seconds;
 use canary_base::lists::Text;
 use canary_canonical::form::{FormFault, number_up_to};
-use canary_metric::metric::GREATEST_LIMIT;
+use canary_metric::metric::MAX_LIMIT;
 use serde_json::Value;
 use std::alloc::Global;
 
 // The longest pause, in seconds.
-const LONGEST_PAUSE: u32 = 31_536_000;
+const MAX_PAUSE: u32 = 31_536_000;
 
 /// The member of that key, where it is there and not null.
 pub fn member_of<'a>(value: &'a Value, key: &str) -> Option<&'a Value>
@@ -82,7 +82,7 @@ pub fn limit_at(value: &Value, key: &str, absent: u32) -> Option<u32>
     ensures { result ≡ in_member_or key.now absent limit_in (view value.now) }
 {
     match member_of(value, key) {
-        Some(limit) => count_up_to(limit, GREATEST_LIMIT),
+        Some(limit) => count_up_to(limit, MAX_LIMIT),
         None => Some(absent),
     }
 }
@@ -94,7 +94,7 @@ pub fn count_at(value: &Value, key: &str) -> Option<Option<u32>>
     let Some(count) = member_of(value, key) else {
         return Some(None);
     };
-    let count = count_up_to(count, GREATEST_LIMIT)?;
+    let count = count_up_to(count, MAX_LIMIT)?;
     Some(if count == 0 { None } else { Some(count) })
 }
 
@@ -159,7 +159,7 @@ pub fn delay_at(value: &Value, key: &str) -> Option<Seconds>
 pub fn pause_seconds(value: &Value) -> Option<Seconds>
     ensures { result ≡ pause_seconds (view value.now) }
 {
-    match count_up_to(value, LONGEST_PAUSE) {
+    match count_up_to(value, MAX_PAUSE) {
         Some(seconds) => Seconds::new(u64::from(seconds)),
         None => Seconds::read(value.as_str()?),
     }

@@ -25,7 +25,7 @@ use std::alloc::Global;
 
 // The times, the counts and the limits of a metric.
 #[derive(Clone, Copy)]
-struct Numbers {
+struct MetricLimits {
     interval: Option<Seconds>,
     delay: Seconds,
     count: Option<u32>,
@@ -91,7 +91,7 @@ fn metric_by(
     name: Label,
     success: Option<Text>,
     failure: Option<Text>,
-    numbers: &Numbers,
+    numbers: &MetricLimits,
 ) -> Option<MetricSpec>
     ensures { result ≡ metric_by (metric_with name success failure) numbers.now }
 {
@@ -110,7 +110,7 @@ fn metric_by(
 }
 
 // The times, the counts and the limits of a metric, with their defaults.
-fn numbers_of(metric: &Value) -> Option<Numbers>
+fn numbers_of(metric: &Value) -> Option<MetricLimits>
     ensures { result ≡ numbers_of (view metric.now) }
 {
     let interval = duration_at(metric, "interval")?;
@@ -120,7 +120,7 @@ fn numbers_of(metric: &Value) -> Option<Numbers>
     let failed = limit_at(metric, "failureLimit", 0)?;
     let inconclusive = limit_at(metric, "inconclusiveLimit", 0)?;
     let errors = limit_at(metric, "consecutiveErrorLimit", 4)?;
-    Some(Numbers {
+    Some(MetricLimits {
         interval,
         delay,
         count,

@@ -21,7 +21,7 @@ use canary_decimal::shown::{Beside, Shown, Units};
 
 /// What a label says.
 #[derive(Clone, Copy, Debug)]
-pub struct Ending<'a> {
+pub struct LabelParts<'a> {
     /// What stands before the ending.
     pub name: &'a str,
     /// In which form the values are reported.
@@ -29,7 +29,7 @@ pub struct Ending<'a> {
 }
 
 /// The name and the form of a label that ends in a form; none if it ends in none.
-pub fn form_of(label: &str) -> Option<Ending<'_>>
+pub fn form_of(label: &str) -> Option<LabelParts<'_>>
     ensures { MatchOption result
         ((name : List ℕ) (form : Form) → IsLabelIn label.now name form → ⊥)
         (λ ending. IsLabelIn label.now ending.name.now ending.form) }
@@ -38,7 +38,7 @@ pub fn form_of(label: &str) -> Option<Ending<'_>>
     let shown = Shown::of(label)?;
     let at = shown.name.len() + front_len(shown.units);
     let shape = shape_of(behind(label.as_bytes(), at))?;
-    Some(Ending {
+    Some(LabelParts {
         name: shown.name,
         form: Form {
             places: shown.units.places,

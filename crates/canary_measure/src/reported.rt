@@ -17,12 +17,12 @@ use arrayvec::ArrayVec;
 use canary_argo::form::{Form, Shape};
 use canary_argo::reporting;
 use canary_base::error::Memory;
-use canary_condition::outcome::{MOST_VALUES, Outcome, Value};
+use canary_condition::outcome::{MAX_VALUES, Outcome, Value};
 use canary_decimal::shown::Shown;
 use std::alloc::Global;
 
 // The numbers of a list.
-type Numbers = ArrayVec<i64, MOST_VALUES>;
+type Numbers = ArrayVec<i64, MAX_VALUES>;
 
 /// What is reported under a label of what was measured, or a failure that says why nothing is;
 /// `Memory` if an allocation is refused.
@@ -172,7 +172,7 @@ fn list(form: Form, values: &[Given]) -> Result<Value, NotReported>
     requires { form.places ≤ 18 }
     ensures { IsAnswer result (IsListOf form.beside form.places (map seen values.now)) }
 {
-    if values.len() > MOST_VALUES {
+    if values.len() > MAX_VALUES {
         return Err(NotReported::TooMany);
     }
     let numbers = numbers(form, values)?;
@@ -185,7 +185,7 @@ fn with_length(form: Form, values: &[Given], len: usize) -> Result<Value, NotRep
     requires fits { len < 2 ^ 63 }
     ensures { IsAnswer result (IsListAfter form.beside form.places len (map seen values.now)) }
 {
-    if values.len() >= MOST_VALUES {
+    if values.len() >= MAX_VALUES {
         return Err(NotReported::TooMany);
     }
     let mut numbers = numbers(form, values)?;

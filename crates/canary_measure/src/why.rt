@@ -4,7 +4,7 @@ ghost use Rattle.std.specs.Prelude.{◌≤◌, length, IfOk};
 use crate::measured::Given;
 use canary_base::error::Memory;
 use canary_base::lists::Text;
-use canary_condition::outcome::{FailureText, MOST_FAILURE_BYTES};
+use canary_condition::outcome::{FailureText, MAX_FAILURE_BYTES};
 use canary_decimal::reading::Reading;
 use std::alloc::Global;
 
@@ -45,7 +45,7 @@ impl NotReported {
     /// What it is, and what to write.
     pub fn text(self) -> &'static str
         ensures some { 1 ≤ length result.now }
-        ensures few { length result.now ≤ MOST_FAILURE_BYTES }
+        ensures few { length result.now ≤ MAX_FAILURE_BYTES }
     {
         match self {
             NotReported::Label => "the label has an ending that is of no form",

@@ -2,11 +2,11 @@
 use Rattle.std.proofs.Common.{◌≡◌, ◌≤◌, ◌<◌, ◌^◌, ℕ, List, [], ◌∷◌, map, ◌+◌, arith}
 use Rattle.std.specs.List.{AllByRecursion}
 use Rattle.canary_metric.specs.Counts.{AreConsistent}
-use Rattle.canary_rows.specs.declared.rows.MeasurementRow.{MeasurementRow}
-use Rattle.canary_rows.specs.Limits.{FitsNumber, IsRevisionWithin, IsTallyWithin}
-use Rattle.canary_reads.specs.declared.first.TemplateRow.{TemplateRow}
-use Rattle.canary_reads.specs.declared.first.FirstTally.{FirstTally}
-use Rattle.canary_reads.specs.First.{IsTemplateWithin, IsFirstTallyWithin}
+use Rattle.canary_tables_rows.specs.declared.rows.MeasurementRow.{MeasurementRow}
+use Rattle.canary_tables_rows.specs.Limits.{FitsNumber, IsRevisionWithin, IsTallyWithin}
+use Rattle.canary_tables_read.specs.declared.first.TemplateRow.{TemplateRow}
+use Rattle.canary_tables_read.specs.declared.first.FirstTally.{FirstTally}
+use Rattle.canary_tables_read.specs.First.{IsTemplateWithin, IsFirstTallyWithin}
 use Rattle.canary_migrate.specs.Migrated.{first_revision, tally_of}
 
 pub templates_within : (rows : List TemplateRow) → AllByRecursion IsRevisionWithin (map first_revision rows) → AllByRecursion IsTemplateWithin rows

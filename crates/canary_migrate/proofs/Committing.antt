@@ -2,8 +2,8 @@
 use Rattle.std.proofs.Common.{◌≡◌, IsTrue, Ok, Err, Result, OnOk, OnErr, sym, ap, subst, ◌∙◌, arith}
 use Rattle.sqlite.specs.Effect.{Database}
 use Rattle.sqlite.specs.State.{State, HasCleanDisk, Survives, IsRolledBack}
-use Rattle.canary_schema.specs.Stores.{IsUsable}
-use Rattle.canary_reads.specs.Reader.{IsKept, seen_inside}
+use Rattle.canary_tables_schema.specs.Stores.{IsUsable}
+use Rattle.canary_tables_read.specs.Reader.{IsKept, seen_inside}
 use Rattle.canary_migrate.specs.Migrates.{IsRewritten, HasJudgedFirstRows}
 use Rattle.canary_migrate.proofs.Moved.{usable_seen}
 

@@ -5,10 +5,10 @@ use Rattle.std.proofs.lemmas.Grind.{flat_map-append}
 use Rattle.std.proofs.lemmas.List.Concat.{flat_map_single}
 use Rattle.sqlite.specs.State.{State}
 use Rattle.canary_plan.specs.declared.service.ServiceSpec.{ServiceSpec}
-use Rattle.canary_rows.specs.declared.rows.BindingRow.{BindingRow}
-use Rattle.canary_rows.specs.Tables.{Tables, is_run}
-use Rattle.canary_schema.specs.Stores.{IsUsable, Stores}
-use Rattle.canary_reads.specs.Finds.{IsSame, first}
+use Rattle.canary_tables_rows.specs.declared.rows.BindingRow.{BindingRow}
+use Rattle.canary_tables_rows.specs.Tables.{Tables, is_run}
+use Rattle.canary_tables_schema.specs.Stores.{IsUsable, Stores}
+use Rattle.canary_tables_read.specs.Finds.{IsSame, first}
 use Rattle.canary_migrate.specs.Migrated.{bindings_of_runs, run_bindings}
 use Rattle.canary_migrate.proofs.Standing.{same_then, stores_then}
 

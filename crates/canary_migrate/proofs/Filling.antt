@@ -3,18 +3,18 @@ use Rattle.std.proofs.Common.{◌≡◌, ◌++◌, [], ◌∷◌, List, map, IsT
 use Rattle.std.specs.List.{AllByRecursion}
 use Rattle.sqlite.specs.State.{State, HasCleanDisk}
 use Rattle.sqlite.specs.Effect.{Database, IsDatabase}
-use Rattle.canary_rows.specs.declared.rows.BindingRow.{BindingRow}
-use Rattle.canary_rows.specs.declared.rows.RevisionRow.{RevisionRow}
-use Rattle.canary_rows.specs.declared.rows.TallyRow.{TallyRow}
-use Rattle.canary_rows.specs.Limits.{AreWithin, IsServiceWithin, IsRunWithin, IsMeasurementWithin, IsTallyWithin}
-use Rattle.canary_rows.specs.Tables.{Tables}
-use Rattle.canary_schema.specs.Layout.{moved}
-use Rattle.canary_schema.specs.Stores.{IsUsable, IsHeld, Holds, Stores, IsReady}
-use Rattle.canary_statements.specs.Fills.{with_revisions, with_bindings, with_tallies}
-use Rattle.canary_reads.specs.declared.first.TemplateRow.{TemplateRow}
-use Rattle.canary_reads.specs.declared.first.FirstTally.{FirstTally}
-use Rattle.canary_reads.specs.Finds.{IsSame}
-use Rattle.canary_reads.specs.Reader.{IsKept, seen_inside}
+use Rattle.canary_tables_rows.specs.declared.rows.BindingRow.{BindingRow}
+use Rattle.canary_tables_rows.specs.declared.rows.RevisionRow.{RevisionRow}
+use Rattle.canary_tables_rows.specs.declared.rows.TallyRow.{TallyRow}
+use Rattle.canary_tables_rows.specs.Limits.{AreWithin, IsServiceWithin, IsRunWithin, IsMeasurementWithin, IsTallyWithin}
+use Rattle.canary_tables_rows.specs.Tables.{Tables}
+use Rattle.canary_tables_schema.specs.Layout.{moved}
+use Rattle.canary_tables_schema.specs.Stores.{IsUsable, IsHeld, Holds, Stores, IsReady}
+use Rattle.canary_tables_write.specs.Fills.{with_revisions, with_bindings, with_tallies}
+use Rattle.canary_tables_read.specs.declared.first.TemplateRow.{TemplateRow}
+use Rattle.canary_tables_read.specs.declared.first.FirstTally.{FirstTally}
+use Rattle.canary_tables_read.specs.Finds.{IsSame}
+use Rattle.canary_tables_read.specs.Reader.{IsKept, seen_inside}
 use Rattle.canary_migrate.specs.Migrated.{first_revision, all_bindings, tally_of}
 use Rattle.canary_migrate.specs.Fills.{filled}
 use Rattle.canary_migrate.proofs.Moved.{usable_inside, usable_seen}

@@ -6,7 +6,7 @@ use Rattle.std.specs.Str.{bytes_eq}
 use Rattle.std.proofs.lemmas.List.{map-append, reverse-append}
 use mathlib.Core.List.{reverse}
 use Rattle.std.proofs.lemmas.Slice.Eq.{bytes_eq-Decides}
-use Rattle.canary_stored.specs.Tables.{row_if}
+use Rattle.canary_tables_contents.specs.Tables.{row_if}
 
 -- Names and numbers.
 

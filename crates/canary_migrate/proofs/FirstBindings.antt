@@ -10,13 +10,13 @@ use Rattle.canary_plan.specs.Commands.{all_names}
 use Rattle.canary_plan.specs.PlanRefusals.{analyses}
 use Rattle.canary_plan.specs.Plans.{distinct, is_of_other}
 use Rattle.canary_canonical.specs.Readings.{canonical_in}
-use Rattle.canary_rows.specs.declared.rows.BindingRow.{BindingRow}
-use Rattle.canary_rows.specs.declared.rows.RunRow.{RunRow}
-use Rattle.canary_rows.specs.declared.rows.ServiceRow.{ServiceRow}
-use Rattle.canary_rows.specs.Tables.{is_binding, is_run, is_service}
-use Rattle.canary_reads.specs.Finds.{first}
-use Rattle.canary_stored.specs.Tables.{row_if, is_of_template}
-use Rattle.canary_stored.specs.Values.{binding_row, made_from}
+use Rattle.canary_tables_rows.specs.declared.rows.BindingRow.{BindingRow}
+use Rattle.canary_tables_rows.specs.declared.rows.RunRow.{RunRow}
+use Rattle.canary_tables_rows.specs.declared.rows.ServiceRow.{ServiceRow}
+use Rattle.canary_tables_rows.specs.Tables.{is_binding, is_run, is_service}
+use Rattle.canary_tables_read.specs.Finds.{first}
+use Rattle.canary_tables_contents.specs.Tables.{row_if, is_of_template}
+use Rattle.canary_tables_contents.specs.Values.{binding_row, made_from}
 use Rattle.canary_migrate.specs.Migrated.{first_of, bindings_to, names_at, run_bindings, bindings_of_runs, bindings_made, service_bindings, bindings_named, all_bindings}
 use Rattle.canary_migrate.proofs.Filters.{own_name, same_name, own_number, differ, first_holds, second_holds, all_join, all_mapped, all_weaker, none_pass, none_of_both, same_of_both, filter_mapped, mapped_if, first_passes}
 

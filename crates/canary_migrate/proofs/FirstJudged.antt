@@ -19,23 +19,23 @@ use Rattle.canary_plan.specs.Plans.{Templates, bound_of, strategy_of, revisions_
 use Rattle.canary_plan.specs.Refusals.{first_that_holds}
 use Rattle.canary_canonical.specs.Readings.{canonical_in}
 use Rattle.canary_canonical.specs.Texts.{command_text}
-use Rattle.canary_release.specs.declared.stand.Stand.{Stand}
+use Rattle.canary_release.specs.declared.state.ServiceState.{ServiceState}
 use Rattle.canary_release.specs.Desks.{ModelService, revisions_of, newest}
 use Rattle.canary_release.specs.Order.{IsInOrder, IsInRevisions, known_by}
 use Rattle.canary_release.specs.declared.service.ServiceParts.{ServiceParts}
 use Rattle.canary_release.specs.Parts.{is_bound, is_unbound, is_step_bound, is_background_bound, is_broken, is_misbound, is_refused, runs_wanted, is_misplaced, is_misnumbered, repeats_number, has_wrong_tallies, has_other_revisions, is_background_run, is_step_run, has_background_run, is_astray, is_judged}
 use Rattle.canary_release.specs.Passing.{next_move, is_by}
-use Rattle.canary_release.specs.Services.{is_done, is_going, is_held}
-use Rattle.canary_release.specs.Shapes.{shape}
+use Rattle.canary_release.specs.Services.{is_done, is_in_progress, is_held}
+use Rattle.canary_release.specs.Stored.{stored_form}
 use Rattle.canary_once.specs.Contents.{Contents}
 use Rattle.canary_once.specs.Sound.{AreContents}
-use Rattle.canary_rows.specs.declared.rows.BindingRow.{BindingRow}
-use Rattle.canary_rows.specs.declared.rows.RevisionRow.{RevisionRow}
-use Rattle.canary_rows.specs.Limits.{AreWithin, IsBindingWithin, IsRevisionWithin, IsTallyWithin}
-use Rattle.canary_rows.specs.Tables.{Tables, is_revision, is_binding}
-use Rattle.canary_stored.specs.Tables.{AreRows, IsReadable, row_if, revision_rows, is_of_template, binding_rows}
-use Rattle.canary_stored.specs.Values.{revision_row, service_row, binding_row, made_from}
-use Rattle.canary_reads.specs.declared.first.TemplateRow.{TemplateRow}
+use Rattle.canary_tables_rows.specs.declared.rows.BindingRow.{BindingRow}
+use Rattle.canary_tables_rows.specs.declared.rows.RevisionRow.{RevisionRow}
+use Rattle.canary_tables_rows.specs.Limits.{AreWithin, IsBindingWithin, IsRevisionWithin, IsTallyWithin}
+use Rattle.canary_tables_rows.specs.Tables.{Tables, is_revision, is_binding}
+use Rattle.canary_tables_contents.specs.Tables.{AreRows, IsReadable, row_if, revision_rows, is_of_template, binding_rows}
+use Rattle.canary_tables_contents.specs.Values.{revision_row, service_row, binding_row, made_from}
+use Rattle.canary_tables_read.specs.declared.first.TemplateRow.{TemplateRow}
 use Rattle.canary_migrate.specs.Migrated.{FirstTables, first_revision, first_of, bindings_to, bindings_of_runs, all_bindings, tally_of, migrated}
 use Rattle.canary_migrate.specs.FirstContents.{is_plain, is_plain_command, is_plain_row, AreFirstContents, template_row, first_tally, first_rows}
 use Rattle.canary_migrate.proofs.Filters.{own_name, own_number, all_passing, by_tests, none_pass, map_back}
@@ -104,11 +104,11 @@ own_or_none false b c d e off = and_right b c (not_off (b && c) (or_left (not (b
 -- why parts make no service, one cause after another
 abbrev causes : ServiceParts → List Bool
 causes s =
-    let stand = s.stand in
-    let going = is_going stand.state in
+    let service = s.service in
+    let going = is_in_progress service.state in
     let runs = s.runs.open_runs in
-    is_misplaced stand
-    ∷ nat_lt stand.last stand.entered
+    is_misplaced service
+    ∷ nat_lt service.last service.entered
     ∷ nat_lt 1000000 s.runs.count
     ∷ (going && nat_lt (1000000 - s.runs.count) (runs_wanted s))
     ∷ list_any (is_misnumbered s.runs.count) runs
@@ -117,22 +117,22 @@ causes s =
     ∷ (not going && nat_lt 0 (length runs))
     ∷ nat_lt 1 (length (filter is_background_run runs))
     ∷ nat_lt 1 (length (filter is_step_run runs))
-    ∷ list_any (is_astray stand) runs
-    ∷ (has_background_run s && (not stand.background || stand.background_hold))
-    ∷ (is_held stand && not going)
-    ∷ (stand.background && is_none stand.strategy.background)
-    ∷ (stand.background_hold && not stand.background)
+    ∷ list_any (is_astray service) runs
+    ∷ (has_background_run s && (not service.background || service.background_hold))
+    ∷ (is_held service && not going)
+    ∷ (service.background && is_none service.strategy.background)
+    ∷ (service.background_hold && not service.background)
     ∷ list_any is_judged runs
-    ∷ is_by stand.last (next_move stand)
-    ∷ is_misbound stand
-    ∷ list_any (has_other_revisions stand) runs
+    ∷ is_by service.last (next_move service)
+    ∷ is_misbound service
+    ∷ list_any (has_other_revisions service) runs
     ∷ []
 
-unbound_if : (s : ModelService) → is_broken (shape s) ≡ false → is_bound s.stand ≡ false → is_unbound s.stand ≡ true
+unbound_if : (s : ModelService) → is_broken (stored_form s) ≡ false → is_bound s.service ≡ false → is_unbound s.service ≡ true
 unbound_if s e off =
-    let f = all_false (causes (shape s)) e in
-    let misbound : is_misbound s.stand ≡ false = f.1.1.1.1.1.1.1.1.1.1.1.1.1.1.1.1.1.0 in
-    own_or_none (is_bound s.stand) (is_done s.stand.state) (is_unbound s.stand) (is_refused s.stand.bound) misbound off
+    let f = all_false (causes (stored_form s)) e in
+    let misbound : is_misbound s.service ≡ false = f.1.1.1.1.1.1.1.1.1.1.1.1.1.1.1.1.1.0 in
+    own_or_none (is_bound s.service) (is_done s.service.state) (is_unbound s.service) (is_refused s.service.bound) misbound off
 
 no_revisions : (steps : List (Option AnalysisParts)) → list_all (λ (a : Option AnalysisParts). is_none a) steps ≡ true → flat_map revisions_if steps ≡ []
 no_revisions [] e = refl
@@ -143,7 +143,7 @@ none_if : (a : Option AnalysisParts) → is_none a ≡ true → revisions_if a �
 none_if None e = refl
 none_if (Some a) e = cc e
 
-none_bound : (st : Stand) → is_unbound st ≡ true → all_revisions st.bound ≡ []
+none_bound : (st : ServiceState) → is_unbound st ≡ true → all_revisions st.bound ≡ []
 none_bound st e =
     let none = and_right (length st.bound.steps == length st.strategy.steps) (list_all (λ (a : Option AnalysisParts). is_none a) st.bound.steps && is_none st.bound.background) e in
     λ i. no_revisions st.bound.steps (and_left (list_all (λ (a : Option AnalysisParts). is_none a) st.bound.steps) (is_none st.bound.background) none) i
@@ -196,7 +196,7 @@ module _ (f : FirstTables) (c : Contents) (rows : AreRows (migrated f) c) (reada
   templates_first name (t ∷ u ∷ ts) e = let no : [] ≡ revision_row name u ∷ [] = sym (no_second name) ∙ revisions_are name (t ∷ u ∷ ts) e 2 in cc no
 
   attempt_rows : (name : List ℕ) (s : ModelService) → get c.desk.services name ≡ Some s → (template : List ℕ)
-      → row_if (binding_row name 0) (find (is_of_template template) (map first_of (all_names (analyses s.made)))) ≡ row_if (binding_row name 0) (find (is_of_template template) (all_revisions s.stand.bound))
+      → row_if (binding_row name 0) (find (is_of_template template) (map first_of (all_names (analyses s.made)))) ≡ row_if (binding_row name 0) (find (is_of_template template) (all_revisions s.service.bound))
   attempt_rows name s e template =
       let names = all_names (analyses s.made) in
       sym (
@@ -207,7 +207,7 @@ module _ (f : FirstTables) (c : Contents) (rows : AreRows (migrated f) c) (reada
       )
       ∙ rows.bindings name 0 template ∙ ap (binding_rows name 0 template) e
 
-  none_named : (name : List ℕ) (s : ModelService) → get c.desk.services name ≡ Some s → all_revisions s.stand.bound ≡ [] → all_names (analyses s.made) ≡ []
+  none_named : (name : List ℕ) (s : ModelService) → get c.desk.services name ≡ Some s → all_revisions s.service.bound ≡ [] → all_names (analyses s.made) ≡ []
   none_named name s e none = by_names (all_names (analyses s.made)) (λ template. attempt_rows name s e template ∙ ap (λ rs. row_if (binding_row name 0) (find (is_of_template template) rs)) none)
     where
       by_names : (names : List (List ℕ)) → ((template : List ℕ) → row_if (binding_row name 0) (find (is_of_template template) (map first_of names)) ≡ []) → names ≡ []
@@ -216,16 +216,16 @@ module _ (f : FirstTables) (c : Contents) (rows : AreRows (migrated f) c) (reada
           let found : binding_row name 0 (first_of n) ∷ [] ≡ [] = sym (ap (λ b. row_if (binding_row name 0) (cond b (Some (first_of n)) (find (is_of_template n) (map first_of ns)))) (own_name n)) ∙ all n in
           cc found
 
-  services_first : (name : List ℕ) (s : ModelService) → get c.desk.services name ≡ Some s → IsTrue (is_bound s.stand)
-  services_first name s e = by_test (is_bound s.stand) refl
+  services_first : (name : List ℕ) (s : ModelService) → get c.desk.services name ≡ Some s → IsTrue (is_bound s.service)
+  services_first name s e = by_test (is_bound s.service) refl
     where
-      by_test : (b : Bool) → is_bound s.stand ≡ b → is_bound s.stand ≡ true
+      by_test : (b : Bool) → is_bound s.service ≡ b → is_bound s.service ≡ true
       by_test true is = is
       by_test false off =
           let o : IsInOrder c.desk.templates name s = lawful.desk.services name s e in
           let known : Templates = known_by c.desk.templates o.bound.binding in
-          let to : s.stand.bound ≡ bound_of known (strategy_of s.made) = o.bound.bound ∙ ap (bound_of known) o.strategy in
-          let none : all_names (analyses s.made) ≡ [] = none_named name s e (none_bound s.stand (unbound_if s o.parts off)) in
+          let to : s.service.bound ≡ bound_of known (strategy_of s.made) = o.bound.bound ∙ ap (bound_of known) o.strategy in
+          let none : all_names (analyses s.made) ≡ [] = none_named name s e (none_bound s.service (unbound_if s o.parts off)) in
           (λ i. is_bound_by (o.strategy i) (to i)) ∙ alone_bound known s.made (within_limits (newest c.desk.templates) s.made o.accepted) none
 
   pub contents_first : AreFirstContents c

@@ -23,18 +23,18 @@ use Rattle.canary_release.specs.Pasts.{Run, counts_of, measurement_of}
 use Rattle.canary_once.specs.Contents.{Contents}
 use Rattle.canary_once.specs.Records.{past_in, past_of}
 use Rattle.canary_once.specs.Sound.{AreContents}
-use Rattle.canary_rows.specs.declared.rows.MeasurementRow.{MeasurementRow}
-use Rattle.canary_rows.specs.declared.rows.RevisionRow.{RevisionRow}
-use Rattle.canary_rows.specs.declared.rows.RunRow.{RunRow}
-use Rattle.canary_rows.specs.declared.rows.TallyRow.{TallyRow}
-use Rattle.canary_rows.specs.Tables.{Tables, is_revision, is_binding, is_run, is_tally, is_measurement_of}
-use Rattle.canary_stored.specs.Numbers.{phase_column}
-use Rattle.canary_stored.specs.Tables.{AreRows, IsReadable, row_if, revision_rows, run_at, tally_rows_of, is_of_template, revisions_of_run, binding_rows}
-use Rattle.canary_stored.specs.Values.{revision_row, service_row, binding_row, run_row, tally_row, measurement_row, made_from}
-use Rattle.canary_stored.specs.Reading.{contents_of}
-use Rattle.canary_judging.specs.Soundness.{ExactlyThose}
-use Rattle.canary_reads.specs.Finds.{first}
-use Rattle.canary_reads.specs.Metrics.{is_measurement_in}
+use Rattle.canary_tables_rows.specs.declared.rows.MeasurementRow.{MeasurementRow}
+use Rattle.canary_tables_rows.specs.declared.rows.RevisionRow.{RevisionRow}
+use Rattle.canary_tables_rows.specs.declared.rows.RunRow.{RunRow}
+use Rattle.canary_tables_rows.specs.declared.rows.TallyRow.{TallyRow}
+use Rattle.canary_tables_rows.specs.Tables.{Tables, is_revision, is_binding, is_run, is_tally, is_measurement_of}
+use Rattle.canary_tables_contents.specs.Numbers.{phase_column}
+use Rattle.canary_tables_contents.specs.Tables.{AreRows, IsReadable, row_if, revision_rows, run_at, tally_rows_of, is_of_template, revisions_of_run, binding_rows}
+use Rattle.canary_tables_contents.specs.Values.{revision_row, service_row, binding_row, run_row, tally_row, measurement_row, made_from}
+use Rattle.canary_tables_contents.specs.Reading.{contents_of}
+use Rattle.canary_tables_contents.specs.Soundness.{ExactlyThose}
+use Rattle.canary_tables_read.specs.Finds.{first}
+use Rattle.canary_tables_read.specs.Metrics.{is_measurement_in}
 use Rattle.canary_migrate.specs.Migrated.{first_revision, first_of, bindings_to, names_at, run_bindings, bindings_of_runs, all_bindings, is_passed, passes_of, tally_of, migrated}
 use Rattle.canary_migrate.specs.FirstContents.{AreFirstContents, template_row, first_tally, first_rows, FirstRowsMigrate, SoundRowsMigrate}
 use Rattle.canary_migrate.proofs.Filters.{own_name, own_number, turned, all_weaker, by_tests, filter_twice, filter_mapped, map_back, suffix_mapped}
@@ -81,15 +81,15 @@ module _ (c : Contents) (lawful : AreContents c) where
         by_number (Some zero) e = cc e
         by_number (Some (suc place)) e = (first_alone name place t e).1
 
-    pub attempt_first : (name : List ℕ) (s : ModelService) → get c.desk.services name ≡ Some s → IsTrue (is_bound s.stand) → all_revisions s.stand.bound ≡ map first_of (all_names (analyses s.made))
+    pub attempt_first : (name : List ℕ) (s : ModelService) → get c.desk.services name ≡ Some s → IsTrue (is_bound s.service) → all_revisions s.service.bound ≡ map first_of (all_names (analyses s.made))
     attempt_first name s e bound =
         let ord : IsInOrder c.desk.templates name s = lawful.desk.services name s e in
         let known : Templates = known_by c.desk.templates ord.bound.binding in
-        let to : s.stand.bound ≡ bound_of known (strategy_of s.made) = ord.bound.bound ∙ ap (bound_of known) ord.strategy in
+        let to : s.service.bound ≡ bound_of known (strategy_of s.made) = ord.bound.bound ∙ ap (bound_of known) ord.strategy in
         let here : is_bound_by (strategy_of s.made) (bound_of known (strategy_of s.made)) ≡ true = sym (λ i. is_bound_by (ord.strategy i) (to i)) ∙ bound in
         ap all_revisions to ∙ all_first known (known_first ord.bound.binding) s.made here
 
-    pub analysis_first : (s : ModelService) → s.stand.strategy ≡ strategy_of s.made → (r : Run) → IsRun c.desk.templates s r → r.analysis.revisions ≡ map first_of (names_at s.made r.step)
+    pub analysis_first : (s : ModelService) → s.service.strategy ≡ strategy_of s.made → (r : Run) → IsRun c.desk.templates s r → r.analysis.revisions ≡ map first_of (names_at s.made r.step)
     analysis_first s strategy r is =
         let known : Templates = known_by c.desk.templates is.binding in
         run_first known (known_first is.binding) s.made r.step r.analysis (ap (λ st. analysis_at (bound_of known st) r.step) (sym strategy) ∙ is.analysis)

@@ -4,19 +4,19 @@ use Rattle.std.specs.List.{Contains, list_all}
 use Rattle.sqlite.specs.Effect.{Database}
 use Rattle.sqlite.specs.State.{State}
 use Rattle.sqlite_value.specs.Order.{Row}
-use Rattle.canary_rows.specs.Tables.{Tables}
-use Rattle.canary_schema.specs.Cells.{whole, tables_in}
-use Rattle.canary_schema.specs.First.{first_schema, HasFirstMeta}
-use Rattle.canary_schema.specs.Laws.{OneReading}
-use Rattle.canary_schema.specs.Numbered.{IsOpenedAnew}
-use Rattle.canary_schema.specs.Stores.{IsUsable}
-use Rattle.canary_stored.specs.Laws.{ReadsBack}
-use Rattle.canary_stored.specs.Reading.{contents_of}
-use Rattle.canary_judging.specs.Laws.{JudgingIsExact}
-use Rattle.canary_judging.specs.Soundness.{AreSoundTables, ExactlyThose}
-use Rattle.canary_reads.specs.Meta.{HasMetaRow, Stands}
-use Rattle.canary_reads.specs.declared.meta.MetaRow.{MetaRow}
-use Rattle.canary_reads.specs.declared.meta.MetaRow.TheVariants.{Alone}
+use Rattle.canary_tables_rows.specs.Tables.{Tables}
+use Rattle.canary_tables_schema.specs.Cells.{integer, tables_in}
+use Rattle.canary_tables_schema.specs.First.{first_schema, HasFirstMeta}
+use Rattle.canary_tables_schema.specs.Laws.{OneReading}
+use Rattle.canary_tables_schema.specs.Numbered.{IsOpenedAnew}
+use Rattle.canary_tables_schema.specs.Stores.{IsUsable}
+use Rattle.canary_tables_contents.specs.Laws.{ReadsBack}
+use Rattle.canary_tables_contents.specs.Reading.{contents_of}
+use Rattle.canary_tables_contents.specs.JudgedLaws.{JudgingIsExact}
+use Rattle.canary_tables_contents.specs.Soundness.{AreSoundTables, ExactlyThose}
+use Rattle.canary_tables_read.specs.Meta.{HasMetaRow, Stands}
+use Rattle.canary_tables_read.specs.declared.meta.MetaRow.{MetaRow}
+use Rattle.canary_tables_read.specs.declared.meta.MetaRow.TheVariants.{Alone}
 use Rattle.canary_migrate.specs.Migrated.{FirstTables, HoldsFirst, migrated}
 use Rattle.canary_migrate.specs.FirstContents.{is_plain_row, AreFirstContents, first_rows, HasFirstRowsOf}
 use Rattle.canary_migrate.specs.Migrates.{HasFirstTables, HasSoundFirstRows, HasJudgedFirstRows, AreJudgedFirst, IsMigrated, IsRewritten}
@@ -28,7 +28,7 @@ pub alone_row : (rows : List Row) (row : MetaRow) → row ≡ Alone → Stands 1
 alone_row rows row is stands = subst (Stands 1 (HasFirstMeta rows) rows) is stands
 
 pub has_row : (rows : List Row) → HasFirstMeta rows → HasMetaRow 1 rows
-has_row rows alone = subst (λ (shown : List Row). Contains shown (whole 1 ∷ whole 1 ∷ [])) (sym alone) (0, omega arith, refl)
+has_row rows alone = subst (λ (shown : List Row). Contains shown (integer 1 ∷ integer 1 ∷ [])) (sym alone) (0, omega arith, refl)
 
 -- rows that are migrated are those of contents of the first schema's time
 first_sound : (f : FirstTables) → IsTrue (list_all is_plain_row f.templates) → AreSoundTables (migrated f) → AreFirstContents (contents_of (migrated f))

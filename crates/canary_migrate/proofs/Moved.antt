@@ -8,19 +8,19 @@ use Rattle.sqlite.specs.Tree.{Trees}
 use Rattle.sqlite.specs.State.{State, HasCleanDisk}
 use Rattle.sqlite.specs.Effect.{Database}
 use Rattle.sqlite.specs.declared.error.Error.{Error}
-use Rattle.canary_rows.specs.Tables.{Tables}
-use Rattle.canary_schema.specs.Cells.{cells_of, meta_rows, tally_tree, whole}
-use Rattle.canary_schema.specs.First.{first_schema, HasFirstMeta}
-use Rattle.canary_schema.specs.Formed.{HasRisingTables, IsFormed, AreWhole, HasWholeTallies, HasRows}
-use Rattle.canary_schema.specs.Layout.{Layout, made, moved, packed}
-use Rattle.canary_schema.specs.Remakes.{IsRemade, AreKept, old_trees, new_trees}
-use Rattle.canary_schema.specs.Schema.{schema_at}
-use Rattle.canary_schema.specs.Stores.{IsNumbered, AreNumbered, Holds, IsHeld, IsUsable}
-use Rattle.canary_statements.specs.Fills.{IsNumberedAnew, HasOneId}
-use Rattle.canary_reads.specs.declared.first.TemplateRow.{TemplateRow}
-use Rattle.canary_reads.specs.declared.first.FirstTally.{FirstTally}
-use Rattle.canary_reads.specs.First.{IsFirst, AreTemplatesIn, AreTalliesIn}
-use Rattle.canary_reads.specs.Reader.{seen_inside}
+use Rattle.canary_tables_rows.specs.Tables.{Tables}
+use Rattle.canary_tables_schema.specs.Cells.{cells_of, meta_rows, tally_tree, integer}
+use Rattle.canary_tables_schema.specs.First.{first_schema, HasFirstMeta}
+use Rattle.canary_tables_schema.specs.Formed.{HasRisingTables, IsFormed, AreWhole, HasWholeTallies, HasRows}
+use Rattle.canary_tables_schema.specs.Layout.{Layout, made, moved, packed}
+use Rattle.canary_tables_schema.specs.Remakes.{IsRemade, AreKept, old_trees, new_trees}
+use Rattle.canary_tables_schema.specs.Schema.{schema_at}
+use Rattle.canary_tables_schema.specs.Stores.{IsNumbered, AreNumbered, Holds, IsHeld, IsUsable}
+use Rattle.canary_tables_write.specs.Fills.{IsNumberedAnew, HasOneId}
+use Rattle.canary_tables_read.specs.declared.first.TemplateRow.{TemplateRow}
+use Rattle.canary_tables_read.specs.declared.first.FirstTally.{FirstTally}
+use Rattle.canary_tables_read.specs.First.{IsFirst, AreTemplatesIn, AreTalliesIn}
+use Rattle.canary_tables_read.specs.Reader.{seen_inside}
 use Rattle.canary_migrate.specs.Migrated.{FirstTables, HoldsFirst, migrated}
 use Rattle.canary_migrate.specs.Fills.{IsMade, kept_trees}
 use Rattle.canary_migrate.specs.Migrates.{IsRead}
@@ -49,7 +49,7 @@ usable_seen s h live = record { clean = h.clean; is_open = and_both s.is_open s.
 
 pub one_id : (rows : List Row) → HasFirstMeta rows → HasOneId rows
 one_id [] h = absurd (cc)
-one_id (row ∷ []) h = let it : column row 0 ≡ whole 1 = cc in ap (λ v. v ∷ []) it
+one_id (row ∷ []) h = let it : column row 0 ≡ integer 1 = cc in ap (λ v. v ∷ []) it
 one_id (row ∷ other ∷ rows) h = absurd (cc)
 
 pub all_made : {A : Type 0} (r : Result A Error) (old mid new : State) → IsRemade (schema_at moved) old_trees new_trees old mid → OnOk r (IsNumberedAnew mid new) → OnOk r (IsMade old new)

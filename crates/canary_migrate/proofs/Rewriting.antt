@@ -4,19 +4,19 @@ use Rattle.std.specs.List.{AllByRecursion, list_all}
 use Rattle.sqlite.specs.Order.{Row}
 use Rattle.sqlite.specs.State.{State, HasCleanDisk, Survives}
 use Rattle.sqlite.specs.Effect.{Database, IsDatabase}
-use Rattle.canary_rows.specs.Limits.{AreWithin}
-use Rattle.canary_rows.specs.Tables.{Tables}
-use Rattle.canary_schema.specs.Cells.{cells_of, revision_cells, binding_cells, tally_cells}
-use Rattle.canary_schema.specs.First.{HasFirstMeta}
-use Rattle.canary_schema.specs.Formed.{IsFormed, HasRows, HasWholeTallies}
-use Rattle.canary_schema.specs.Layout.{moved}
-use Rattle.canary_schema.specs.Stores.{IsUsable, IsHeld, Holds, Stores, StaysCommitted}
-use Rattle.canary_judging.specs.Services.{IsJudged}
-use Rattle.canary_reads.specs.declared.first.TemplateRow.{TemplateRow}
-use Rattle.canary_reads.specs.declared.first.FirstTally.{FirstTally}
-use Rattle.canary_reads.specs.Finds.{IsSame}
-use Rattle.canary_reads.specs.First.{IsFirst, AreTemplatesIn, AreTalliesIn, IsTemplateWithin, IsFirstTallyWithin}
-use Rattle.canary_reads.specs.Reader.{IsKept, seen_inside}
+use Rattle.canary_tables_rows.specs.Limits.{AreWithin}
+use Rattle.canary_tables_rows.specs.Tables.{Tables}
+use Rattle.canary_tables_schema.specs.Cells.{cells_of, revision_cells, binding_cells, tally_cells}
+use Rattle.canary_tables_schema.specs.First.{HasFirstMeta}
+use Rattle.canary_tables_schema.specs.Formed.{IsFormed, HasRows, HasWholeTallies}
+use Rattle.canary_tables_schema.specs.Layout.{moved}
+use Rattle.canary_tables_schema.specs.Stores.{IsUsable, IsHeld, Holds, Stores, StaysCommitted}
+use Rattle.canary_tables_contents.specs.Services.{IsJudged}
+use Rattle.canary_tables_read.specs.declared.first.TemplateRow.{TemplateRow}
+use Rattle.canary_tables_read.specs.declared.first.FirstTally.{FirstTally}
+use Rattle.canary_tables_read.specs.Finds.{IsSame}
+use Rattle.canary_tables_read.specs.First.{IsFirst, AreTemplatesIn, AreTalliesIn, IsTemplateWithin, IsFirstTallyWithin}
+use Rattle.canary_tables_read.specs.Reader.{IsKept, seen_inside}
 use Rattle.canary_migrate.specs.Migrated.{FirstTables, HoldsFirst, migrated}
 use Rattle.canary_migrate.specs.FirstContents.{is_plain_row}
 use Rattle.canary_migrate.specs.Fills.{IsMade, filled}

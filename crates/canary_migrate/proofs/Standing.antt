@@ -2,10 +2,10 @@
 use Rattle.std.proofs.Common.{◌≡◌, ℕ, refl, sym, subst, ◌∙◌}
 use Rattle.sqlite.specs.State.{State}
 use Rattle.sqlite.specs.Effect.{Database}
-use Rattle.canary_rows.specs.Tables.{Tables}
-use Rattle.canary_schema.specs.Stores.{IsUsable, IsHeld, Stores}
-use Rattle.canary_reads.specs.Finds.{IsSame}
-use Rattle.canary_reads.specs.Reader.{IsKept}
+use Rattle.canary_tables_rows.specs.Tables.{Tables}
+use Rattle.canary_tables_schema.specs.Stores.{IsUsable, IsHeld, Stores}
+use Rattle.canary_tables_read.specs.Finds.{IsSame}
+use Rattle.canary_tables_read.specs.Reader.{IsKept}
 
 pub same_then : (old between new : State) → IsSame old between → IsSame between new → IsSame old new
 same_then old between new first second usable = let s = second usable in let f = first s.0 in (f.0, s.1 ∙ f.1)

@@ -5,15 +5,15 @@ use Rattle.sqlite.specs.Held.{Held, state}
 use Rattle.sqlite.specs.State.{State, HasCleanDisk, Survives, KeepsCommit}
 use Rattle.sqlite.specs.Effect.{Database}
 use Rattle.sqlite_trees.specs.declared.store.Store.{Ghosts}
-use Rattle.canary_rows.specs.declared.rows.BindingRow.{BindingRow}
-use Rattle.canary_rows.specs.declared.rows.RevisionRow.{RevisionRow}
-use Rattle.canary_rows.specs.declared.rows.TallyRow.{TallyRow}
-use Rattle.canary_rows.specs.Tables.{Tables}
-use Rattle.canary_schema.specs.Cells.{cells_of, meta_rows}
-use Rattle.canary_schema.specs.Layout.{moved}
-use Rattle.canary_schema.specs.Stores.{IsNumbered, Holds, IsHeld, IsReady, IsUsable, StaysCommitted}
-use Rattle.canary_statements.specs.Fills.{IsNumberedAnew, HasOneId}
-use Rattle.canary_reads.specs.Reader.{IsKept}
+use Rattle.canary_tables_rows.specs.declared.rows.BindingRow.{BindingRow}
+use Rattle.canary_tables_rows.specs.declared.rows.RevisionRow.{RevisionRow}
+use Rattle.canary_tables_rows.specs.declared.rows.TallyRow.{TallyRow}
+use Rattle.canary_tables_rows.specs.Tables.{Tables}
+use Rattle.canary_tables_schema.specs.Cells.{cells_of, meta_rows}
+use Rattle.canary_tables_schema.specs.Layout.{moved}
+use Rattle.canary_tables_schema.specs.Stores.{IsNumbered, Holds, IsHeld, IsReady, IsUsable, StaysCommitted}
+use Rattle.canary_tables_write.specs.Fills.{IsNumberedAnew, HasOneId}
+use Rattle.canary_tables_read.specs.Reader.{IsKept}
 
 either_way : (b : Bool) → (b ≡ true) ⊎ (b ≡ false)
 either_way true = inl refl

@@ -2,13 +2,13 @@
 use Rattle.std.specs.Prelude.{◌≡◌, ◌++◌, ℕ, List, [], ◌∷◌, map, IsTrue}
 use Rattle.sqlite.specs.Effect.{IsDatabase}
 use Rattle.sqlite.specs.State.{State}
-use Rattle.canary_rows.specs.Tables.{Tables}
-use Rattle.canary_schema.specs.Cells.{meta_rows}
-use Rattle.canary_schema.specs.Layout.{moved}
-use Rattle.canary_schema.specs.Remakes.{AreKept, AreEmpty, new_trees}
-use Rattle.canary_schema.specs.Schema.{schema_at}
-use Rattle.canary_reads.specs.declared.first.TemplateRow.{TemplateRow}
-use Rattle.canary_reads.specs.declared.first.FirstTally.{FirstTally}
+use Rattle.canary_tables_rows.specs.Tables.{Tables}
+use Rattle.canary_tables_schema.specs.Cells.{meta_rows}
+use Rattle.canary_tables_schema.specs.Layout.{moved}
+use Rattle.canary_tables_schema.specs.Remakes.{AreKept, AreEmpty, new_trees}
+use Rattle.canary_tables_schema.specs.Schema.{schema_at}
+use Rattle.canary_tables_read.specs.declared.first.TemplateRow.{TemplateRow}
+use Rattle.canary_tables_read.specs.declared.first.FirstTally.{FirstTally}
 use Rattle.canary_migrate.specs.Migrated.{first_revision, all_bindings, tally_of}
 
 -- caller, kept, service, run, measurement and history

@@ -13,15 +13,15 @@ use Rattle.canary_release.specs.Desks.{ModelService}
 use Rattle.canary_release.specs.Parts.{is_bound}
 use Rattle.canary_once.specs.Contents.{Contents}
 use Rattle.canary_once.specs.Sound.{AreContents}
-use Rattle.canary_rows.specs.declared.rows.RevisionRow.{RevisionRow}
-use Rattle.canary_rows.specs.declared.rows.TallyRow.{TallyRow}
-use Rattle.canary_rows.specs.Limits.{AreWithin}
-use Rattle.canary_rows.specs.Tables.{Tables}
-use Rattle.canary_stored.specs.Tables.{AreRows, IsReadable}
-use Rattle.canary_stored.specs.Reading.{contents_of}
-use Rattle.canary_judging.specs.Soundness.{AreSoundTables}
-use Rattle.canary_reads.specs.declared.first.TemplateRow.{TemplateRow}
-use Rattle.canary_reads.specs.declared.first.FirstTally.{FirstTally}
+use Rattle.canary_tables_rows.specs.declared.rows.RevisionRow.{RevisionRow}
+use Rattle.canary_tables_rows.specs.declared.rows.TallyRow.{TallyRow}
+use Rattle.canary_tables_rows.specs.Limits.{AreWithin}
+use Rattle.canary_tables_rows.specs.Tables.{Tables}
+use Rattle.canary_tables_contents.specs.Tables.{AreRows, IsReadable}
+use Rattle.canary_tables_contents.specs.Reading.{contents_of}
+use Rattle.canary_tables_contents.specs.Soundness.{AreSoundTables}
+use Rattle.canary_tables_read.specs.declared.first.TemplateRow.{TemplateRow}
+use Rattle.canary_tables_read.specs.declared.first.FirstTally.{FirstTally}
 use Rattle.canary_migrate.specs.Migrated.{FirstTables, HoldsFirst, migrated}
 
 -- no metric of the template has `passAfter`
@@ -42,7 +42,7 @@ pub record AreFirstContents (c : Contents) : Type 0 where
   pub templates : (name : List ℕ) (ts : List Template) → get c.desk.templates name ≡ Some ts
       → (t : Template) × (ts ≡ t ∷ []) × IsTrue (is_plain t.spec)
   pub services : (name : List ℕ) (s : ModelService) → get c.desk.services name ≡ Some s
-      → IsTrue (is_bound s.stand)
+      → IsTrue (is_bound s.service)
 
 -- Their rows: a template in place of its revision, a tally without its passes, and no bindings.
 

@@ -12,24 +12,24 @@ use Rattle.canary_plan.specs.Commands.{all_names}
 use Rattle.canary_plan.specs.PlanRefusals.{analyses}
 use Rattle.canary_plan.specs.Plans.{distinct}
 use Rattle.canary_canonical.specs.Readings.{canonical_in}
-use Rattle.canary_rows.specs.declared.rows.CallerRow.{CallerRow}
-use Rattle.canary_rows.specs.declared.rows.KeptRow.{KeptRow}
-use Rattle.canary_rows.specs.declared.rows.RevisionRow.{RevisionRow}
-use Rattle.canary_rows.specs.declared.rows.BindingRow.{BindingRow}
-use Rattle.canary_rows.specs.declared.rows.ServiceRow.{ServiceRow}
-use Rattle.canary_rows.specs.declared.rows.RunRow.{RunRow}
-use Rattle.canary_rows.specs.declared.rows.TallyRow.{TallyRow}
-use Rattle.canary_rows.specs.declared.rows.MeasurementRow.{MeasurementRow}
-use Rattle.canary_rows.specs.declared.rows.HistoryRow.{HistoryRow}
-use Rattle.canary_rows.specs.Tables.{Tables, is_service, is_run}
-use Rattle.canary_schema.specs.Cells.{cells_of, caller_cells, kept_cells, service_cells, run_cells, measurement_cells, history_cells}
-use Rattle.canary_schema.specs.First.{first_schema, HasFirstMeta}
-use Rattle.canary_stored.specs.Values.{binding_row, made_from}
-use Rattle.canary_reads.specs.declared.first.TemplateRow.{TemplateRow}
-use Rattle.canary_reads.specs.declared.first.FirstTally.{FirstTally}
-use Rattle.canary_reads.specs.Finds.{first}
-use Rattle.canary_reads.specs.First.{AreTemplatesIn, AreTalliesIn}
-use Rattle.canary_reads.specs.Metrics.{is_measurement_in}
+use Rattle.canary_tables_rows.specs.declared.rows.CallerRow.{CallerRow}
+use Rattle.canary_tables_rows.specs.declared.rows.KeptRow.{KeptRow}
+use Rattle.canary_tables_rows.specs.declared.rows.RevisionRow.{RevisionRow}
+use Rattle.canary_tables_rows.specs.declared.rows.BindingRow.{BindingRow}
+use Rattle.canary_tables_rows.specs.declared.rows.ServiceRow.{ServiceRow}
+use Rattle.canary_tables_rows.specs.declared.rows.RunRow.{RunRow}
+use Rattle.canary_tables_rows.specs.declared.rows.TallyRow.{TallyRow}
+use Rattle.canary_tables_rows.specs.declared.rows.MeasurementRow.{MeasurementRow}
+use Rattle.canary_tables_rows.specs.declared.rows.HistoryRow.{HistoryRow}
+use Rattle.canary_tables_rows.specs.Tables.{Tables, is_service, is_run}
+use Rattle.canary_tables_schema.specs.Cells.{cells_of, caller_cells, kept_cells, service_cells, run_cells, measurement_cells, history_cells}
+use Rattle.canary_tables_schema.specs.First.{first_schema, HasFirstMeta}
+use Rattle.canary_tables_contents.specs.Values.{binding_row, made_from}
+use Rattle.canary_tables_read.specs.declared.first.TemplateRow.{TemplateRow}
+use Rattle.canary_tables_read.specs.declared.first.FirstTally.{FirstTally}
+use Rattle.canary_tables_read.specs.Finds.{first}
+use Rattle.canary_tables_read.specs.First.{AreTemplatesIn, AreTalliesIn}
+use Rattle.canary_tables_read.specs.Metrics.{is_measurement_in}
 
 -- the rows of a desk of the first schema
 pub record FirstTables : Type 0 where

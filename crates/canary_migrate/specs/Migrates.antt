@@ -3,18 +3,18 @@ use Rattle.std.specs.Prelude.{◌≡◌, IsTrue, List}
 use Rattle.std.specs.List.{list_all}
 use Rattle.sqlite.specs.Effect.{Database}
 use Rattle.sqlite.specs.State.{State}
-use Rattle.canary_rows.specs.Limits.{AreWithin}
-use Rattle.canary_rows.specs.Tables.{Tables}
-use Rattle.canary_schema.specs.Cells.{tables_in}
-use Rattle.canary_schema.specs.First.{first_schema, HasFirstMeta}
-use Rattle.canary_schema.specs.Stores.{IsUsable, IsHeld, Stores}
-use Rattle.canary_stored.specs.Reading.{contents_of}
-use Rattle.canary_judging.specs.Services.{IsJudged}
-use Rattle.canary_judging.specs.Soundness.{AreSoundTables}
-use Rattle.canary_reads.specs.declared.first.TemplateRow.{TemplateRow}
-use Rattle.canary_reads.specs.declared.first.FirstTally.{FirstTally}
-use Rattle.canary_reads.specs.First.{IsFirst, AreTemplatesIn, AreTalliesIn}
-use Rattle.canary_reads.specs.Meta.{HasMetaRow}
+use Rattle.canary_tables_rows.specs.Limits.{AreWithin}
+use Rattle.canary_tables_rows.specs.Tables.{Tables}
+use Rattle.canary_tables_schema.specs.Cells.{tables_in}
+use Rattle.canary_tables_schema.specs.First.{first_schema, HasFirstMeta}
+use Rattle.canary_tables_schema.specs.Stores.{IsUsable, IsHeld, Stores}
+use Rattle.canary_tables_contents.specs.Reading.{contents_of}
+use Rattle.canary_tables_contents.specs.Services.{IsJudged}
+use Rattle.canary_tables_contents.specs.Soundness.{AreSoundTables}
+use Rattle.canary_tables_read.specs.declared.first.TemplateRow.{TemplateRow}
+use Rattle.canary_tables_read.specs.declared.first.FirstTally.{FirstTally}
+use Rattle.canary_tables_read.specs.First.{IsFirst, AreTemplatesIn, AreTalliesIn}
+use Rattle.canary_tables_read.specs.Meta.{HasMetaRow}
 use Rattle.canary_migrate.specs.Migrated.{FirstTables, HoldsFirst, migrated}
 use Rattle.canary_migrate.specs.FirstContents.{is_plain_row, AreFirstContents, first_rows, HasFirstRowsOf}
 

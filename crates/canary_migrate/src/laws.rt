@@ -1,7 +1,7 @@
 //! Laws over the definitions alone.
 ghost use Rattle.canary_migrate.specs.FirstContents.{FirstRowsMigrate, SoundRowsMigrate};
 
-use canary_judging::laws as judging_laws;
+use canary_tables_contents::judged_laws as judging_laws;
 
 /// What the first schema has of the rows of contents of its time migrates to the rows of these
 /// contents. So where they are sound, it migrates to rows of sound contents.

@@ -1,32 +1,31 @@
 //! A database of the first schema becomes a desk's, or stays as it was.
 ghost use Rattle.std.specs.Prelude.{◌≡◌, ◌≢◌, false, IsTrue, IfOk, IfErr, OnOk, OnErr, Err};
 ghost use Rattle.sqlite.specs.Held.{state};
-ghost use Rattle.canary_schema.specs.First.{HasFirstMeta};
-ghost use Rattle.canary_schema.specs.Stores.{IsUsable};
-ghost use Rattle.canary_reads.specs.First.{IsFirst};
-ghost use Rattle.canary_reads.specs.Meta.{HasMetaRow};
+ghost use Rattle.canary_tables_schema.specs.First.{HasFirstMeta};
+ghost use Rattle.canary_tables_schema.specs.Stores.{IsUsable};
+ghost use Rattle.canary_tables_read.specs.First.{IsFirst};
+ghost use Rattle.canary_tables_read.specs.Meta.{HasMetaRow};
 ghost use Rattle.canary_tables.specs.Adopts.{TellsTables, LeavesRows, IsLeftBy, IsOutside};
 ghost use Rattle.canary_tables.specs.declared.fault.TableFault.TheVariants as fault;
-ghost use Rattle.canary_reads.specs.Reader.{IsKept, seen_inside};
+ghost use Rattle.canary_tables_read.specs.Reader.{IsKept, seen_inside};
 ghost use Rattle.canary_migrate.specs.Migrates.{HasFirstTables, HasSoundFirstRows, IsMigrated};
 ghost use Rattle.canary_migrate.specs.Migrates.{HasJudgedFirstRows, IsRead, IsRewritten};
 
 use crate::fill::{fill, make_tables};
 use crate::plain;
-use canary_adopting::judge::judge;
-use canary_adopting::progress::Progress;
-use canary_judging::laws as judging_laws;
-use canary_reads::fault::ReadFault;
-use canary_reads::first::{self, FirstTally, TemplateRow};
-use canary_reads::meta::{MetaRow, first_row};
-use canary_reads::typed::typed;
-use canary_schema::anew::open_anew;
-use canary_schema::fault::fault_of;
-use canary_schema::first::is_first;
-use canary_schema::laws as schema_laws;
-use canary_statements::fills::set_schema;
-use canary_stored::laws as stored_laws;
-use canary_tables::fault::{Left, TableFault};
+use canary_tables::fault::{TableFault, Unadopted};
+use canary_tables_adopt::progress::JudgingProgress;
+use canary_tables_adopt::validate::validate;
+use canary_tables_contents::{judged_laws as judging_laws, laws as stored_laws};
+use canary_tables_read::check_types::check_types;
+use canary_tables_read::fault::ReadFault;
+use canary_tables_read::first::{self, FirstTally, TemplateRow};
+use canary_tables_read::meta::{MetaRow, first_row};
+use canary_tables_schema::fault::fault_of;
+use canary_tables_schema::first::is_first;
+use canary_tables_schema::laws as schema_laws;
+use canary_tables_schema::reopen::reopen;
+use canary_tables_write::fills::set_schema;
 use sqlite::{Alter, Connection, Transaction};
 use std::alloc::Global;
 
@@ -44,11 +43,11 @@ use std::alloc::Global;
 /// `Memory` where an allocation was refused; `Storage` where the store failed, or the connection
 /// stands inside a transaction. What is left of the connection is handed back, with the database as
 /// it was.
-pub fn migrate<S: Alter + Drop, G: Progress>(
+pub fn migrate<S: Alter + Drop, G: JudgingProgress>(
     alloc: Global,
     conn: Connection<S>,
     progress: &mut G,
-) -> Result<Connection<S>, (TableFault, Left<S>)>
+) -> Result<Connection<S>, (TableFault, Unadopted<S>)>
     ensures done { IfOk result (λ it. IsUsable (state S.Store it)
         → IsMigrated (state S.Store conn) (state S.Store it)) }
     ensures autocommit { IfOk result (λ it. it.in_transaction ≡ false) }
@@ -66,26 +65,26 @@ pub fn migrate<S: Alter + Drop, G: Progress>(
     stored_laws::reads_back();
     schema_laws::one_reading();
     if !conn.is_autocommit() {
-        return Err((TableFault::Storage, Left::Connection(conn)));
+        return Err((TableFault::Storage, Unadopted::Connection(conn)));
     }
     if !is_first(conn.schema()) {
-        return Err((TableFault::OtherSchema, Left::Connection(conn)));
+        return Err((TableFault::OtherSchema, Unadopted::Connection(conn)));
     }
-    let (mut conn, _) = match open_anew(alloc, conn) {
+    let (mut conn, _) = match reopen(alloc, conn) {
         Ok(opened) => opened,
-        Err((fault, store)) => return Err((fault.into(), Left::Store(store))),
+        Err((fault, store)) => return Err((fault.into(), Unadopted::Store(store))),
     };
     if !is_first(conn.schema()) {
-        return Err((TableFault::Storage, Left::Connection(conn)));
+        return Err((TableFault::Storage, Unadopted::Connection(conn)));
     }
     match migrate_rows(&mut conn, alloc, progress) {
         Ok(()) => Ok(conn),
-        Err(fault) => Err((fault, Left::Connection(conn))),
+        Err(fault) => Err((fault, Unadopted::Connection(conn))),
     }
 }
 
 // The same of a connection over a store that was opened anew.
-fn migrate_rows<S: Alter, G: Progress>(
+fn migrate_rows<S: Alter, G: JudgingProgress>(
     conn: &mut Connection<S>,
     alloc: Global,
     progress: &mut G,
@@ -115,7 +114,7 @@ fn migrate_rows<S: Alter, G: Progress>(
 }
 
 // The same where meta has the row of the first schema alone.
-fn rewrite<S: Alter, G: Progress>(
+fn rewrite<S: Alter, G: JudgingProgress>(
     conn: &mut Connection<S>,
     alloc: Global,
     progress: &mut G,
@@ -145,7 +144,7 @@ fn rewrite<S: Alter, G: Progress>(
 }
 
 // Writes and judges in one transaction, which is committed only if neither failed.
-fn transact<S: Alter, G: Progress>(
+fn transact<S: Alter, G: JudgingProgress>(
     conn: &mut Connection<S>,
     alloc: Global,
     templates: &[TemplateRow],
@@ -177,7 +176,7 @@ fn transact<S: Alter, G: Progress>(
 }
 
 // All that is written, judged.
-fn write<S: Alter, G: Progress>(
+fn write<S: Alter, G: JudgingProgress>(
     tx: &mut Transaction<'_, S>,
     alloc: Global,
     templates: &[TemplateRow],
@@ -197,9 +196,9 @@ fn write<S: Alter, G: Progress>(
     ensures kept { IsKept (state S.Store tx.old.conn.now) (state S.Store tx.new.conn.now) }
 {
     make_tables(tx)?;
-    typed(tx)?;
+    check_types(tx)?;
     fill(tx, alloc, templates, tallies)?;
-    judge(tx, alloc, progress)
+    validate(tx, alloc, progress)
 }
 
 // The fault, but that of a row only where the transaction goes on: once it has ended, it shows

@@ -2,7 +2,7 @@
 ghost use Rattle.std.specs.Prelude.{◌≡◌, ℕ, List, IfOk, Some, map};
 ghost use Rattle.canary_plan.specs.Commands.{all_names};
 ghost use Rattle.canary_plan.specs.PlanRefusals.{analyses};
-ghost use Rattle.canary_stored.specs.Values.{binding_row};
+ghost use Rattle.canary_tables_contents.specs.Values.{binding_row};
 ghost use Rattle.canary_migrate.specs.Migrated.{first_of, bindings_to, names_at, run_bindings};
 
 use canary_base::error::Memory;
@@ -12,7 +12,7 @@ use canary_plan::analysis_parts::{Revision, distinct};
 use canary_plan::command::Command;
 use canary_plan::service::ServiceSpec;
 use canary_plan::step::Step;
-use canary_rows::rows::{BindingRow, RunRow};
+use canary_tables_rows::rows::{BindingRow, RunRow};
 use std::alloc::Global;
 
 /// What the present attempt of the service of that name is bound to, or `Memory`.

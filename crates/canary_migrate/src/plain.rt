@@ -2,11 +2,11 @@
 ghost use Rattle.std.specs.Prelude.{◌≡◌, ◌≢◌, List, IsTrue, IfOk, Err};
 ghost use Rattle.std.specs.List.{AllByRecursion, list_all};
 ghost use Rattle.canary_canonical.specs.Readings.{canonical_in};
-ghost use Rattle.canary_schema.specs.Stores.{IsUsable};
-ghost use Rattle.canary_reads.specs.declared.first.TemplateRow.{TemplateRow as OfTemplate};
-ghost use Rattle.canary_reads.specs.Finds.{IsSame};
-ghost use Rattle.canary_reads.specs.First.{IsFirst, AreTemplatesIn, IsTemplateWithin};
-ghost use Rattle.canary_reads.specs.Reader.{IsKept};
+ghost use Rattle.canary_tables_schema.specs.Stores.{IsUsable};
+ghost use Rattle.canary_tables_read.specs.declared.first.TemplateRow.{TemplateRow as OfTemplate};
+ghost use Rattle.canary_tables_read.specs.Finds.{IsSame};
+ghost use Rattle.canary_tables_read.specs.First.{IsFirst, AreTemplatesIn, IsTemplateWithin};
+ghost use Rattle.canary_tables_read.specs.Reader.{IsKept};
 ghost use Rattle.canary_migrate.specs.FirstContents.{is_plain, is_plain_command, is_plain_row};
 
 use canary_base::error::Memory;
@@ -15,9 +15,9 @@ use canary_canonical::form::FormFault;
 use canary_canonical::reading::from_canonical;
 use canary_plan::command::Command;
 use canary_plan::template_spec::TemplateSpec;
-use canary_reads::fault::ReadFault;
-use canary_reads::first::{self, TemplateRow};
-use canary_reads::reader::Reader;
+use canary_tables_read::fault::ReadFault;
+use canary_tables_read::first::{self, TemplateRow};
+use canary_tables_read::reader::Reader;
 use std::alloc::Global;
 
 /// The templates of a database of the first schema, in the order in which they were added.

@@ -2,12 +2,12 @@
 ghost use Rattle.std.specs.Prelude.{◌≡◌, ◌++◌, IfOk, filter, flat_map};
 ghost use Rattle.std.specs.List.{AllByRecursion};
 ghost use Rattle.canary_canonical.specs.Readings.{canonical_in};
-ghost use Rattle.canary_rows.specs.Limits.{IsServiceWithin, IsRunWithin};
-ghost use Rattle.canary_rows.specs.Tables.{is_run};
-ghost use Rattle.canary_stored.specs.Values.{made_from};
-ghost use Rattle.canary_reads.specs.Breaks.{BreaksUnless};
-ghost use Rattle.canary_reads.specs.Finds.{IsSame, FindsRows, first};
-ghost use Rattle.canary_reads.specs.Reader.{IsKept};
+ghost use Rattle.canary_tables_rows.specs.Limits.{IsServiceWithin, IsRunWithin};
+ghost use Rattle.canary_tables_rows.specs.Tables.{is_run};
+ghost use Rattle.canary_tables_contents.specs.Values.{made_from};
+ghost use Rattle.canary_tables_read.specs.Breaks.{BreaksUnless};
+ghost use Rattle.canary_tables_read.specs.Finds.{IsSame, FindsRows, first};
+ghost use Rattle.canary_tables_read.specs.Reader.{IsKept};
 ghost use Rattle.canary_migrate.specs.Migrated.{all_bindings, bindings_named, bindings_made};
 ghost use Rattle.canary_migrate.specs.Migrated.{bindings_of_runs, run_bindings};
 
@@ -16,12 +16,12 @@ use canary_base::error::Memory;
 use canary_base::lists::Listed;
 use canary_base::names::Name;
 use canary_plan::service::ServiceSpec;
-use canary_reads::fault::ReadFault;
-use canary_reads::reader::Reader;
-use canary_reads::{lists, runs, services};
-use canary_rows::rows::{BindingRow, ServiceRow};
-use canary_stored::fault::RowFault;
-use canary_stored::reading;
+use canary_tables_contents::fault::RowFault;
+use canary_tables_contents::reading;
+use canary_tables_read::fault::ReadFault;
+use canary_tables_read::reader::Reader;
+use canary_tables_read::{lists, runs, services};
+use canary_tables_rows::rows::{BindingRow, ServiceRow};
 use std::alloc::Global;
 
 /// What all services and their runs are bound to, by revision 1 of each template.

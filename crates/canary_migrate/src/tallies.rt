@@ -1,20 +1,20 @@
 //! Tallies of the first schema, with their passes counted.
 ghost use Rattle.std.specs.Prelude.{◌≡◌, ◌≢◌, ◌+◌, if◌then◌else◌, IfOk, Err, map};
 ghost use Rattle.std.specs.List.{AllByRecursion, suffix_len};
-ghost use Rattle.canary_rows.specs.Limits.{IsMeasurementWithin, IsTallyWithin};
-ghost use Rattle.canary_reads.specs.Breaks.{BreaksUnless};
-ghost use Rattle.canary_reads.specs.Finds.{IsSame, FindsRows};
-ghost use Rattle.canary_reads.specs.Reader.{IsKept};
+ghost use Rattle.canary_tables_rows.specs.Limits.{IsMeasurementWithin, IsTallyWithin};
+ghost use Rattle.canary_tables_read.specs.Breaks.{BreaksUnless};
+ghost use Rattle.canary_tables_read.specs.Finds.{IsSame, FindsRows};
+ghost use Rattle.canary_tables_read.specs.Reader.{IsKept};
 ghost use Rattle.canary_migrate.specs.Migrated.{is_passed, counted_with, tally_of};
 
 use canary_base::lists::Listed;
 use canary_metric::laws;
 use canary_metric::tally::Tally;
-use canary_reads::fault::ReadFault;
-use canary_reads::first::FirstTally;
-use canary_reads::metrics;
-use canary_reads::reader::Reader;
-use canary_rows::rows::{MeasurementRow, TallyRow};
+use canary_tables_read::fault::ReadFault;
+use canary_tables_read::first::FirstTally;
+use canary_tables_read::metrics;
+use canary_tables_read::reader::Reader;
+use canary_tables_rows::rows::{MeasurementRow, TallyRow};
 use std::alloc::Global;
 
 /// These tallies, each with the passes of its metric, by the measurements.

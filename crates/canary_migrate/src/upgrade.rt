@@ -1,11 +1,11 @@
 //! A desk's file becomes one of the present schema.
 use crate::migrate::migrate;
-use canary_adopting::progress::Progress;
-use canary_connection::connect::connect;
-use canary_reads::meta::{MetaRow, desk_row};
-use canary_schema::fault::fault_of;
-use canary_schema::known::is_desk;
 use canary_tables::fault::TableFault;
+use canary_tables_adopt::progress::JudgingProgress;
+use canary_tables_file::connect::connect;
+use canary_tables_read::meta::{MetaRow, desk_row};
+use canary_tables_schema::fault::fault_of;
+use canary_tables_schema::recognize::is_desk;
 use sqlite::{Connection, Error, ErrorCode, File, FileStore};
 
 /// Makes the file of SQLite at a path, which is a desk's of the first schema, one of the present
@@ -19,7 +19,7 @@ use sqlite::{Connection, Error, ErrorCode, File, FileStore};
 /// contents of its time, as with `passAfter` in a template; `Memory` where an allocation was
 /// refused; `Storage` where the file cannot be opened, is no database, or fails. The file is as it
 /// was then; but if it fails as it is closed, it may be migrated.
-pub fn upgrade<G: Progress>(
+pub fn upgrade<G: JudgingProgress>(
     rt: &HostRuntime,
     path: &str,
     progress: &mut G,

@@ -9,7 +9,7 @@ use Rattle.canary_plan.specs.Commands.{subject_of}
 use Rattle.canary_release.specs.declared.decide.DeskChange.{DeskChange}
 use Rattle.canary_release.specs.declared.decide.DeskChange.TheVariants as change
 use Rattle.canary_release.specs.Desks.{ModelService, Desk, ruling_on, after, apply}
-use Rattle.canary_release.specs.Shapes.{shape, said, changed, seen, kept_by, KeepsWhatIsSeen}
+use Rattle.canary_release.specs.Stored.{stored_form, change_of, desk_with, stored_service, stored_by, KeepsWhatIsSeen}
 use Rattle.canary_release.specs.Effects.{IsChange, CommandsChange}
 use Rattle.canary_release.specs.Laws.{RefusalsLeaveTheDesk}
 use Rattle.canary_release.specs.Order.{AreInOrder, StayInOrder}
@@ -72,21 +72,21 @@ pub is_change : CommandsChange → (c : Contents) (s : Settlement) → IsSettlin
 is_change law c s settling are =
     subst (IsChange c.desk s.receipt.command) (sym settling.step.1.change) (law c.desk settling.step.0 s.receipt.command are.desk)
 
-kept_there : KeepsWhatIsSeen → (desk : Desk) (now : ℕ) (command : Command) (d : DeskChange) → IsChange desk command d → d ≡ said (ruling_on desk now command).change → changed desk command d ≡ (apply desk now command).desk → IsKept desk (subject_of command) d
+kept_there : KeepsWhatIsSeen → (desk : Desk) (now : ℕ) (command : Command) (d : DeskChange) → IsChange desk command d → d ≡ change_of (ruling_on desk now command).change → desk_with desk command d ≡ (apply desk now command).desk → IsKept desk (subject_of command) d
 kept_there law desk now command change.Nothing made is then = tt
 kept_there law desk now command (change.Template t) made is then = tt
 kept_there law desk now command (change.Service s effects) made is then =
     let name = subject_of command in
-    let m : ModelService = after (get desk.services name) s.stand effects in
+    let m : ModelService = after (get desk.services name) s.service effects in
     let there : get (insert desk.services name m) name ≡ Some m = at_itself desk.services (insert desk.services name m) name (Some m) (insert_with desk.services name m) in
     record {
       strategy = made.strategy;
       allowed = (desk.templates, made.allowed);
       service =
-          some_same s (shape m)
-          (sym (law desk now command s (ap kept_by (sym is)))
-          ∙ ap (λ (k : Desk). seen k name) (sym then)
-          ∙ ap (option_map shape) there);
+          some_same s (stored_form m)
+          (sym (law desk now command s (ap stored_by (sym is)))
+          ∙ ap (λ (k : Desk). stored_service k name) (sym then)
+          ∙ ap (option_map stored_form) there);
     }
 
 pub is_kept : CommandsChange → KeepsWhatIsSeen → (c : Contents) (s : Settlement) → IsSettling c s → AreContents c → IsKept c.desk (subject_of s.receipt.command) s.change
@@ -100,6 +100,6 @@ kept_itself desk command (change.Service s effects) is kept = subst (λ (n : Lis
 
 -- The book in memory.
 
-pub settled_is : (c : Contents) (s : Settlement) (callers : CallerMap) (desk : Desk) → callers ≡ with_receipt c.callers s.caller s.receipt → desk ≡ changed c.desk s.receipt.command s.change
+pub settled_is : (c : Contents) (s : Settlement) (callers : CallerMap) (desk : Desk) → callers ≡ with_receipt c.callers s.caller s.receipt → desk ≡ desk_with c.desk s.receipt.command s.change
     → ◌≡◌ {A = Contents} (record { callers = callers; desk = desk }) (with_settlement c s)
 settled_is c s callers desk one next i = record { callers = one i; desk = next i }

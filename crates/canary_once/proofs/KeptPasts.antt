@@ -9,11 +9,11 @@ use Rattle.canary_release.specs.declared.effect.Opening.{Opening}
 use Rattle.canary_release.specs.declared.effect.Recorded.{Recorded}
 use Rattle.canary_release.specs.declared.effect.Closing.{Closing}
 use Rattle.canary_release.specs.declared.effect.Effect.{Effect}
-use Rattle.canary_release.specs.declared.effect.Effect.TheVariants.{Told, Opened, Measured, Closed}
+use Rattle.canary_release.specs.declared.effect.Effect.TheVariants.{LineAdded, RunOpened, MeasurementRecorded, RunClosed}
 use Rattle.canary_release.specs.declared.runs.OpenRun.{OpenRun}
 use Rattle.canary_release.specs.declared.runs.Runs.{Runs}
-use Rattle.canary_release.specs.Pasts.{Run, Past, change_at, opened_run, with_recorded, measured_in, closed_in, grows, grows_by, is_open, counts_of, tallied, watched}
-use Rattle.canary_release.specs.Courses.{has_number}
+use Rattle.canary_release.specs.Pasts.{Run, Past, change_at, opened_run, with_recorded, measured_in, closed_in, past_with, past_with_all, is_open, counts_of, tallied, tracked}
+use Rattle.canary_release.specs.Evolutions.{has_number}
 use Rattle.canary_release.specs.Desks.{RevisionMap}
 use Rattle.canary_release.specs.Laws.{WatchesAlike}
 use Rattle.canary_release.specs.Order.{AreNumbered, is_of}
@@ -295,7 +295,7 @@ within_more n m all le h = each (IsWithin n) (IsWithin m) (λ x w. (let below : 
 numbered_as : (k : Kept) (runs : List Run) → (past_kept k).runs ≡ runs → AreNumbered 1 runs → AreNumbered 1 (past_kept k).runs
 numbered_as k runs e h = subst (AreNumbered 1) (sym e) h
 
-one_opened : (k : Kept) (x : Opening) → AreKept k → x.run ≡ length (past_kept k).runs + 1 → IsKept (keeps k (Opened x)) (grows (past_kept k) (Opened x))
+one_opened : (k : Kept) (x : Opening) → AreKept k → x.run ≡ length (past_kept k).runs + 1 → IsKept (keeps k (RunOpened x)) (past_with (past_kept k) (RunOpened x))
 one_opened k x h number =
     let all : List Recorded = k.measurements in
     let runs : List Run = (past_kept k).runs in
@@ -306,13 +306,13 @@ one_opened k x h number =
     record {
       past = λ i. record { runs = so i; measurements = all; history = k.history };
       kept = record {
-        numbered = numbered_as (keeps k (Opened x)) (runs ++ opened_run x ∷ []) so (numbered_and_more 1 runs (opened_run x) h.numbered (omega (arith, number)));
+        numbered = numbered_as (keeps k (RunOpened x)) (runs ++ opened_run x ∷ []) so (numbered_and_more 1 runs (opened_run x) h.numbered (omega (arith, number)));
         within = within_more (length k.runs) (length (k.runs ++ new_run x ∷ [])) all (omega (arith, longer)) h.within;
         last = each_and_more (HasLast all) k.runs (new_run x) h.last tt;
       };
     }
 
-one_measured : (k : Kept) (x : Recorded) (w : OpenRun) → AreKept k → find (has_number x.run) (watched (past_kept k)).open_runs ≡ Some w → IsKept (keeps k (Measured x)) (grows (past_kept k) (Measured x))
+one_measured : (k : Kept) (x : Recorded) (w : OpenRun) → AreKept k → find (has_number x.run) (tracked (past_kept k)).open_runs ≡ Some w → IsKept (keeps k (MeasurementRecorded x)) (past_with (past_kept k) (MeasurementRecorded x))
 one_measured k x w h e =
     let all : List Recorded = k.measurements in
     let runs : List Run = (past_kept k).runs in
@@ -324,7 +324,7 @@ one_measured k x w h e =
     record {
       past = λ i. record { runs = so i; measurements = all ++ x ∷ []; history = k.history };
       kept = record {
-        numbered = numbered_as (keeps k (Measured x)) (map (measured_in x) runs) so (same_numbered (measured_in x) (measured_number x) 1 runs h.numbered);
+        numbered = numbered_as (keeps k (MeasurementRecorded x)) (map (measured_in x) runs) so (same_numbered (measured_in x) (measured_number x) 1 runs h.numbered);
         within = each_and_more (IsWithin (length k.runs)) all x h.within (omega (arith, number, below, many));
         last = last_measured all x 1 one.place k.runs one.run number one.there one.going h.numbered h.last;
       };
@@ -333,7 +333,7 @@ one_measured k x w h e =
 place_of : (number place : ℕ) → number ≡ 1 + place → number - 1 ≡ place
 place_of number place e = omega (arith, e)
 
-one_closed : (k : Kept) (x : Closing) (tallies : List Counts) (w : OpenRun) → AreKept k → find (has_number x.run) (watched (past_kept k)).open_runs ≡ Some w → tallies ≡ w.tallies → IsKept (keeps k (Closed x tallies)) (grows (past_kept k) (Closed x tallies))
+one_closed : (k : Kept) (x : Closing) (tallies : List Counts) (w : OpenRun) → AreKept k → find (has_number x.run) (tracked (past_kept k)).open_runs ≡ Some w → tallies ≡ w.tallies → IsKept (keeps k (RunClosed x tallies)) (past_with (past_kept k) (RunClosed x tallies))
 one_closed k x tallies w h e last =
     let all : List Recorded = k.measurements in
     let runs : List Run = (past_kept k).runs in
@@ -347,23 +347,23 @@ one_closed k x tallies w h e last =
     record {
       past = λ i. record { runs = so i; measurements = all; history = k.history };
       kept = record {
-        numbered = numbered_as (keeps k (Closed x tallies)) (map (closed_in x) runs) so (same_numbered (closed_in x) (closed_number x) 1 runs h.numbered);
+        numbered = numbered_as (keeps k (RunClosed x tallies)) (map (closed_in x) runs) so (same_numbered (closed_in x) (closed_number x) 1 runs h.numbered);
         within = subst (λ (n : ℕ). AllByRecursion (IsWithin n) all) (sym (changed_length (x.run - 1) (closed_by c) k.runs)) h.within;
         last = last_closed all c (x.run - 1) k.runs one.run there counted h.last;
       };
     }
 
-one_more : (templates : RevisionMap) (st : CheckedStrategy) (k : Kept) (x : Effect) → AreKept k → Allowed templates st (watched (past_kept k)) x → IsKept (keeps k x) (grows (past_kept k) x)
-one_more templates st k (Told line) h may = record { past = refl; kept = record { numbered = h.numbered; within = h.within; last = h.last } }
-one_more templates st k (Opened x) h may = one_opened k x h may.number
-one_more templates st k (Measured x) h may = one_measured k x may.run h may.found
-one_more templates st k (Closed x tallies) h may = one_closed k x tallies may.run h may.found may.last
+one_more : (templates : RevisionMap) (st : CheckedStrategy) (k : Kept) (x : Effect) → AreKept k → Allowed templates st (tracked (past_kept k)) x → IsKept (keeps k x) (past_with (past_kept k) x)
+one_more templates st k (LineAdded line) h may = record { past = refl; kept = record { numbered = h.numbered; within = h.within; last = h.last } }
+one_more templates st k (RunOpened x) h may = one_opened k x h may.number
+one_more templates st k (MeasurementRecorded x) h may = one_measured k x may.run h may.found
+one_more templates st k (RunClosed x tallies) h may = one_closed k x tallies may.run h may.found may.last
 
 -- All that happens, one after another.
-pub all_kept : WatchesAlike → (templates : RevisionMap) (st : CheckedStrategy) (k : Kept) (xs : List Effect) → AreKept k → AreAllowed templates st (watched (past_kept k)) xs → IsKept (keeps_all k xs) (grows_by (past_kept k) xs)
+pub all_kept : WatchesAlike → (templates : RevisionMap) (st : CheckedStrategy) (k : Kept) (xs : List Effect) → AreKept k → AreAllowed templates st (tracked (past_kept k)) xs → IsKept (keeps_all k xs) (past_with_all (past_kept k) xs)
 all_kept alike templates st k [] h may = record { past = refl; kept = h }
 all_kept alike templates st k (x ∷ xs) h may =
-    let one : IsKept (keeps k x) (grows (past_kept k) x) = one_more templates st k x h may.0 in
-    let thus : AreAllowed templates st (watched (past_kept (keeps k x))) xs = subst (λ (w : Runs). AreAllowed templates st w xs) (sym (ap watched one.past ∙ alike (past_kept k) (x ∷ []))) may.1 in
-    let rest : IsKept (keeps_all (keeps k x) xs) (grows_by (past_kept (keeps k x)) xs) = all_kept alike templates st (keeps k x) xs one.kept thus in
-    record { past = rest.past ∙ ap (λ (p : Past). grows_by p xs) one.past; kept = rest.kept }
+    let one : IsKept (keeps k x) (past_with (past_kept k) x) = one_more templates st k x h may.0 in
+    let thus : AreAllowed templates st (tracked (past_kept (keeps k x))) xs = subst (λ (w : Runs). AreAllowed templates st w xs) (sym (ap tracked one.past ∙ alike (past_kept k) (x ∷ []))) may.1 in
+    let rest : IsKept (keeps_all (keeps k x) xs) (past_with_all (past_kept (keeps k x)) xs) = all_kept alike templates st (keeps k x) xs one.kept thus in
+    record { past = rest.past ∙ ap (λ (p : Past). past_with_all p xs) one.past; kept = rest.kept }

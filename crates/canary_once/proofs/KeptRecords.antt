@@ -6,8 +6,8 @@ use Rattle.std.specs.List.{AllByRecursion, find}
 use Rattle.canary_release.specs.declared.effect.Recorded.{Recorded}
 use Rattle.canary_release.specs.declared.runs.OpenRun.{OpenRun}
 use Rattle.canary_release.specs.declared.runs.Runs.{Runs}
-use Rattle.canary_release.specs.Pasts.{Run, Past, is_open, tallied, watched}
-use Rattle.canary_release.specs.Courses.{has_number}
+use Rattle.canary_release.specs.Pasts.{Run, Past, is_open, tallied, tracked}
+use Rattle.canary_release.specs.Evolutions.{has_number}
 use Rattle.canary_release.specs.Order.{AreNumbered}
 use Rattle.canary_once.specs.declared.kept_run.ClosedRun.{ClosedRun}
 use Rattle.canary_once.specs.declared.kept_run.KeptRun.{KeptRun}
@@ -74,28 +74,28 @@ tallies_are : (o : Option ClosedRun) (number : ℕ) (runs : List OpenRun) (w : O
 tallies_are None number runs w found last = ap (option_map (λ (r : OpenRun). r.tallies)) (found refl)
 tallies_are (Some c) number runs w found last = ap Some last
 
-told_of : (k : Kept) (number place : ℕ) (r : KeptRun) → AreKept k → number ≡ 1 + place → slice_get k.runs place ≡ Some r → record_among (Some r) (watched (past_kept k)).open_runs ≡ Some (record_of (run_in k.measurements r))
+told_of : (k : Kept) (number place : ℕ) (r : KeptRun) → AreKept k → number ≡ 1 + place → slice_get k.runs place ≡ Some r → record_among (Some r) (tracked (past_kept k)).open_runs ≡ Some (record_of (run_in k.measurements r))
 told_of k number place r h e there =
     let all : List Recorded = k.measurements in
     let runs : List Run = (past_kept k).runs in
     let q : Run = run_in all r in
     let here : slice_get runs place ≡ Some q = slice_get-map (run_in all) k.runs place ∙ ap (option_map (run_in all)) there in
     let is : q.number ≡ 1 + place = number_at 1 place runs q h.numbered here in
-    ap (option_map (record_with r)) (tallies_are r.closed r.opening.run (watched (past_kept k)).open_runs (tallied q) (λ going. going_found q.number 1 place runs q is h.numbered here going) (last_at all place k.runs r there h.last))
+    ap (option_map (record_with r)) (tallies_are r.closed r.opening.run (tracked (past_kept k)).open_runs (tallied q) (λ going. going_found q.number 1 place runs q is h.numbered here going) (last_at all place k.runs r there h.last))
 
 -- where there is such a run
-told_there : (k : Kept) (number place : ℕ) (o : Option KeptRun) → AreKept k → number ≡ 1 + place → slice_get k.runs place ≡ o → record_among o (watched (past_kept k)).open_runs ≡ option_map record_of (option_map (run_in k.measurements) o)
+told_there : (k : Kept) (number place : ℕ) (o : Option KeptRun) → AreKept k → number ≡ 1 + place → slice_get k.runs place ≡ o → record_among o (tracked (past_kept k)).open_runs ≡ option_map record_of (option_map (run_in k.measurements) o)
 told_there k number place None h e there = refl
 told_there k number place (Some r) h e there = told_of k number place r h e there
 
-pub told : (k : Kept) (number : ℕ) → AreKept k → record_among (kept_numbered k.runs number) (watched (past_kept k)).open_runs ≡ record_numbered (past_kept k) number
+pub told : (k : Kept) (number : ℕ) → AreKept k → record_among (kept_numbered k.runs number) (tracked (past_kept k)).open_runs ≡ record_numbered (past_kept k) number
 told k zero h = ap (option_map record_of) (sym (none_numbered 0 1 (past_kept k).runs (omega arith) h.numbered))
 told k (suc place) h =
     told_there k (suc place) place (slice_get k.runs place) h (omega arith) refl
     ∙ ap (option_map record_of) (sym (at_place (suc place) 1 place (past_kept k).runs (omega arith) h.numbered ∙ slice_get-map (run_in k.measurements) k.runs place))
 
 -- for a service whose runs are those that are watched
-pub told_by : (k : Kept) (runs : Runs) (p : Past) (number : ℕ) → AreKept k → runs ≡ watched (past_kept k) → past_kept k ≡ p → record_among (kept_numbered k.runs number) runs.open_runs ≡ record_numbered p number
+pub told_by : (k : Kept) (runs : Runs) (p : Past) (number : ℕ) → AreKept k → runs ≡ tracked (past_kept k) → past_kept k ≡ p → record_among (kept_numbered k.runs number) runs.open_runs ≡ record_numbered p number
 told_by k runs p number h watches is =
     ap (λ (w : Runs). record_among (kept_numbered k.runs number) w.open_runs) watches
     ∙ told k number h

@@ -10,7 +10,7 @@ use Rattle.canary_plan.specs.declared.command.Command.{Command}
 use Rattle.canary_plan.specs.Commands.{same_command}
 use Rattle.canary_release.specs.declared.reply.Reply.{Reply}
 use Rattle.canary_release.specs.declared.reply.ReplyStatus.TheVariants.{Accepted, Conflict, NotFound}
-use Rattle.canary_release.specs.declared.stand.Stand.{Stand}
+use Rattle.canary_release.specs.declared.state.ServiceState.{ServiceState}
 use Rattle.canary_release.specs.Desks.{ModelService, Desk, apply}
 use Rattle.canary_release.specs.Laws.{RefusalsLeaveTheDesk as LeavesTheDesk, passed_to}
 use Rattle.canary_once.specs.declared.book.Receipt.{Receipt}
@@ -98,14 +98,14 @@ requests_answered leaves c r all =
 abbrev IsShown : Reply → Type 0
 IsShown x = (x.status ≡ Accepted) ⊎ (x.status ≡ NotFound)
 
-run_shown : (s : Stand) (found : Option RunRecord) → IsShown (run_reply s found)
+run_shown : (s : ServiceState) (found : Option RunRecord) → IsShown (run_reply s found)
 run_shown s None = inr refl
 run_shown s (Some r) = inl refl
 
 passed_shown : (m : ModelService) (query : Query) → IsShown (view_passed m query)
 passed_shown m (Service name) = inl refl
 passed_shown m (History name) = inl refl
-passed_shown m (Run name number) = run_shown m.stand (record_numbered m.past number)
+passed_shown m (Run name number) = run_shown m.service (record_numbered m.past number)
 
 service_shown : (found : Option ModelService) (moment : ℕ) (query : Query) → IsShown (view_service found moment query)
 service_shown None moment query = inr refl

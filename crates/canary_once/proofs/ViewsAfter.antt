@@ -7,8 +7,8 @@ use Rattle.canary_plan.specs.declared.line.Line.{Line}
 use Rattle.canary_release.specs.declared.effect.Opening.{Opening}
 use Rattle.canary_release.specs.declared.effect.Closing.{Closing}
 use Rattle.canary_release.specs.declared.effect.Effect.{Effect}
-use Rattle.canary_release.specs.declared.effect.Effect.TheVariants.{Told, Opened, Measured, Closed}
-use Rattle.canary_release.specs.Pasts.{Run, Past, opened_run, closed_in, counts_of, grows, grows_by}
+use Rattle.canary_release.specs.declared.effect.Effect.TheVariants.{LineAdded, RunOpened, MeasurementRecorded, RunClosed}
+use Rattle.canary_release.specs.Pasts.{Run, Past, opened_run, closed_in, counts_of, past_with, past_with_all}
 use Rattle.canary_release.specs.Effects.{IsQuiet}
 use Rattle.canary_once.specs.declared.record.RunRecord.{RunRecord}
 use Rattle.canary_once.specs.Records.{record_of, is_numbered, record_numbered}
@@ -32,15 +32,15 @@ record_more number old new whole xs i x lt is so_far one =
 
 -- Lines.
 
-line_grows : (p : Past) (x : Effect) → lines_then p.history x ≡ (grows p x).history
-line_grows p (Told line) = refl
-line_grows p (Opened x) = refl
-line_grows p (Measured x) = refl
-line_grows p (Closed x tallies) = refl
+line_grows : (p : Past) (x : Effect) → lines_then p.history x ≡ (past_with p x).history
+line_grows p (LineAdded line) = refl
+line_grows p (RunOpened x) = refl
+line_grows p (MeasurementRecorded x) = refl
+line_grows p (RunClosed x tallies) = refl
 
-pub lines_grow : (p : Past) (xs : List Effect) → lines_after p.history xs ≡ (grows_by p xs).history
+pub lines_grow : (p : Past) (xs : List Effect) → lines_after p.history xs ≡ (past_with_all p xs).history
 lines_grow p [] = refl
-lines_grow p (x ∷ xs) = ap (λ (ls : List Line). lines_after ls xs) (line_grows p x) ∙ lines_grow (grows p x) xs
+lines_grow p (x ∷ xs) = ap (λ (ls : List Line). lines_after ls xs) (line_grows p x) ∙ lines_grow (past_with p x) xs
 
 -- Runs.
 
@@ -88,12 +88,12 @@ closed_more number x (r ∷ rs) =
     [ true ↦ ap (λ (q : RunRecord). Some q) (closed_is x r) | false ↦ h ]
     ∙ sym (ap (λ n. option_map record_of (cond n (Some (closed_in x r)) new)) (number_kept number x r))
 
-record_grows : (number : ℕ) (p : Past) (x : Effect) → IsQuiet x → record_then number (record_numbered p number) x ≡ record_numbered (grows p x) number
-record_grows number p (Told line) quiet = refl
-record_grows number p (Opened x) quiet = opened_more number x p.runs
-record_grows number p (Measured x) quiet = absurd quiet
-record_grows number p (Closed x tallies) quiet = closed_more number x p.runs
+record_grows : (number : ℕ) (p : Past) (x : Effect) → IsQuiet x → record_then number (record_numbered p number) x ≡ record_numbered (past_with p x) number
+record_grows number p (LineAdded line) quiet = refl
+record_grows number p (RunOpened x) quiet = opened_more number x p.runs
+record_grows number p (MeasurementRecorded x) quiet = absurd quiet
+record_grows number p (RunClosed x tallies) quiet = closed_more number x p.runs
 
-pub record_grow : (number : ℕ) (p : Past) (xs : List Effect) → AllByRecursion IsQuiet xs → record_after number (record_numbered p number) xs ≡ record_numbered (grows_by p xs) number
+pub record_grow : (number : ℕ) (p : Past) (xs : List Effect) → AllByRecursion IsQuiet xs → record_after number (record_numbered p number) xs ≡ record_numbered (past_with_all p xs) number
 record_grow number p [] quiet = refl
-record_grow number p (x ∷ xs) quiet = ap (λ (r : Option RunRecord). record_after number r xs) (record_grows number p x quiet.0) ∙ record_grow number (grows p x) xs quiet.1
+record_grow number p (x ∷ xs) quiet = ap (λ (r : Option RunRecord). record_after number r xs) (record_grows number p x quiet.0) ∙ record_grow number (past_with p x) xs quiet.1

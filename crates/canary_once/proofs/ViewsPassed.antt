@@ -10,10 +10,10 @@ use Rattle.canary_plan.specs.declared.command.Command.TheVariants.{Tick}
 use Rattle.canary_release.specs.declared.reply.Reply.{Reply}
 use Rattle.canary_release.specs.declared.service.ServiceParts.{ServiceParts}
 use Rattle.canary_release.specs.declared.service.Passed.{Passed}
-use Rattle.canary_release.specs.Courses.{Course, course_from}
+use Rattle.canary_release.specs.Evolutions.{Evolution, evolution_from}
 use Rattle.canary_release.specs.Passing.{pass, judged_at, followed, with_last, PassesInSteps}
-use Rattle.canary_release.specs.Desks.{ModelService, Desk, Ruling, newest, course_of, after, ruling, rules, act_passed, ruling_on, desk_after}
-use Rattle.canary_release.specs.Shapes.{kept_course, kept_after, shape, said, kept_by, seen, IsPassing, KeepsWhatIsSeen}
+use Rattle.canary_release.specs.Desks.{ModelService, Desk, ModelDecision, newest, model_evolution, after, model_decision, rules, act_passed, ruling_on, desk_after}
+use Rattle.canary_release.specs.Stored.{stored_evolution, stored_after, stored_form, change_of, stored_by, stored_service, IsPassing, KeepsWhatIsSeen}
 use Rattle.canary_release.specs.Effects.{TimeMeasuresNothing}
 use Rattle.canary_release.specs.Laws.{WatchesAlike, passed_to}
 use Rattle.canary_once.specs.declared.event.Query.{Query}
@@ -25,15 +25,15 @@ use Rattle.canary_once.specs.Showing.{shown}
 use Rattle.canary_once.proofs.ViewsAfter.{lines_grow, record_grow}
 
 -- a service of the model is, as time passes, what is kept of it
-kept_is : WatchesAlike → (m : ModelService) → kept_course (shape m) ≡ course_of m
-kept_is alike m = λ i. course_from m.stand (λ xs. sym (alike m.past xs) i)
+kept_is : WatchesAlike → (m : ModelService) → stored_evolution (stored_form m) ≡ model_evolution m
+kept_is alike m = λ i. evolution_from m.service (λ xs. sym (alike m.past xs) i)
 
 -- time passed twice to one moment is time passed once
-twice : PassesInSteps → (c : Course) (t : ℕ) → pass (pass c t) (judged_at c.stand t) ≡ pass c t
+twice : PassesInSteps → (c : Evolution) (t : ℕ) → pass (pass c t) (judged_at c.service t) ≡ pass c t
 twice steps c t =
-    let at = judged_at c.stand t in
+    let at = judged_at c.service t in
     let later : t ≤ at = omega arith in
-    let same : judged_at c.stand at ≡ at = omega arith in
+    let same : judged_at c.service at ≡ at = omega arith in
     steps c t at later ∙ ap (λ u. with_last (followed c u) u) same
 
 same_name : (name : List ℕ) → eq_by_cmp (slice_cmp nat_cmp) name name ≡ true
@@ -43,51 +43,51 @@ some_of : (a b : ServiceParts) → ◌≡◌ {A = Option ServiceParts} (Some a) 
 some_of a b e = cc e
 
 -- what is kept of a service that was passed is what is kept of the model's, passed: a Tick shows it
-kept_passed : KeepsWhatIsSeen → PassesInSteps → (desk : Desk) (name : List ℕ) (m : ModelService) (t : ℕ) → get desk.services name ≡ Some m → kept_after (pass (course_of m) t) ≡ shape (passed_to t m)
+kept_passed : KeepsWhatIsSeen → PassesInSteps → (desk : Desk) (name : List ℕ) (m : ModelService) (t : ℕ) → get desk.services name ≡ Some m → stored_after (pass (model_evolution m) t) ≡ stored_form (passed_to t m)
 kept_passed keeps steps desk name m t is =
-    let c : Course = course_of m in
-    let end' : Course = pass (pass c t) (judged_at c.stand t) in
-    let ruled : ruling_on desk t (Tick name) ≡ rules (act_passed (newest desk.templates) (Tick name) c t) = ap (λ (o : Option ModelService). ruling (newest desk.templates) (option_map course_of o) t (Tick name)) is in
-    let brings : kept_by (said (ruling_on desk t (Tick name)).change) ≡ Some (kept_after end') = ap (λ (r : Ruling). kept_by (said r.change)) ruled in
-    let told = keeps desk t (Tick name) (kept_after end') brings in
-    let found_there : seen (desk_after desk (Tick name) (ruling_on desk t (Tick name)).change) name ≡ Some (shape (after (Some m) end'.stand end'.effects)) =
-    ap (λ (r : Ruling). seen (desk_after desk (Tick name) r.change) name) ruled
-    ∙ ap (option_map shape) (get-insert nat_list_cmp_total desk.services name (after (get desk.services name) end'.stand end'.effects) name
-    ∙ ap (λ b. cond b (Some (after (get desk.services name) end'.stand end'.effects)) (get desk.services name)) (same_name name)
-    ∙ ap (λ (o : Option ModelService). Some (after o end'.stand end'.effects)) is) in
-    let both : kept_after end' ≡ shape (after (Some m) end'.stand end'.effects) = some_of (kept_after end') (shape (after (Some m) end'.stand end'.effects)) (sym told ∙ found_there) in
+    let c : Evolution = model_evolution m in
+    let end' : Evolution = pass (pass c t) (judged_at c.service t) in
+    let ruled : ruling_on desk t (Tick name) ≡ rules (act_passed (newest desk.templates) (Tick name) c t) = ap (λ (o : Option ModelService). model_decision (newest desk.templates) (option_map model_evolution o) t (Tick name)) is in
+    let brings : stored_by (change_of (ruling_on desk t (Tick name)).change) ≡ Some (stored_after end') = ap (λ (r : ModelDecision). stored_by (change_of r.change)) ruled in
+    let told = keeps desk t (Tick name) (stored_after end') brings in
+    let found_there : stored_service (desk_after desk (Tick name) (ruling_on desk t (Tick name)).change) name ≡ Some (stored_form (after (Some m) end'.service end'.effects)) =
+    ap (λ (r : ModelDecision). stored_service (desk_after desk (Tick name) r.change) name) ruled
+    ∙ ap (option_map stored_form) (get-insert nat_list_cmp_total desk.services name (after (get desk.services name) end'.service end'.effects) name
+    ∙ ap (λ b. cond b (Some (after (get desk.services name) end'.service end'.effects)) (get desk.services name)) (same_name name)
+    ∙ ap (λ (o : Option ModelService). Some (after o end'.service end'.effects)) is) in
+    let both : stored_after end' ≡ stored_form (after (Some m) end'.service end'.effects) = some_of (stored_after end') (stored_form (after (Some m) end'.service end'.effects)) (sym told ∙ found_there) in
     let once = twice steps c t in
-    sym (ap kept_after once) ∙ both ∙ ap (λ (d : Course). shape (after (Some m) d.stand d.effects)) once
+    sym (ap stored_after once) ∙ both ∙ ap (λ (d : Evolution). stored_form (after (Some m) d.service d.effects)) once
 
 -- what the code passed to is the model's
-passed_is : WatchesAlike → KeepsWhatIsSeen → PassesInSteps → (desk : Desk) (name : List ℕ) (m : ModelService) (t : ℕ) (s : ServiceParts) (p : Passed) → get desk.services name ≡ Some m → s ≡ shape m → IsPassing s t p
-    → p ≡ (record { service = shape (passed_to t m); effects = (pass (course_of m) t).effects })
+passed_is : WatchesAlike → KeepsWhatIsSeen → PassesInSteps → (desk : Desk) (name : List ℕ) (m : ModelService) (t : ℕ) (s : ServiceParts) (p : Passed) → get desk.services name ≡ Some m → s ≡ stored_form m → IsPassing s t p
+    → p ≡ (record { service = stored_form (passed_to t m); effects = (pass (model_evolution m) t).effects })
 passed_is alike keeps steps desk name m t s p is same passing =
     passing
-    ∙ ap (λ (c : Course). let d = pass c t in let q : Passed = record { service = kept_after d; effects = d.effects } in q) (ap kept_course same ∙ kept_is alike m)
-    ∙ ap (λ (x : ServiceParts). let q : Passed = record { service = x; effects = (pass (course_of m) t).effects } in q) (kept_passed keeps steps desk name m t is)
+    ∙ ap (λ (c : Evolution). let d = pass c t in let q : Passed = record { service = stored_after d; effects = d.effects } in q) (ap stored_evolution same ∙ kept_is alike m)
+    ∙ ap (λ (x : ServiceParts). let q : Passed = record { service = x; effects = (pass (model_evolution m) t).effects } in q) (kept_passed keeps steps desk name m t is)
 
-shown_is : TimeMeasuresNothing → (m : ModelService) (t : ℕ) (q : Query) → shown (record { service = shape (passed_to t m); effects = (pass (course_of m) t).effects }) q m.past ≡ view_passed (passed_to t m) q
+shown_is : TimeMeasuresNothing → (m : ModelService) (t : ℕ) (q : Query) → shown (record { service = stored_form (passed_to t m); effects = (pass (model_evolution m) t).effects }) q m.past ≡ view_passed (passed_to t m) q
 shown_is quiet m t (Service name) = refl
-shown_is quiet m t (History name) = ap (λ ls. found (history_view (passed_to t m).stand.name ls)) (lines_grow m.past (pass (course_of m) t).effects)
-shown_is quiet m t (Run name number) = ap (run_reply (passed_to t m).stand) (record_grow number m.past (pass (course_of m) t).effects (quiet m t))
+shown_is quiet m t (History name) = ap (λ ls. found (history_view (passed_to t m).service.name ls)) (lines_grow m.past (pass (model_evolution m) t).effects)
+shown_is quiet m t (Run name number) = ap (run_reply (passed_to t m).service) (record_grow number m.past (pass (model_evolution m) t).effects (quiet m t))
 
 -- the reply on a service that was found
 pub there : WatchesAlike → KeepsWhatIsSeen → PassesInSteps → TimeMeasuresNothing → (desk : Desk) (name : List ℕ) (o : Option ModelService) (t : ℕ) (q : Query) (s : ServiceParts) (p : Passed) (reply : Reply) → get desk.services name ≡ o
-    → ◌≡◌ {A = Option ServiceParts} (Some s) (option_map shape o) → IsPassing s t p → reply ≡ shown p q (past_in o) → reply ≡ view_service o t q
+    → ◌≡◌ {A = Option ServiceParts} (Some s) (option_map stored_form o) → IsPassing s t p → reply ≡ shown p q (past_in o) → reply ≡ view_service o t q
 there alike keeps steps quiet desk name None t q s p reply is found passing told = cc found
 there alike keeps steps quiet desk name (Some m) t q s p reply is found passing told =
     told
-    ∙ ap (λ (x : Passed). shown x q m.past) (passed_is alike keeps steps desk name m t s p is (some_of s (shape m) found) passing)
+    ∙ ap (λ (x : Passed). shown x q m.past) (passed_is alike keeps steps desk name m t s p is (some_of s (stored_form m) found) passing)
     ∙ shown_is quiet m t q
 
 -- and where none was found
-pub gone : (o : Option ModelService) (t : ℕ) (q : Query) (reply : Reply) → reply ≡ view_service None t q → ◌≡◌ {A = Option ServiceParts} None (option_map shape o) → reply ≡ view_service o t q
+pub gone : (o : Option ModelService) (t : ℕ) (q : Query) (reply : Reply) → reply ≡ view_service None t q → ◌≡◌ {A = Option ServiceParts} None (option_map stored_form o) → reply ≡ view_service o t q
 gone None t q reply is e = is
 gone (Some m) t q reply is e = cc e
 
 -- and so from what the book found, and then told
-pub looked : {E : Type 0} → WatchesAlike → KeepsWhatIsSeen → PassesInSteps → TimeMeasuresNothing → (old mid new : Contents) (t : ℕ) (q : Query) (s : ServiceParts) (p : Passed) (given : Result Reply E) → Some s ≡ seen old.desk (asked_of q) → IsPassing s t p → mid ≡ old → new ≡ mid
+pub looked : {E : Type 0} → WatchesAlike → KeepsWhatIsSeen → PassesInSteps → TimeMeasuresNothing → (old mid new : Contents) (t : ℕ) (q : Query) (s : ServiceParts) (p : Passed) (given : Result Reply E) → Some s ≡ stored_service old.desk (asked_of q) → IsPassing s t p → mid ≡ old → new ≡ mid
     → IfOk given (λ r. r ≡ shown p q (past_of mid (asked_of q))) → IfOk given (λ r. (r ≡ view_of old.desk t q) × (new ≡ old))
 looked {E = E} alike keeps steps quiet old mid new t q s p given found passing same stays told =
     IfOk-weaker given (λ r. r ≡ shown p q (past_of mid (asked_of q))) (λ r. (r ≡ view_of old.desk t q) × (new ≡ old))

@@ -116,11 +116,11 @@ answers_of c es = answers_after c [] es
 
 -- Events that were answered otherwise than by a 503, and their replies.
 
-abbrev pub heard : List Event → List Answer → List Event
-heard [] answers = []
-heard (e ∷ es) [] = []
-heard (e ∷ es) (Replied reply ∷ answers) = e ∷ heard es answers
-heard (e ∷ es) (Unavailable fault ∷ answers) = heard es answers
+abbrev pub answered_events : List Event → List Answer → List Event
+answered_events [] answers = []
+answered_events (e ∷ es) [] = []
+answered_events (e ∷ es) (Replied reply ∷ answers) = e ∷ answered_events es answers
+answered_events (e ∷ es) (Unavailable fault ∷ answers) = answered_events es answers
 
 abbrev pub replies_in : List Answer → List Reply
 replies_in [] = []

@@ -9,7 +9,7 @@ use Rattle.canary_plan.specs.Plans.{Templates}
 use Rattle.canary_release.specs.declared.reply.ReplyStatus.{ReplyStatus}
 use Rattle.canary_release.specs.declared.reply.ReplyStatus.TheVariants.{Accepted, Refused}
 use Rattle.canary_release.specs.Desks.{newest, Desk, no_desk}
-use Rattle.canary_release.specs.Shapes.{changed, IsStep}
+use Rattle.canary_release.specs.Stored.{desk_with, IsStep}
 use Rattle.canary_once.specs.declared.book.Receipt.{Receipt}
 use Rattle.canary_once.specs.declared.book.Settlement.{Settlement}
 
@@ -86,7 +86,7 @@ abbrev pub with_settlement : Contents → Settlement → Contents
 with_settlement c s =
     record {
       callers = with_receipt c.callers s.caller s.receipt;
-      desk = changed c.desk s.receipt.command s.change;
+      desk = desk_with c.desk s.receipt.command s.change;
     }
 
 -- the number is the caller's next, and reply and change are the machine's step, for the command on

@@ -8,10 +8,10 @@ use Rattle.canary_release.specs.declared.effect.Opening.{Opening}
 use Rattle.canary_release.specs.declared.effect.Recorded.{Recorded}
 use Rattle.canary_release.specs.declared.effect.Closing.{Closing}
 use Rattle.canary_release.specs.declared.effect.Effect.{Effect}
-use Rattle.canary_release.specs.declared.effect.Effect.TheVariants.{Told, Opened, Measured, Closed}
+use Rattle.canary_release.specs.declared.effect.Effect.TheVariants.{LineAdded, RunOpened, MeasurementRecorded, RunClosed}
 use Rattle.canary_release.specs.declared.runs.OpenRun.{OpenRun}
 use Rattle.canary_release.specs.Pasts.{Run, Past, change_at, counts_of}
-use Rattle.canary_release.specs.Courses.{has_number}
+use Rattle.canary_release.specs.Evolutions.{has_number}
 use Rattle.canary_release.specs.Order.{AreNumbered, is_of}
 use Rattle.canary_once.specs.declared.kept_run.ClosedRun.{ClosedRun}
 use Rattle.canary_once.specs.declared.kept_run.KeptRun.{KeptRun}
@@ -74,10 +74,10 @@ close_in c runs = change_at (c.closing.run - 1) (closed_by c) runs
 
 -- one thing more is kept
 abbrev pub keeps : Kept → Effect → Kept
-keeps k (Told line) = record k { history = k.history ++ line ∷ [] }
-keeps k (Opened x) = record k { runs = k.runs ++ new_run x ∷ [] }
-keeps k (Measured x) = record k { measurements = k.measurements ++ x ∷ [] }
-keeps k (Closed x tallies) =
+keeps k (LineAdded line) = record k { history = k.history ++ line ∷ [] }
+keeps k (RunOpened x) = record k { runs = k.runs ++ new_run x ∷ [] }
+keeps k (MeasurementRecorded x) = record k { measurements = k.measurements ++ x ∷ [] }
+keeps k (RunClosed x tallies) =
     record k { runs = close_in (record { closing = x; tallies = tallies }) k.runs }
 
 -- all that happens, in order

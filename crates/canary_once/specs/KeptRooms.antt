@@ -1,7 +1,7 @@
 -- Room for what effects add to what is kept of a service.
 use Rattle.std.specs.Prelude.{◌+◌, ◌≤◌, Bool, true, false, List, length, filter, vec_len, vec_capacity}
 use Rattle.canary_release.specs.declared.effect.Effect.{Effect}
-use Rattle.canary_release.specs.declared.effect.Effect.TheVariants.{Told, Opened, Measured, Closed}
+use Rattle.canary_release.specs.declared.effect.Effect.TheVariants.{LineAdded, RunOpened, MeasurementRecorded, RunClosed}
 use Rattle.canary_once.specs.declared.kept_past.KeptPast.{KeptPast}
 use Rattle.canary_once.specs.Kept.{Kept}
 
@@ -12,22 +12,22 @@ kept_in p =
 -- it adds a run, a measurement or a line
 
 abbrev pub is_opening : Effect → Bool
-is_opening (Opened x) = true
-is_opening (Told line) = false
-is_opening (Measured x) = false
-is_opening (Closed x tallies) = false
+is_opening (RunOpened x) = true
+is_opening (LineAdded line) = false
+is_opening (MeasurementRecorded x) = false
+is_opening (RunClosed x tallies) = false
 
 abbrev pub is_measurement : Effect → Bool
-is_measurement (Measured x) = true
-is_measurement (Told line) = false
-is_measurement (Opened x) = false
-is_measurement (Closed x tallies) = false
+is_measurement (MeasurementRecorded x) = true
+is_measurement (LineAdded line) = false
+is_measurement (RunOpened x) = false
+is_measurement (RunClosed x tallies) = false
 
 abbrev pub is_line : Effect → Bool
-is_line (Told line) = true
-is_line (Opened x) = false
-is_line (Measured x) = false
-is_line (Closed x tallies) = false
+is_line (LineAdded line) = true
+is_line (RunOpened x) = false
+is_line (MeasurementRecorded x) = false
+is_line (RunClosed x tallies) = false
 
 -- there is room for all that effects add
 pub record HasRoom (p : KeptPast) (xs : List Effect) : Type 0 where

@@ -1,5 +1,5 @@
 pub mod Contents
-pub mod Books
+pub mod BookCalls
 pub mod Ticks
 pub mod AnswerTexts
 pub mod Answers

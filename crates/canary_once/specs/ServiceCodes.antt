@@ -9,10 +9,10 @@ use Rattle.canary_plan.specs.contracts.line.Line as line
 use Rattle.canary_plan.specs.contracts.service.ServiceSpec as spec
 use Rattle.canary_release.specs.declared.effect.Closing.{Closing}
 use Rattle.canary_release.specs.declared.effect.Recorded.{Recorded}
-use Rattle.canary_release.specs.declared.stand.Stand.{Stand}
+use Rattle.canary_release.specs.declared.state.ServiceState.{ServiceState}
 use Rattle.canary_release.specs.contracts.effect.Closing as closing
 use Rattle.canary_release.specs.contracts.effect.Recorded as recorded
-use Rattle.canary_release.specs.contracts.stand.Stand as stand
+use Rattle.canary_release.specs.contracts.state.ServiceState as service
 use Rattle.canary_release.specs.Pasts.{Run, Past}
 use Rattle.canary_release.specs.Desks.{ModelService}
 
@@ -49,8 +49,8 @@ past_code =
 
 abbrev pub service_code : Coded ModelService
 service_code =
-    code_by (ServiceSpec × (Stand × Past))
-    (coded× spec.the_row.coded (coded× stand.the_row.coded past_code))
-    (λ m. (m.made, (m.stand, m.past)))
-    (λ t. record { made = t.0; stand = t.1.0; past = t.1.1 })
+    code_by (ServiceSpec × (ServiceState × Past))
+    (coded× spec.the_row.coded (coded× service.the_row.coded past_code))
+    (λ m. (m.made, (m.service, m.past)))
+    (λ t. record { made = t.0; service = t.1.0; past = t.1.1 })
     (λ _. refl)

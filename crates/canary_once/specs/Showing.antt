@@ -6,7 +6,7 @@ use Rattle.canary_plan.specs.declared.line.Line.{Line}
 use Rattle.canary_release.specs.declared.effect.Opening.{Opening}
 use Rattle.canary_release.specs.declared.effect.Closing.{Closing}
 use Rattle.canary_release.specs.declared.effect.Effect.{Effect}
-use Rattle.canary_release.specs.declared.effect.Effect.TheVariants.{Told, Opened, Measured, Closed}
+use Rattle.canary_release.specs.declared.effect.Effect.TheVariants.{LineAdded, RunOpened, MeasurementRecorded, RunClosed}
 use Rattle.canary_release.specs.declared.reply.Reply.{Reply}
 use Rattle.canary_release.specs.declared.service.Passed.{Passed}
 use Rattle.canary_release.specs.Pasts.{Past}
@@ -15,7 +15,7 @@ use Rattle.canary_once.specs.declared.event.Query.{Query}
 use Rattle.canary_once.specs.declared.event.Query.TheVariants.{Service, History, Run}
 use Rattle.canary_once.specs.declared.record.RunRecord.{RunRecord}
 use Rattle.canary_once.specs.Contents.{Contents}
-use Rattle.canary_once.specs.Books.{BookState, IsFault, StaysInMemory}
+use Rattle.canary_once.specs.BookCalls.{BookState, IsFault, StaysInMemory}
 use Rattle.canary_once.specs.Records.{record_numbered}
 use Rattle.canary_once.specs.Views.{found, service_view, history_view, run_reply}
 
@@ -26,10 +26,10 @@ item_words true item = 44 ∷ item
 
 -- the lines of a history after one thing more: those that are told stand at its end
 abbrev pub lines_then : List Line → Effect → List Line
-lines_then lines (Told line) = lines ++ line ∷ []
-lines_then lines (Opened x) = lines
-lines_then lines (Measured x) = lines
-lines_then lines (Closed x tallies) = lines
+lines_then lines (LineAdded line) = lines ++ line ∷ []
+lines_then lines (RunOpened x) = lines
+lines_then lines (MeasurementRecorded x) = lines
+lines_then lines (RunClosed x tallies) = lines
 
 abbrev pub lines_after : List Line → List Effect → List Line
 lines_after lines [] = lines
@@ -57,10 +57,10 @@ opened_of number x None = if x.run == number then Some (opened_record x) else No
 
 -- the run of a number, if there is one, after one thing more that is no measurement
 abbrev pub record_then : ℕ → Option RunRecord → Effect → Option RunRecord
-record_then number r (Told line) = r
-record_then number r (Opened x) = opened_of number x r
-record_then number r (Measured x) = r
-record_then number r (Closed x tallies) = option_map (closed_record x) r
+record_then number r (LineAdded line) = r
+record_then number r (RunOpened x) = opened_of number x r
+record_then number r (MeasurementRecorded x) = r
+record_then number r (RunClosed x tallies) = option_map (closed_record x) r
 
 abbrev pub record_after : ℕ → Option RunRecord → List Effect → Option RunRecord
 record_after number r [] = r
@@ -68,11 +68,11 @@ record_after number r (x ∷ xs) = record_after number (record_then number r x) 
 
 -- the reply to a query on a service that was passed, of which this was past before
 abbrev pub shown : Passed → Query → Past → Reply
-shown p (Service name) past = found (service_view p.service.stand p.service.runs)
+shown p (Service name) past = found (service_view p.service.service p.service.runs)
 shown p (History name) past =
-    found (history_view p.service.stand.name (lines_after past.history p.effects))
+    found (history_view p.service.service.name (lines_after past.history p.effects))
 shown p (Run name number) past =
-    run_reply p.service.stand (record_after number (record_numbered past number) p.effects)
+    run_reply p.service.service (record_after number (record_numbered past number) p.effects)
 
 -- a reply was made from these contents, with what more the book was asked, or that failed
 pub record Shows (reply : Contents → Reply) (old new : BookState)

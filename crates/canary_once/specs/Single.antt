@@ -4,14 +4,14 @@ use Rattle.canary_plan.specs.declared.command.Command.{Command}
 use Rattle.canary_release.specs.declared.reply.Reply.{Reply}
 use Rattle.canary_release.specs.declared.decide.Decision.{Decision}
 use Rattle.canary_release.specs.Desks.{apply}
-use Rattle.canary_release.specs.Shapes.{IsStep}
+use Rattle.canary_release.specs.Stored.{IsStep}
 use Rattle.canary_once.specs.declared.book.BookFault.{BookFault}
 use Rattle.canary_once.specs.declared.event.Request.{Request}
 use Rattle.canary_once.specs.declared.event.Event.{Event}
 use Rattle.canary_once.specs.declared.event.Answer.{Answer}
 use Rattle.canary_once.specs.declared.event.Answer.TheVariants.{Replied, Unavailable}
 use Rattle.canary_once.specs.Contents.{Contents, count_of, receipt_at, with_receipt, KeepsReceipts}
-use Rattle.canary_once.specs.Books.{BookState, IsFault, StaysInMemory}
+use Rattle.canary_once.specs.BookCalls.{BookState, IsFault, StaysInMemory}
 use Rattle.canary_once.specs.Sound.{AreContents, AreSoundContents}
 use Rattle.canary_once.specs.Answers.{receipt_of, repeat_reply, ahead_reply, answer, after}
 

@@ -15,9 +15,9 @@ use Rattle.canary_release.specs.declared.runs.OpenRun.{OpenRun}
 use Rattle.canary_release.specs.declared.runs.Runs.{Runs}
 use Rattle.canary_release.specs.declared.reply.Reply.{Reply}
 use Rattle.canary_release.specs.declared.reply.ReplyStatus.TheVariants.{Accepted, NotFound}
-use Rattle.canary_release.specs.declared.stand.Stand.{Stand}
+use Rattle.canary_release.specs.declared.state.ServiceState.{ServiceState}
 use Rattle.canary_release.specs.Services.{status, weight}
-use Rattle.canary_release.specs.Pasts.{watched}
+use Rattle.canary_release.specs.Pasts.{tracked}
 use Rattle.canary_release.specs.Replies.{quoted, bracketed, status_text, code_alone}
 use Rattle.canary_release.specs.Desks.{ModelService, Desk}
 use Rattle.canary_release.specs.Laws.{passed_to}
@@ -46,7 +46,7 @@ abbrev pub number_text : OpenRun → List ℕ
 number_text r = decimal r.number
 
 -- {"code":"ok","hold":HOLD,"moment":MOMENT,"open":[..]
-abbrev pub service_front : Stand → Runs → List ℕ
+abbrev pub service_front : ServiceState → Runs → List ℕ
 service_front s runs =
     codes "{\"code\":\"ok\",\"hold\":\""
     ++ (hold_text s.step_hold s.background_hold
@@ -54,7 +54,7 @@ service_front s runs =
     ++ (decimal s.last ++ (codes ",\"open\":" ++ bracketed (map number_text runs.open_runs)))))
 
 -- ,"runs":RUNS,"service":NAME,"stable":VERSION
-abbrev pub service_middle : Stand → ℕ → List ℕ
+abbrev pub service_middle : ServiceState → ℕ → List ℕ
 service_middle s count =
     codes ",\"runs\":"
     ++ (decimal count
@@ -62,7 +62,7 @@ service_middle s count =
     ++ (s.name ++ (codes "\",\"stable\":\"" ++ (s.stable ++ codes "\"")))))
 
 -- ,"status":STATUS,"step":STEP,"version":VERSION,"weight":WEIGHT}
-abbrev pub service_back : Stand → List ℕ
+abbrev pub service_back : ServiceState → List ℕ
 service_back s =
     codes ",\"status\":\""
     ++ (status_text (status s)
@@ -71,7 +71,7 @@ service_back s =
     ++ (codes ",\"version\":\""
     ++ (s.version ++ (codes "\",\"weight\":" ++ (decimal (weight s) ++ codes "}")))))))
 
-abbrev pub service_view : Stand → Runs → List ℕ
+abbrev pub service_view : ServiceState → Runs → List ℕ
 service_view s runs = service_front s runs ++ (service_middle s runs.count ++ service_back s)
 
 -- A history.
@@ -169,15 +169,15 @@ found body = record { status = Accepted; body = body }
 abbrev pub not_found : List ℕ → Reply
 not_found code = record { status = NotFound; body = code_alone code }
 
-abbrev pub run_reply : Stand → Option RunRecord → Reply
+abbrev pub run_reply : ServiceState → Option RunRecord → Reply
 run_reply s None = not_found (codes "unknown-run")
 run_reply s (Some r) = found (run_view s.name r.analysis.metrics r)
 
 -- the reply to a query, on the service as it is at the query's moment
 abbrev pub view_passed : ModelService → Query → Reply
-view_passed m (Service name) = found (service_view m.stand (watched m.past))
-view_passed m (History name) = found (history_view m.stand.name m.past.history)
-view_passed m (Run name number) = run_reply m.stand (record_numbered m.past number)
+view_passed m (Service name) = found (service_view m.service (tracked m.past))
+view_passed m (History name) = found (history_view m.service.name m.past.history)
+view_passed m (Run name number) = run_reply m.service (record_numbered m.past number)
 
 abbrev pub view_service : Option ModelService → ℕ → Query → Reply
 view_service None moment query = not_found (codes "unknown-service")

@@ -86,9 +86,9 @@ impl From<Memory> for BookFault {
 /// finds what it is asked for or fails. A book that is sure never answers `Storage`.
 pub trait Book {
     ghost use Rattle.canary_once.specs.Contents.{count_of, receipt_at, templates_named, IsSettling};
-    ghost use Rattle.canary_once.specs.Books.{BookState, Finds, Commits};
+    ghost use Rattle.canary_once.specs.BookCalls.{BookState, Finds, Commits};
     ghost use Rattle.canary_once.specs.Records.{run_of, history_of, measurements_of};
-    ghost use Rattle.canary_release.specs.Shapes.{seen};
+    ghost use Rattle.canary_release.specs.Stored.{stored_service};
 
     /// How it stands: what it contains, whether its store is honest, and whether it is sure.
     ghost state: { Self → BookState };
@@ -121,7 +121,8 @@ pub trait Book {
     /// # Errors
     /// `Memory` where an allocation was refused, `Storage` where the store failed; nothing changed.
     fn service(&mut self, name: &Name) -> Result<Option<Service>, BookFault>
-        ensures { Finds (λ c. seen c.desk name.now) (state self.old) (state self.new) result };
+        ensures { Finds (λ c. stored_service c.desk name.now) (state self.old)
+            (state self.new) result };
 
     /// The history of a service, oldest line first; none where there is no such service.
     ///

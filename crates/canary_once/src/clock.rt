@@ -2,7 +2,7 @@
 ghost use Rattle.std.specs.Prelude.{◌≡◌, ◌↔◌, ℕ, ◌+◌, ◌≤◌, min};
 ghost use Rattle.canary_once.specs.Ticks.{TellsSteps};
 
-use canary_base::moments::{LAST_MOMENT, Moment};
+use canary_base::moments::{MAX_MOMENT, Moment};
 use std::marker::Model;
 
 /// A clock, which is asked once for each message.
@@ -65,9 +65,9 @@ impl Clock for StepClock {
 
 // So many seconds later, at most the greatest moment.
 fn later(at: Moment, step: Moment) -> Moment
-    ensures value { result ≡ min (at + step) LAST_MOMENT }
-    ensures limit { at ≤ LAST_MOMENT }
+    ensures value { result ≡ min (at + step) MAX_MOMENT }
+    ensures limit { at ≤ MAX_MOMENT }
 {
-    let seconds = (at.get() + step.get()).min(LAST_MOMENT);
+    let seconds = (at.get() + step.get()).min(MAX_MOMENT);
     Moment::new(seconds).unwrap()
 }

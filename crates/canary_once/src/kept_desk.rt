@@ -2,7 +2,7 @@
 ghost use Rattle.std.specs.Prelude.{◌≡◌, OnOk, OnErr};
 ghost use Rattle.canary_plan.specs.declared.command.Command.{Command};
 ghost use Rattle.canary_release.specs.Desks.{no_desk};
-ghost use Rattle.canary_release.specs.Shapes.{changed};
+ghost use Rattle.canary_release.specs.Stored.{desk_with};
 ghost use Rattle.canary_release.specs.Effects.{IsChange};
 ghost use Rattle.canary_once.specs.InMemory.{name_in, IsKept};
 
@@ -62,7 +62,7 @@ impl KeptDesk {
     pub(crate) fn change(&mut self, alloc: Global, change: DeskChange) -> Result<(), Memory>
         requires { IsKept self.old (name_in change) change }
         ensures ok { OnOk result ((command : Command) → IsChange self.old command change
-            → self.new ≡ changed self.old command change) }
+            → self.new ≡ desk_with self.old command change) }
         ensures err { OnErr result (self.new ≡ self.old) }
     {
         match change {

@@ -47,30 +47,30 @@ impl KeptPast {
     }
 
     /// Keeps effects for which there is room, one after another.
-    pub(crate) fn happen_all(&mut self, effects: Listed<Effect>)
+    pub(crate) fn apply_effects(&mut self, effects: Listed<Effect>)
         requires { HasRoom self.old effects }
         ensures { kept_in self.new ≡ keeps_all (kept_in self.old) effects }
     {
         for effect in effects.into_vec() {
-            self.happen(effect);
+            self.apply_effect(effect);
         }
     }
 
     // Keeps an effect for which there is room.
-    fn happen(&mut self, effect: Effect)
+    fn apply_effect(&mut self, effect: Effect)
         requires { HasRoom self.old (effect ∷ []) }
         ensures kept { kept_in self.new ≡ keeps (kept_in self.old) effect }
         ensures room { (rest : List Effect) → HasRoom self.old (effect ∷ rest)
             → HasRoom self.new rest }
     {
         match effect {
-            Effect::Told(line) => self.history.push_reserved(line),
-            Effect::Opened(opening) => self.runs.push_reserved(KeptRun {
+            Effect::LineAdded(line) => self.history.push_reserved(line),
+            Effect::RunOpened(opening) => self.runs.push_reserved(KeptRun {
                 opening,
                 closed: None,
             }),
-            Effect::Measured(recorded) => self.measurements.push_reserved(recorded),
-            Effect::Closed { closing, tallies } => {
+            Effect::MeasurementRecorded(recorded) => self.measurements.push_reserved(recorded),
+            Effect::RunClosed { closing, tallies } => {
                 close(&mut self.runs, ClosedRun { closing, tallies });
             }
         }
@@ -127,19 +127,19 @@ fn lines(effects: &[Effect]) -> usize
 fn is_opening(effect: &Effect) -> bool
     ensures { result ≡ is_opening effect.now }
 {
-    matches!(effect, Effect::Opened(_))
+    matches!(effect, Effect::RunOpened(_))
 }
 
 // Whether the effect records a measurement, which adds one to `measurements`.
 fn is_measurement(effect: &Effect) -> bool
     ensures { result ≡ is_measurement effect.now }
 {
-    matches!(effect, Effect::Measured(_))
+    matches!(effect, Effect::MeasurementRecorded(_))
 }
 
 // Whether the effect adds a line to `history`.
 fn is_line(effect: &Effect) -> bool
     ensures { result ≡ is_line effect.now }
 {
-    matches!(effect, Effect::Told(_))
+    matches!(effect, Effect::LineAdded(_))
 }

@@ -1,7 +1,7 @@
 //! What a book in memory keeps of a run.
 ghost use Rattle.std.specs.Prelude.{◌≡◌, IfOk, find, Some};
 ghost use Rattle.std.specs.Option.{option_copied};
-ghost use Rattle.canary_release.specs.Courses.{has_number};
+ghost use Rattle.canary_release.specs.Evolutions.{has_number};
 ghost use Rattle.canary_once.specs.Kept.{closing_of, tallies_in, record_among};
 
 use crate::record::RunRecord;

@@ -1,7 +1,7 @@
 //! A service, as a book in memory keeps it.
 ghost use Rattle.std.specs.Prelude.{◌≡◌, IfOk, None, Some, OnOk, OnErr};
 ghost use Rattle.canary_release.specs.Desks.{after};
-ghost use Rattle.canary_release.specs.Shapes.{shape};
+ghost use Rattle.canary_release.specs.Stored.{stored_form};
 ghost use Rattle.canary_once.specs.Records.{record_numbered};
 ghost use Rattle.canary_once.specs.InMemory.{IsKeptAs};
 
@@ -51,12 +51,12 @@ impl KeptService {
         effects: Listed<Effect>,
     ) -> Result<KeptService, Memory>
         requires { IsKeptAs None service effects }
-        ensures { IfOk result (λ kept. kept ≡ after None service.stand effects) }
+        ensures { IfOk result (λ kept. kept ≡ after None service.service effects) }
     {
         laws::watching();
         let mut past = KeptPast::new(alloc);
         past.reserve(effects.as_slice())?;
-        past.happen_all(effects);
+        past.apply_effects(effects);
         Ok(KeptService {
             name: service.name(),
             version: service.version(),
@@ -69,12 +69,12 @@ impl KeptService {
     /// is taken first, and what happened is moved.
     pub(crate) fn change(&mut self, service: Service, effects: Listed<Effect>) -> Result<(), Memory>
         requires { IsKeptAs (Some self.old) service effects }
-        ensures ok { OnOk result (self.new ≡ after (Some self.old) service.stand effects) }
+        ensures ok { OnOk result (self.new ≡ after (Some self.old) service.service effects) }
         ensures err { OnErr result (self.new ≡ self.old) }
     {
         laws::watching();
         self.past.reserve(effects.as_slice())?;
-        self.past.happen_all(effects);
+        self.past.apply_effects(effects);
         self.service = service;
         Ok(())
     }
@@ -91,7 +91,7 @@ impl KeptService {
 
     /// The service, as it stands.
     pub(crate) fn service(&self) -> &Service
-        ensures { result.now ≡ shape self.now }
+        ensures { result.now ≡ stored_form self.now }
     {
         &self.service
     }

@@ -6,7 +6,7 @@ ghost use Rattle.canary_once.specs.Laws.{RequestsAreAnswered, QueriesAreAnswered
 ghost use Rattle.canary_once.specs.Laws.{QueriesChangeNothing, StaysSound, SettlementsKeep};
 ghost use Rattle.canary_once.specs.Contents.{no_contents, KeepsSettled};
 ghost use Rattle.canary_once.specs.Sound.{AreContents, AreSoundContents};
-ghost use Rattle.canary_once.specs.Books.{AreSure};
+ghost use Rattle.canary_once.specs.BookCalls.{AreSure};
 
 use crate::book::Book;
 use crate::memory::MemoryBook;

@@ -9,7 +9,7 @@
 //! In use (canary_files, src/answer.rt):
 //!
 //!     let command = Command::Report(report);
-//!     Told::Answered(post(alloc, book, moment, caller, number, &command))
+//!     RowReply::Answered(post(alloc, book, moment, caller, number, &command))
 #![tactic(auto)]
 
 pub mod book;

@@ -2,10 +2,10 @@
 ghost use Rattle.std.specs.Prelude.{◌≡◌, ◌+◌, ◌≤◌, length, take, drop, IfOk, OnOk, OnErr};
 ghost use Rattle.canary_plan.specs.Commands.{subject_of};
 ghost use Rattle.canary_release.specs.Desks.{newest};
-ghost use Rattle.canary_release.specs.Shapes.{changed};
+ghost use Rattle.canary_release.specs.Stored.{desk_with};
 ghost use Rattle.canary_release.specs.Effects.{IsChange};
 ghost use Rattle.canary_once.specs.Contents.{with_receipt};
-ghost use Rattle.canary_once.specs.Books.{IsEmptyAndSure};
+ghost use Rattle.canary_once.specs.BookCalls.{IsEmptyAndSure};
 ghost use Rattle.canary_once.specs.Contents.{receipts_in, known_named, HaveReceipts};
 ghost use Rattle.canary_once.specs.InMemory.{IsKept};
 
@@ -147,11 +147,11 @@ fn settle(
     ensures receipt { OnOk result (callers.new
         ≡ with_receipt callers.old settlement.caller settlement.receipt) }
     ensures desk { OnOk result (desk.new
-        ≡ changed desk.old settlement.receipt.command settlement.change) }
+        ≡ desk_with desk.old settlement.receipt.command settlement.change) }
     ensures few { settlement.number ≤ 1000000000 }
     ensures err { OnErr result ((callers.new ≡ callers.old) × (desk.new ≡ desk.old)) }
 {
-    let _ = settlement.number.get();
+    let _limits = settlement.number.get();
     let caller = settlement.caller;
     callers.push(alloc, caller, settlement.receipt)?;
     if let Err(refused) = desk.change(alloc, settlement.change) {

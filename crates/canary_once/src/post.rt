@@ -2,7 +2,7 @@
 ghost use Rattle.std.specs.Prelude.{◌≡◌, ◌+◌, IfOk, option_map};
 ghost use Rattle.std.specs.Option.{option_copied};
 ghost use Rattle.canary_plan.specs.Commands.{names_looked_up};
-ghost use Rattle.canary_release.specs.Shapes.{strategy_kept};
+ghost use Rattle.canary_release.specs.Stored.{strategy_kept};
 ghost use Rattle.canary_once.specs.Contents.{count_of};
 ghost use Rattle.canary_once.specs.Answers.{reused_reply, ahead_reply, repeat_reply};
 ghost use Rattle.canary_once.specs.Single.{request_of, reply_to, after_one, new_reply, settle};

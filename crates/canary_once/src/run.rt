@@ -2,8 +2,8 @@
 ghost use Rattle.std.specs.Prelude.{◌≡◌, length, IfOk, OnErr, All};
 ghost use Rattle.canary_once.specs.Contents.{KeepsReceipts};
 ghost use Rattle.canary_once.specs.Sound.{AreSoundContents};
-ghost use Rattle.canary_once.specs.Books.{StaysInMemory};
-ghost use Rattle.canary_once.specs.Answers.{heard, replies_in, answers_of, after};
+ghost use Rattle.canary_once.specs.BookCalls.{StaysInMemory};
+ghost use Rattle.canary_once.specs.Answers.{answered_events, replies_in, answers_of, after};
 ghost use Rattle.canary_once.specs.Single.{IsAnsweredBy, IsFaultOf};
 
 use crate::book::Book;
@@ -27,10 +27,10 @@ pub fn run<B: Book>(alloc: Global, book: &mut B, events: &[Event]) -> Result<Vec
     ensures count { IfOk result (λ answers. length answers.items ≡ length events.now) }
     ensures answers { (B.state book.new).is_honest → IfOk result (λ answers.
         replies_in answers.items
-        ≡ answers_of (B.state book.old).contents (heard events.now answers.items)) }
+        ≡ answers_of (B.state book.old).contents (answered_events events.now answers.items)) }
     ensures contents { (B.state book.new).is_honest → IfOk result (λ answers.
         (B.state book.new).contents
-        ≡ after (B.state book.old).contents (heard events.now answers.items)) }
+        ≡ after (B.state book.old).contents (answered_events events.now answers.items)) }
     ensures receipts { (B.state book.new).is_honest
         → KeepsReceipts (B.state book.old).contents (B.state book.new).contents }
     ensures sound { (B.state book.new).is_honest

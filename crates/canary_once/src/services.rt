@@ -2,7 +2,7 @@
 ghost use Rattle.std.specs.Prelude.{◌≡◌, option_copied, option_map, IfOk, OnOk, OnErr};
 ghost use Rattle.std.specs.FinMap as map;
 ghost use Rattle.canary_release.specs.Desks.{after};
-ghost use Rattle.canary_release.specs.Shapes.{shape};
+ghost use Rattle.canary_release.specs.Stored.{stored_form};
 ghost use Rattle.canary_once.specs.Records.{past_in, record_numbered};
 ghost use Rattle.canary_once.specs.InMemory.{IsKeptAs};
 
@@ -51,7 +51,7 @@ impl Services {
 
     /// The service of that name.
     pub(crate) fn service(&self, name: Name) -> Option<&Service>
-        ensures { option_copied result ≡ option_map shape (map.get self.now name) }
+        ensures { option_copied result ≡ option_map stored_form (map.get self.now name) }
     {
         match self.kept(name) {
             Some(kept) => Some(kept.service()),
@@ -107,7 +107,7 @@ impl Services {
     ) -> Result<(), Memory>
         requires { IsKeptAs (map.get self.old name) service effects }
         ensures ok { OnOk result (self.new
-            ≡ map.insert self.old name (after (map.get self.old name) service.stand effects)) }
+            ≡ map.insert self.old name (after (map.get self.old name) service.service effects)) }
         ensures err { OnErr result (self.new ≡ self.old) }
     {
         if let Some(kept) = self.services.get_mut(&name) {

@@ -31,10 +31,10 @@ fn lines_then(lines: Listed<Line>, effect: &Effect) -> Result<Listed<Line>, Memo
     ensures { IfOk result (λ more. more ≡ lines_then lines effect.now) }
 {
     match effect {
-        Effect::Told(line) => with_line(lines, line),
-        Effect::Opened(_) => Ok(lines),
-        Effect::Measured(_) => Ok(lines),
-        Effect::Closed { .. } => Ok(lines),
+        Effect::LineAdded(line) => with_line(lines, line),
+        Effect::RunOpened(_) => Ok(lines),
+        Effect::MeasurementRecorded(_) => Ok(lines),
+        Effect::RunClosed { .. } => Ok(lines),
     }
 }
 
@@ -82,10 +82,10 @@ fn record_then(
     ensures { IfOk result (λ run. run ≡ record_then number found effect.now) }
 {
     match effect {
-        Effect::Told(_) => Ok(found),
-        Effect::Opened(opening) => opened_of(alloc, number, opening, found),
-        Effect::Measured(_) => Ok(found),
-        Effect::Closed { closing, .. } => Ok(closed(closing, found)),
+        Effect::LineAdded(_) => Ok(found),
+        Effect::RunOpened(opening) => opened_of(alloc, number, opening, found),
+        Effect::MeasurementRecorded(_) => Ok(found),
+        Effect::RunClosed { closing, .. } => Ok(closed(closing, found)),
     }
 }
 

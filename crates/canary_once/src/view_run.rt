@@ -19,7 +19,7 @@ use std::alloc::Global;
 /// The text that shows a run of a service.
 pub(crate) fn run_text(alloc: Global, service: &Service, run: &RunRecord) -> Result<String, Memory>
     ensures { IfOk result (λ text. string_bytes text
-        ≡ run_view service.now.stand.name run.now.analysis.metrics run.now) }
+        ≡ run_view service.now.service.name run.now.analysis.metrics run.now) }
 {
     let front = run_front(alloc, run)?;
     let middle = run_middle(alloc, service, run)?;
@@ -50,7 +50,7 @@ fn closed_at(run: &RunRecord) -> Option<u64>
 // Its number, the service and when it was started.
 fn run_middle(alloc: Global, service: &Service, run: &RunRecord) -> Result<String, Memory>
     ensures { IfOk result (λ text. string_bytes text
-        ≡ run_middle service.now.stand.name run.now) }
+        ≡ run_middle service.now.service.name run.now) }
 {
     let number = run.number;
     let name = service.name();

@@ -37,7 +37,7 @@ fn found(body: String) -> Reply
 /// The reply that shows a service.
 pub(crate) fn service_reply(alloc: Global, service: &Service) -> Result<Reply, Memory>
     ensures { IfOk result (λ reply. reply
-        ≡ found (service_view service.now.stand service.now.runs)) }
+        ≡ found (service_view service.now.service service.now.runs)) }
 {
     let body = service_text(alloc, service)?;
     Ok(found(body))
@@ -57,7 +57,8 @@ pub(crate) fn run_reply(
     service: &Service,
     run: Option<&RunRecord>,
 ) -> Result<Reply, Memory>
-    ensures { IfOk result (λ reply. reply ≡ run_reply service.now.stand (option_copied run.entry)) }
+    ensures { IfOk result
+        (λ reply. reply ≡ run_reply service.now.service (option_copied run.entry)) }
 {
     match run {
         Some(run) => {
@@ -71,7 +72,7 @@ pub(crate) fn run_reply(
 // The text that shows a service: an object in JSON, joined from three parts.
 fn service_text(alloc: Global, service: &Service) -> Result<String, Memory>
     ensures { IfOk result (λ text. string_bytes text
-        ≡ service_view service.now.stand service.now.runs) }
+        ≡ service_view service.now.service service.now.runs) }
 {
     let front = service_front(alloc, service)?;
     let middle = service_middle(alloc, service)?;
@@ -93,7 +94,7 @@ pub(crate) fn joined(front: String, middle: &str, back: &str) -> Result<String, 
 // The hold, the last moment and the open runs.
 fn service_front(alloc: Global, service: &Service) -> Result<String, Memory>
     ensures { IfOk result (λ text. string_bytes text
-        ≡ service_front service.now.stand service.now.runs) }
+        ≡ service_front service.now.service service.now.runs) }
 {
     let hold = hold_text(service.step_hold(), service.background_hold());
     let moment = service.last().get();
@@ -118,7 +119,7 @@ fn hold_text(step: bool, background: bool) -> &'static str
 // How many runs, the name and the stable version.
 fn service_middle(alloc: Global, service: &Service) -> Result<String, Memory>
     ensures { IfOk result (λ text. string_bytes text
-        ≡ service_middle service.now.stand service.now.runs.count) }
+        ≡ service_middle service.now.service service.now.runs.count) }
 {
     let count = service.run_count();
     let name = service.name();
@@ -128,7 +129,7 @@ fn service_middle(alloc: Global, service: &Service) -> Result<String, Memory>
 
 // The status, the step, the version and the weight.
 fn service_back(alloc: Global, service: &Service) -> Result<String, Memory>
-    ensures { IfOk result (λ text. string_bytes text ≡ service_back service.now.stand) }
+    ensures { IfOk result (λ text. string_bytes text ≡ service_back service.now.service) }
 {
     let status = service.status().text();
     let step = service.step();

@@ -5,8 +5,8 @@ use Rattle.std.specs.Io.KnownBytes.{Appends}
 use Rattle.std.proofs.lemmas.List.{append-nil, append_assoc, take-append-drop}
 use Rattle.std.proofs.lemmas.Grind.{flat_map-append, fold-append}
 use Rattle.canary_files.specs.Writes.{Known, Writes}
-use Rattle.canary_markup.specs.declared.piece.Place.TheVariants as place
-use Rattle.canary_markup.specs.Pages.{bytes_of, then_place, IsOfPieces}
+use Rattle.canary_page_html.specs.declared.piece.HtmlContext.TheVariants as place
+use Rattle.canary_page_html.specs.Pages.{bytes_of, then_place, IsOfPieces}
 use Rattle.canary_page.specs.Drawn.{IsDrawn}
 
 appends_more : (a b c : Option (List ℕ)) (x y : List ℕ) → Appends a b x → Appends b c y → Appends a c (x ++ y)

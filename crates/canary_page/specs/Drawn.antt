@@ -4,7 +4,7 @@ use Rattle.canary_once.specs.declared.book.BookFault.{BookFault}
 use Rattle.canary_once.specs.declared.book.BookFault.TheVariants as book
 use Rattle.canary_files.specs.Writes.{Known}
 use Rattle.canary_files.specs.Exporting.{Puts}
-use Rattle.canary_markup.specs.Pages.{IsOfPieces}
+use Rattle.canary_page_html.specs.Pages.{IsOfPieces}
 use Rattle.canary_page.specs.declared.fault.PageFault.{PageFault}
 use Rattle.canary_page.specs.declared.fault.PageFault.TheVariants as fault
 

@@ -3,23 +3,23 @@ use crate::ended::ended;
 use crate::figure::{badge, counted};
 use crate::history::history;
 use crate::run::runs_of;
-use crate::shown::Shown;
+use crate::shown::ShownService;
 use crate::track::{bar, track};
 use crate::waits::waits;
-use canary_markup::element::{Attribute, Element};
-use canary_markup::markup::Markup;
+use canary_page_html::element::{Attribute, Element};
+use canary_page_html::markup::Markup;
 use canary_release::service::Service;
 use std::alloc::Global;
 
 // The card of a service that is not done, with the runs of its attempt, the newest first.
-pub(crate) fn card(alloc: Global, shown: &Shown) -> Markup {
+pub(crate) fn card(alloc: Global, shown: &ShownService) -> Markup {
     let mut page = Markup::new(alloc);
     draw_card(&mut page, shown);
     page
 }
 
 // Draws a card from its heading to its history. Its id is the service's name, for links to it.
-fn draw_card(page: &mut Markup, shown: &Shown) {
+fn draw_card(page: &mut Markup, shown: &ShownService) {
     let service = &shown.service;
     page.start(Element::Article);
     page.attribute(Attribute::Class, service.status().text());

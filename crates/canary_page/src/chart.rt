@@ -11,10 +11,10 @@ use canary_release::effect::Recorded;
 use std::alloc::Global;
 
 /// The most points of a chart.
-pub(crate) const MOST_POINTS: u64 = 300;
+pub(crate) const MAX_POINTS: u64 = 300;
 
 // The points that a chart has room for besides its first and its last.
-const ROOM: u64 = MOST_POINTS - 2;
+const ROOM: u64 = MAX_POINTS - 2;
 
 /// A measurement that is shown.
 #[derive(Drop)]
@@ -37,19 +37,19 @@ pub(crate) struct Chart {
     seen: u64,
     seen_bad: u64,
     units: Units,
-    rows: Vec<Row>,
+    rows: Vec<ChartRow>,
     points: Vec<Point>,
 }
 
 /// What a chart shows of its results: the numbers at a spot, from the least to the greatest, of all
 /// measurements, if there are any. What stands for NaN is none.
 #[derive(Clone, Copy)]
-pub(crate) struct Row {
+pub(crate) struct ChartRow {
     pub(crate) spot: Spot,
     pub(crate) span: Option<Span>,
 }
 
-impl Row {
+impl ChartRow {
     // Widens its span to the number that a measurement has at its spot, if there is one to draw.
     fn widen(&mut self, units: Units, outcome: &Outcome) {
         if let Some(number) = self.spot.drawn_of(units, outcome) {
@@ -98,10 +98,7 @@ impl Chart {
 
     // Whether the next measurement is shown.
     fn shows(&self, is_bad: bool) -> bool {
-        if self.whole <= MOST_POINTS
-            || self.seen == 0
-            || self.seen.saturating_add(1) >= self.whole
-        {
+        if self.whole <= MAX_POINTS || self.seen == 0 || self.seen.saturating_add(1) >= self.whole {
             return true;
         }
         if is_bad {
@@ -118,7 +115,7 @@ impl Chart {
     }
 
     // What it shows of each result, in order.
-    pub(crate) fn rows(&self) -> &[Row] {
+    pub(crate) fn rows(&self) -> &[ChartRow] {
         self.rows.as_slice()
     }
 
@@ -134,10 +131,10 @@ impl Chart {
 }
 
 // A row for each of these spots, without a span so far.
-fn rows_of(alloc: Global, spots: &[Spot]) -> Result<Vec<Row>, Memory> {
+fn rows_of(alloc: Global, spots: &[Spot]) -> Result<Vec<ChartRow>, Memory> {
     let mut rows = Vec::new(alloc);
     for spot in spots {
-        rows.push(Row {
+        rows.push(ChartRow {
             spot: *spot,
             span: None,
         })?;

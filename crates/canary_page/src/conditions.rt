@@ -1,6 +1,6 @@
 //! A metric's conditions, and what is drawn by them.
-use crate::bounds::{Bound, Mentions, mentions_of};
 use crate::spot::Spot;
+use crate::thresholds::{Mentions, Threshold, mentions_of};
 use canary_base::error::Memory;
 use canary_base::lists::Text;
 use canary_base::names::Label;
@@ -11,7 +11,7 @@ use canary_plan::templates::Templates;
 use std::alloc::Global;
 
 // The most charts of a metric.
-const MOST_CHARTS: usize = 8;
+const MAX_CHARTS: usize = 8;
 
 /// The texts of a metric's conditions, as its template has them but for the numbers of its units,
 /// and their bounds. They are not known if its template was revised after the metric was bound.
@@ -22,8 +22,8 @@ pub(crate) struct Conditions {
     pub(crate) units: Units,
     pub(crate) success: Option<Text>,
     pub(crate) failure: Option<Text>,
-    pub(crate) success_bounds: Vec<Bound>,
-    pub(crate) failure_bounds: Vec<Bound>,
+    pub(crate) success_bounds: Vec<Threshold>,
+    pub(crate) failure_bounds: Vec<Threshold>,
     /// What they name of a result, in order, each once: `result` itself if that is nothing.
     spots: Vec<Spot>,
 }
@@ -32,12 +32,12 @@ impl Conditions {
     // What is drawn of a result, a chart each: the first 8 of what they name.
     pub(crate) fn drawn(&self) -> &[Spot] {
         let spots = self.spots.as_slice();
-        spots.get(..MOST_CHARTS).unwrap_or(spots)
+        spots.get(..MAX_CHARTS).unwrap_or(spots)
     }
 
     // How many places more they name.
     pub(crate) fn left_out(&self) -> u64 {
-        self.spots.len().saturating_sub(MOST_CHARTS) as u64
+        self.spots.len().saturating_sub(MAX_CHARTS) as u64
     }
 }
 
@@ -87,13 +87,13 @@ fn spec_of(templates: &Templates, revision: Revision, metric: Label) -> Option<&
 fn shown_text(
     alloc: Global,
     text: &Option<Text>,
-    bounds: &[Bound],
+    thresholds: &[Threshold],
     units: Units,
 ) -> Result<Option<Text>, Memory> {
     match text {
         None => Ok(None),
         Some(text) if units == WHOLE => Ok(Some(text.copy(alloc)?)),
-        Some(text) => Ok(Some(Text::of(with_points(alloc, text.as_str(), bounds, units)?))),
+        Some(text) => Ok(Some(Text::of(with_points(alloc, text.as_str(), thresholds, units)?))),
     }
 }
 
@@ -101,12 +101,12 @@ fn shown_text(
 fn with_points(
     alloc: Global,
     text: &str,
-    bounds: &[Bound],
+    thresholds: &[Threshold],
     units: Units,
 ) -> Result<String, Memory> {
     let mut shown = String::new(alloc);
     let mut from = 0;
-    for bound in bounds {
+    for bound in thresholds {
         shown.push_str(text.get(from..bound.constant.begin).unwrap_or(""))?;
         let number = units.text(bound.spot.place(), bound.constant.number);
         shown.push_str(number.as_str())?;
@@ -130,10 +130,10 @@ fn with_mentions(
     Ok(Conditions {
         is_known,
         units,
-        success: shown_text(alloc, success, in_success.bounds.as_slice(), units)?,
-        failure: shown_text(alloc, failure, in_failure.bounds.as_slice(), units)?,
-        success_bounds: in_success.bounds,
-        failure_bounds: in_failure.bounds,
+        success: shown_text(alloc, success, in_success.thresholds.as_slice(), units)?,
+        failure: shown_text(alloc, failure, in_failure.thresholds.as_slice(), units)?,
+        success_bounds: in_success.thresholds,
+        failure_bounds: in_failure.thresholds,
         spots,
     })
 }

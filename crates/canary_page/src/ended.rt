@@ -2,20 +2,20 @@
 use crate::attempts::{Attempt, Ending};
 use crate::figure::counted;
 use crate::run::runs_of;
-use crate::shown::Shown;
+use crate::shown::ShownService;
 use crate::time::stamp;
-use canary_markup::element::Element;
-use canary_markup::markup::Markup;
+use canary_page_html::element::Element;
+use canary_page_html::markup::Markup;
 
 // Draws the attempts that ended not long ago, each folded, with its runs.
-pub(crate) fn ended(page: &mut Markup, shown: &Shown) {
+pub(crate) fn ended(page: &mut Markup, shown: &ShownService) {
     for attempt in &shown.attempts.recent {
         draw_ended(page, shown, attempt);
     }
 }
 
 // Draws an attempt that ended: its summary, and its runs, which are shown when it is unfolded.
-fn draw_ended(page: &mut Markup, shown: &Shown, attempt: &Attempt) {
+fn draw_ended(page: &mut Markup, shown: &ShownService, attempt: &Attempt) {
     page.open(Element::Details, "ended");
     summary(page, shown, attempt);
     runs_of(page, shown, attempt);
@@ -23,7 +23,7 @@ fn draw_ended(page: &mut Markup, shown: &Shown, attempt: &Attempt) {
 }
 
 // Draws what a folded attempt shows: its version, its start, its ending, and how many runs it has.
-fn summary(page: &mut Markup, shown: &Shown, attempt: &Attempt) {
+fn summary(page: &mut Markup, shown: &ShownService, attempt: &Attempt) {
     page.begin(Element::Summary);
     page.text("Attempt of ");
     page.text(attempt.version.as_str());

@@ -1,25 +1,25 @@
 //! A metric of a run: its chart, its conditions, and its numbers.
-use crate::bounds::Bound;
-use crate::chart::{Chart, Row};
+use crate::chart::{Chart, ChartRow};
 use crate::conditions::{Conditions, text_of};
 use crate::late::{due_of, late_since};
 use crate::numbers::Span;
-use crate::plot::{Frame, axis, bounds, curve, outcome, points};
+use crate::plot::{Frame, axis, curve, outcome, points, thresholds};
 use crate::spot::{Spot, number_text, spot_text};
+use crate::thresholds::Threshold;
 use crate::time::clock;
 use crate::words::metric_name;
 use canary_base::lists::Text;
 use canary_base::moments::Moment;
 use canary_condition::outcome::Phase;
 use canary_decimal::shown::{Shown, Units};
-use canary_markup::element::{Attribute, Element};
-use canary_markup::markup::Markup;
 use canary_metric::metric::{Metric, effective_count};
 use canary_metric::tally::Tally;
+use canary_page_html::element::{Attribute, Element};
+use canary_page_html::markup::Markup;
 
 /// A metric of a run, with all that is shown of it.
 #[derive(Clone, Copy)]
-pub(crate) struct Measured<'a> {
+pub(crate) struct MetricFigure<'a> {
     pub(crate) metric: &'a Metric,
     pub(crate) tally: &'a Tally,
     pub(crate) chart: &'a Chart,
@@ -31,7 +31,7 @@ pub(crate) struct Measured<'a> {
 }
 
 // Draws it.
-pub(crate) fn figure(page: &mut Markup, shown: &Measured<'_>) {
+pub(crate) fn figure(page: &mut Markup, shown: &MetricFigure<'_>) {
     page.open(Element::Figure, "metric");
     caption(page, shown);
     last_value(page, shown);
@@ -45,7 +45,7 @@ pub(crate) fn figure(page: &mut Markup, shown: &Measured<'_>) {
 }
 
 // The chart of what a row shows, under its name if that is a place of a list.
-fn chart(page: &mut Markup, shown: &Measured<'_>, row: Row) {
+fn chart(page: &mut Markup, shown: &MetricFigure<'_>, row: ChartRow) {
     let frame = frame_of(shown, row);
     let conditions = shown.conditions;
     page.open(Element::Block, "chart");
@@ -58,9 +58,9 @@ fn chart(page: &mut Markup, shown: &Measured<'_>, row: Row) {
     axis(page, &frame);
     let (success, failure) = (&conditions.success_bounds, &conditions.failure_bounds);
     let text = text_of(&conditions.success);
-    bounds(page, &frame, "limit good", success.as_slice(), text);
+    thresholds(page, &frame, "limit good", success.as_slice(), text);
     let text = text_of(&conditions.failure);
-    bounds(page, &frame, "limit bad", failure.as_slice(), text);
+    thresholds(page, &frame, "limit bad", failure.as_slice(), text);
     curve(page, &frame, shown.chart);
     points(page, &frame, shown.chart);
     page.end(Element::Drawing);
@@ -68,7 +68,7 @@ fn chart(page: &mut Markup, shown: &Measured<'_>, row: Row) {
 }
 
 // The frame of a row's chart: its span has the bounds of both conditions, too.
-fn frame_of(shown: &Measured<'_>, row: Row) -> Frame {
+fn frame_of(shown: &MetricFigure<'_>, row: ChartRow) -> Frame {
     let conditions = shown.conditions;
     let units = conditions.units;
     let span = with_bounds(
@@ -87,9 +87,14 @@ fn frame_of(shown: &Measured<'_>, row: Row) -> Frame {
 }
 
 // Wide enough for the bounds of that spot, too.
-fn with_bounds(span: Option<Span>, spot: Spot, units: Units, bounds: &[Bound]) -> Option<Span> {
+fn with_bounds(
+    span: Option<Span>,
+    spot: Spot,
+    units: Units,
+    thresholds: &[Threshold],
+) -> Option<Span> {
     let mut span = span;
-    for bound in bounds {
+    for bound in thresholds {
         if bound.is_drawn(spot, units) {
             span = Some(Span::with(span, bound.constant.number));
         }
@@ -99,7 +104,7 @@ fn with_bounds(span: Option<Span>, spot: Spot, units: Units, bounds: &[Bound]) -
 
 // The end of the run, or what came after it: its start, where the present moment is before that, or
 // its last measurement.
-fn last_of(shown: &Measured<'_>) -> Moment {
+fn last_of(shown: &MetricFigure<'_>) -> Moment {
     let end = shown.end.max(shown.started);
     match shown.tally.last() {
         Some(last) => end.max(last),
@@ -108,12 +113,12 @@ fn last_of(shown: &Measured<'_>) -> Moment {
 }
 
 // The phase of the metric, judged as in a run that is closing if its run is closed.
-fn phase_of(shown: &Measured<'_>) -> Phase {
+fn phase_of(shown: &MetricFigure<'_>) -> Phase {
     shown.tally.phase(shown.metric, shown.is_closed)
 }
 
 // Draws the metric's name, whether it is a dry run, and its phase.
-fn caption(page: &mut Markup, shown: &Measured<'_>) {
+fn caption(page: &mut Markup, shown: &MetricFigure<'_>) {
     page.begin(Element::Caption);
     page.begin(Element::Strong);
     metric_name(page, shown.metric.name());
@@ -128,7 +133,7 @@ fn caption(page: &mut Markup, shown: &Measured<'_>) {
 }
 
 // The last measurement, in words.
-fn last_value(page: &mut Markup, shown: &Measured<'_>) {
+fn last_value(page: &mut Markup, shown: &MetricFigure<'_>) {
     page.open(Element::Paragraph, "last");
     match shown.chart.points().last() {
         Some(point) => {
@@ -160,7 +165,7 @@ pub(crate) fn badge(page: &mut Markup, word: &str) {
 }
 
 // The start of the drawing, with its numbers in words.
-fn begin_drawing(page: &mut Markup, shown: &Measured<'_>, row: Row) {
+fn begin_drawing(page: &mut Markup, shown: &MetricFigure<'_>, row: ChartRow) {
     page.start(Element::Drawing);
     page.attribute(Attribute::Class, "plot");
     page.attribute(Attribute::View, "0 0 3000 900");
@@ -174,7 +179,7 @@ fn begin_drawing(page: &mut Markup, shown: &Measured<'_>, row: Row) {
 }
 
 // Writes a drawing as a sentence for screen readers: counts by phase, the span, the last outcome.
-fn in_words(page: &mut Markup, shown: &Measured<'_>, row: Row) {
+fn in_words(page: &mut Markup, shown: &MetricFigure<'_>, row: ChartRow) {
     page.text(Shown::or_whole(shown.metric.name().as_str()).name);
     page.text(": ");
     counted(page, shown.chart.whole(), " measurement");
@@ -221,7 +226,7 @@ pub(crate) fn counted(page: &mut Markup, count: u64, thing: &str) {
 }
 
 // The conditions, and the numbers by which the metric is judged.
-fn notes(page: &mut Markup, shown: &Measured<'_>) {
+fn notes(page: &mut Markup, shown: &MetricFigure<'_>) {
     page.open(Element::Block, "notes");
     conditions(page, shown.conditions);
     page.begin(Element::Paragraph);
@@ -275,7 +280,7 @@ fn condition(page: &mut Markup, kind: &str, text: &Option<Text>) {
 }
 
 // Draws how many measurements are counted, of how many, and the same of successes in a row.
-fn wanted(page: &mut Markup, shown: &Measured<'_>) {
+fn wanted(page: &mut Markup, shown: &MetricFigure<'_>) {
     page.number(u64::from(shown.tally.counted()));
     if let Some(count) = effective_count(shown.metric) {
         page.text(" of ");
@@ -292,7 +297,7 @@ fn wanted(page: &mut Markup, shown: &Measured<'_>) {
 }
 
 // Draws how many failed, were inconclusive or errors, with the limits; that of errors is in a row.
-fn limits(page: &mut Markup, shown: &Measured<'_>) {
+fn limits(page: &mut Markup, shown: &MetricFigure<'_>) {
     let (tally, metric) = (shown.tally, shown.metric);
     allowed(page, tally.failed(), " failed", metric.failure_limit());
     allowed(
@@ -326,7 +331,7 @@ fn allowed(page: &mut Markup, count: u32, thing: &str, limit: u32) {
 }
 
 // When the next measurement is due, if one is wanted.
-fn due(page: &mut Markup, shown: &Measured<'_>) {
+fn due(page: &mut Markup, shown: &MetricFigure<'_>) {
     if shown.is_closed {
         return;
     }

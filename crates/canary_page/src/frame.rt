@@ -1,16 +1,16 @@
 //! What stands around the services of a page.
 use crate::figure::badge;
-use crate::groups::{Placed, count_status, count_waiting};
+use crate::groups::{PlacedService, count_status, count_waiting};
 use crate::key::key;
 use crate::time::stamp;
 use canary_base::moments::Moment;
-use canary_markup::element::Element;
-use canary_markup::markup::Markup;
-use canary_markup::piece::Piece;
-use canary_release::stand::Status;
+use canary_page_html::element::Element;
+use canary_page_html::markup::Markup;
+use canary_page_html::piece::Piece;
+use canary_release::state::Status;
 
 // The page up to its first part.
-pub(crate) fn head(page: &mut Markup, placed: &[Placed], now: Moment, every: Option<u64>) {
+pub(crate) fn head(page: &mut Markup, placed: &[PlacedService], now: Moment, every: Option<u64>) {
     page.add(Piece::Head);
     if let Some(seconds) = every {
         page.add(Piece::Refresh(seconds));
@@ -23,7 +23,7 @@ pub(crate) fn head(page: &mut Markup, placed: &[Placed], now: Moment, every: Opt
 }
 
 // Draws the title of the page: how many services are degraded, and how many wait for somebody.
-fn title(page: &mut Markup, placed: &[Placed]) {
+fn title(page: &mut Markup, placed: &[PlacedService]) {
     page.begin(Element::Title);
     page.number(count_status(placed, Status::Degraded));
     page.text(" degraded, ");
@@ -33,7 +33,7 @@ fn title(page: &mut Markup, placed: &[Placed]) {
 }
 
 // Draws the top of the page: its moment, and how many services have each status.
-fn heading(page: &mut Markup, placed: &[Placed], now: Moment) {
+fn heading(page: &mut Markup, placed: &[PlacedService], now: Moment) {
     page.open(Element::Header, "top");
     page.begin(Element::Heading1);
     page.text("Canary desk");
@@ -52,7 +52,7 @@ fn heading(page: &mut Markup, placed: &[Placed], now: Moment) {
 }
 
 // How many services have that status.
-fn chip(page: &mut Markup, placed: &[Placed], status: Status) {
+fn chip(page: &mut Markup, placed: &[PlacedService], status: Status) {
     page.begin(Element::Item);
     badge(page, status.text());
     page.text(" ");

@@ -3,19 +3,19 @@ ghost use Rattle.canary_files.specs.Exporting.{Stays};
 
 use crate::fault::PageFault;
 use crate::reading::passed_of;
-use crate::shown::Standing;
+use crate::shown::AttentionLevel;
 use canary_base::error::Memory;
 use canary_base::moments::Moment;
 use canary_base::names::Name;
 use canary_once::book::Book;
-use canary_release::stand::Status;
+use canary_release::state::Status;
 use std::alloc::Global;
 
 /// A service, by its name, and how it stands.
 #[derive(Clone, Copy)]
-pub(crate) struct Placed {
+pub(crate) struct PlacedService {
     pub(crate) name: Name,
-    pub(crate) standing: Standing,
+    pub(crate) standing: AttentionLevel,
     pub(crate) status: Status,
 }
 
@@ -25,7 +25,7 @@ pub(crate) fn placed_of<B: Book>(
     book: &mut B,
     names: &[Name],
     now: Moment,
-) -> Result<Vec<Placed>, PageFault>
+) -> Result<Vec<PlacedService>, PageFault>
     ensures { Stays (B.state book.old) (B.state book.new) }
 {
     let mut placed = Vec::new(alloc);
@@ -41,7 +41,7 @@ fn place<B: Book>(
     book: &mut B,
     name: &Name,
     now: Moment,
-    placed: &mut Vec<Placed>,
+    placed: &mut Vec<PlacedService>,
 ) -> Result<(), PageFault>
     ensures { Stays (B.state book.old) (B.state book.new) }
 {
@@ -50,7 +50,7 @@ fn place<B: Book>(
         push_placed(
             placed,
             *name,
-            Standing::of(&passed.service, now.max(passed.service.last())),
+            AttentionLevel::of(&passed.service, now.max(passed.service.last())),
             passed.service.status(),
         )?;
     }
@@ -59,12 +59,12 @@ fn place<B: Book>(
 
 // Adds a service to the list, with what says in which part of the page it is drawn.
 fn push_placed(
-    placed: &mut Vec<Placed>,
+    placed: &mut Vec<PlacedService>,
     name: Name,
-    standing: Standing,
+    standing: AttentionLevel,
     status: Status,
 ) -> Result<(), Memory> {
-    placed.push(Placed {
+    placed.push(PlacedService {
         name,
         standing,
         status,
@@ -73,7 +73,7 @@ fn push_placed(
 }
 
 // How many of these stand so.
-pub(crate) fn count_standing(placed: &[Placed], standing: Standing) -> u64 {
+pub(crate) fn count_standing(placed: &[PlacedService], standing: AttentionLevel) -> u64 {
     placed
         .iter()
         .filter(|placed| placed.standing == standing)
@@ -81,7 +81,7 @@ pub(crate) fn count_standing(placed: &[Placed], standing: Standing) -> u64 {
 }
 
 // How many of these wait for somebody.
-pub(crate) fn count_waiting(placed: &[Placed]) -> u64 {
+pub(crate) fn count_waiting(placed: &[PlacedService]) -> u64 {
     placed
         .iter()
         .filter(|placed| placed.standing.waits())
@@ -89,7 +89,7 @@ pub(crate) fn count_waiting(placed: &[Placed]) -> u64 {
 }
 
 // How many of these have that status.
-pub(crate) fn count_status(placed: &[Placed], status: Status) -> u64 {
+pub(crate) fn count_status(placed: &[PlacedService], status: Status) -> u64 {
     placed
         .iter()
         .filter(|placed| placed.status == status)

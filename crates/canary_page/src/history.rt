@@ -3,19 +3,19 @@ use crate::figure::counted;
 use crate::time::stamp;
 use crate::words;
 use canary_base::names::Name;
-use canary_markup::element::Element;
-use canary_markup::markup::Markup;
+use canary_page_html::element::Element;
+use canary_page_html::markup::Markup;
 use canary_plan::line::Line;
 
 // The most lines of a history that a page has.
-const MOST_LINES: usize = 200;
+const MAX_LINES: usize = 200;
 
 // Draws the history of a service, folded, its last line first.
 pub(crate) fn history(page: &mut Markup, name: Name, lines: &[Line]) {
     page.open(Element::Details, "history");
     summary(page, lines);
     page.begin(Element::Table);
-    for line in lines.iter().rev().take(MOST_LINES) {
+    for line in lines.iter().rev().take(MAX_LINES) {
         row(page, line);
     }
     page.end(Element::Table);
@@ -51,7 +51,7 @@ fn row(page: &mut Markup, line: &Line) {
 
 // What is said of lines that the page does not have.
 fn earlier(page: &mut Markup, name: Name, lines: usize) {
-    let left_out = lines.saturating_sub(MOST_LINES);
+    let left_out = lines.saturating_sub(MAX_LINES);
     if left_out > 0 {
         page.begin(Element::Paragraph);
         counted(page, left_out as u64, " earlier line");

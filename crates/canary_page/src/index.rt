@@ -1,8 +1,8 @@
 //! The index of a page: a link to each service.
-use crate::groups::Placed;
-use crate::shown::Standing;
-use canary_markup::element::Element;
-use canary_markup::markup::Markup;
+use crate::groups::PlacedService;
+use crate::shown::AttentionLevel;
+use canary_page_html::element::Element;
+use canary_page_html::markup::Markup;
 
 /// Begins the index, up to its first group.
 pub(crate) fn begin_index(page: &mut Markup) {
@@ -31,7 +31,7 @@ pub(crate) fn end_group(page: &mut Markup) {
 }
 
 // A link to a service, with why it waits for somebody, if it does.
-pub(crate) fn link(page: &mut Markup, placed: &Placed) {
+pub(crate) fn link(page: &mut Markup, placed: &PlacedService) {
     page.begin(Element::Item);
     let name = placed.name;
     page.link(class_of(placed), name.as_str(), name.as_str());
@@ -46,7 +46,7 @@ pub(crate) fn link(page: &mut Markup, placed: &Placed) {
 }
 
 // A service that waits for nobody has no colour.
-fn class_of(placed: &Placed) -> &'static str {
+fn class_of(placed: &PlacedService) -> &'static str {
     if placed.standing.waits() {
         placed.status.text()
     } else {
@@ -55,13 +55,13 @@ fn class_of(placed: &Placed) -> &'static str {
 }
 
 // Why a service waits for somebody, in one word; empty if it does not wait.
-fn why_of(standing: Standing) -> &'static str {
+fn why_of(standing: AttentionLevel) -> &'static str {
     match standing {
-        Standing::Aborted => "aborted",
-        Standing::Held => "held",
-        Standing::Late => "late",
-        Standing::Waits => "pause",
-        Standing::Goes => "",
-        Standing::Done => "",
+        AttentionLevel::Aborted => "aborted",
+        AttentionLevel::Held => "held",
+        AttentionLevel::Late => "late",
+        AttentionLevel::Waits => "pause",
+        AttentionLevel::Goes => "",
+        AttentionLevel::Done => "",
     }
 }

@@ -1,20 +1,20 @@
 //! The parts of a page, in order.
-use crate::groups::{Placed, count_standing};
-use crate::shown::Standing;
+use crate::groups::{PlacedService, count_standing};
+use crate::shown::AttentionLevel;
 use canary_base::error::Memory;
 use canary_base::moments::Moment;
 use canary_base::names::Name;
 use std::alloc::Global;
 
 // A page of more services than these begins with an index.
-const MOST_WITHOUT_INDEX: usize = 20;
+const MAX_WITHOUT_INDEX: usize = 20;
 
 // The standings of those that wait for somebody, in the order of the page.
-const WAITING: [Standing; 4] = [
-    Standing::Aborted,
-    Standing::Held,
-    Standing::Late,
-    Standing::Waits,
+const WAITING: [AttentionLevel; 4] = [
+    AttentionLevel::Aborted,
+    AttentionLevel::Held,
+    AttentionLevel::Late,
+    AttentionLevel::Waits,
 ];
 
 /// A group of the services of a page.
@@ -43,7 +43,7 @@ pub(crate) enum Job {
     /// The index, a group of it with how many services it has, and a link to one.
     Index,
     Group(Group, u64),
-    Link(Placed),
+    Link(PlacedService),
     GroupEnd,
     IndexEnd,
     /// The heading of the services that wait for somebody, that go on, and that are done.
@@ -76,7 +76,7 @@ enum Drawn {
 
 impl Drawn {
     // The part of a page that draws this service so.
-    fn job_of(self, placed: Placed) -> Job {
+    fn job_of(self, placed: PlacedService) -> Job {
         match self {
             Drawn::Link => Job::Link(placed),
             Drawn::Card => Job::Card(placed.name),
@@ -87,8 +87,8 @@ impl Drawn {
 
 /// The services of a page, and how it is drawn.
 #[derive(Clone, Copy)]
-pub(crate) struct Plan<'a> {
-    pub(crate) placed: &'a [Placed],
+pub(crate) struct PageSetup<'a> {
+    pub(crate) placed: &'a [PlacedService],
     /// The moment to which services are passed.
     pub(crate) now: Moment,
     /// The seconds after which the page loads itself anew; none if it does not.
@@ -96,18 +96,18 @@ pub(crate) struct Plan<'a> {
 }
 
 // The parts of the page of these services.
-pub(crate) fn jobs_of(alloc: Global, placed: &[Placed]) -> Result<Vec<Job>, Memory> {
+pub(crate) fn jobs_of(alloc: Global, placed: &[PlacedService]) -> Result<Vec<Job>, Memory> {
     let mut jobs = Vec::new(alloc);
     jobs.push(Job::Head)?;
-    if placed.len() > MOST_WITHOUT_INDEX {
+    if placed.len() > MAX_WITHOUT_INDEX {
         push_index(&mut jobs, placed)?;
     }
     jobs.push(Job::Waiting)?;
     push_cards(&mut jobs, placed, &WAITING)?;
     jobs.push(Job::Going)?;
-    push_cards(&mut jobs, placed, &[Standing::Goes])?;
+    push_cards(&mut jobs, placed, &[AttentionLevel::Goes])?;
     jobs.push(Job::Done)?;
-    if count_standing(placed, Standing::Done) > 0 {
+    if count_standing(placed, AttentionLevel::Done) > 0 {
         push_table(&mut jobs, placed)?;
     }
     jobs.push(Job::Foot)?;
@@ -115,11 +115,11 @@ pub(crate) fn jobs_of(alloc: Global, placed: &[Placed]) -> Result<Vec<Job>, Memo
 }
 
 // The links to those that wait for somebody stand first.
-fn push_index(jobs: &mut Vec<Job>, placed: &[Placed]) -> Result<(), Memory> {
+fn push_index(jobs: &mut Vec<Job>, placed: &[PlacedService]) -> Result<(), Memory> {
     jobs.push(Job::Index)?;
     push_group(jobs, Group::Waits, placed, &WAITING)?;
-    push_group(jobs, Group::Goes, placed, &[Standing::Goes])?;
-    push_group(jobs, Group::Done, placed, &[Standing::Done])?;
+    push_group(jobs, Group::Goes, placed, &[AttentionLevel::Goes])?;
+    push_group(jobs, Group::Done, placed, &[AttentionLevel::Done])?;
     jobs.push(Job::IndexEnd)?;
     Ok(())
 }
@@ -128,8 +128,8 @@ fn push_index(jobs: &mut Vec<Job>, placed: &[Placed]) -> Result<(), Memory> {
 fn push_group(
     jobs: &mut Vec<Job>,
     group: Group,
-    placed: &[Placed],
-    standings: &[Standing],
+    placed: &[PlacedService],
+    standings: &[AttentionLevel],
 ) -> Result<(), Memory> {
     let count = placed
         .iter()
@@ -149,8 +149,8 @@ fn push_group(
 // Adds a card for each service that has one of these `standings`, in their order.
 fn push_cards(
     jobs: &mut Vec<Job>,
-    placed: &[Placed],
-    standings: &[Standing],
+    placed: &[PlacedService],
+    standings: &[AttentionLevel],
 ) -> Result<(), Memory> {
     for standing in standings {
         push_those(jobs, placed, *standing, Drawn::Card)?;
@@ -161,8 +161,8 @@ fn push_cards(
 // A part for each service that stands so.
 fn push_those(
     jobs: &mut Vec<Job>,
-    placed: &[Placed],
-    standing: Standing,
+    placed: &[PlacedService],
+    standing: AttentionLevel,
     drawn: Drawn,
 ) -> Result<(), Memory> {
     for one in placed {
@@ -174,9 +174,9 @@ fn push_those(
 }
 
 // Adds the table of the services that are done, with its rows.
-fn push_table(jobs: &mut Vec<Job>, placed: &[Placed]) -> Result<(), Memory> {
+fn push_table(jobs: &mut Vec<Job>, placed: &[PlacedService]) -> Result<(), Memory> {
     jobs.push(Job::Table)?;
-    push_those(jobs, placed, Standing::Done, Drawn::Row)?;
+    push_those(jobs, placed, AttentionLevel::Done, Drawn::Row)?;
     jobs.push(Job::TableEnd)?;
     Ok(())
 }

@@ -1,7 +1,7 @@
 //! What the marks of a page mean.
 use canary_condition::outcome::Phase;
-use canary_markup::element::{Attribute, Element};
-use canary_markup::markup::Markup;
+use canary_page_html::element::{Attribute, Element};
+use canary_page_html::markup::Markup;
 
 /// Draws the paragraph that explains the marks of all charts.
 pub(crate) fn key(page: &mut Markup) {

@@ -15,7 +15,6 @@
 #![tactic(auto)]
 
 mod attempts;
-mod bounds;
 mod card;
 mod chart;
 mod conditions;
@@ -43,6 +42,7 @@ mod sheet;
 mod shown;
 mod spot;
 mod table;
+mod thresholds;
 mod time;
 mod track;
 mod waits;

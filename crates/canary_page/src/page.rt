@@ -7,16 +7,16 @@ use crate::fault::PageFault;
 use crate::frame::{foot, head, part};
 use crate::groups::{count_standing, count_waiting, placed_of};
 use crate::index::{begin_group, begin_index, end_group, end_index, link};
-use crate::jobs::{Group, Job, Plan, jobs_of};
-use crate::progress::Progress;
+use crate::jobs::{Group, Job, PageSetup, jobs_of};
+use crate::progress::DrawingProgress;
 use crate::reading::{passed_of, shown_of};
-use crate::shown::Standing;
+use crate::shown::AttentionLevel;
 use crate::table::{begin_table, end_table, row};
 use crate::writing::write_all;
 use canary_base::moments::Moment;
 use canary_base::names::Name;
-use canary_markup::markup::Markup;
 use canary_once::book::Book;
+use canary_page_html::markup::Markup;
 use canary_release::service::Passed;
 use std::alloc::Global;
 use std::io::Write;
@@ -36,7 +36,7 @@ pub struct View {
 /// # Errors
 /// `Write` if the output failed; `Memory` if an allocation was refused; `Storage` if the store
 /// failed. What was written before are the first bytes of pieces of a page.
-pub fn draw<W: Write, B: Book, P: Progress>(
+pub fn draw<W: Write, B: Book, P: DrawingProgress>(
     alloc: Global,
     book: &mut B,
     names: &[Name],
@@ -48,7 +48,7 @@ pub fn draw<W: Write, B: Book, P: Progress>(
     ensures drawn { IsDrawn (W.contents out.old) (W.contents out.new) result }
 {
     let placed = placed_of(alloc, book, names, view.now)?;
-    let plan = Plan {
+    let plan = PageSetup {
         placed: placed.as_slice(),
         now: view.now,
         every: view.every,
@@ -57,10 +57,10 @@ pub fn draw<W: Write, B: Book, P: Progress>(
 }
 
 // Reports how many services are to be drawn, and draws the parts of the page in order.
-fn draw_planned<W: Write, B: Book, P: Progress>(
+fn draw_planned<W: Write, B: Book, P: DrawingProgress>(
     alloc: Global,
     book: &mut B,
-    plan: &Plan<'_>,
+    plan: &PageSetup<'_>,
     out: &mut W,
     progress: &mut P,
 ) -> Result<(), PageFault>
@@ -73,10 +73,10 @@ fn draw_planned<W: Write, B: Book, P: Progress>(
 }
 
 // Draws these parts one after another, and reports each card and each row that was drawn.
-fn draw_jobs<W: Write, B: Book, P: Progress>(
+fn draw_jobs<W: Write, B: Book, P: DrawingProgress>(
     alloc: Global,
     book: &mut B,
-    plan: &Plan<'_>,
+    plan: &PageSetup<'_>,
     jobs: &[Job],
     out: &mut W,
     progress: &mut P,
@@ -97,7 +97,7 @@ fn draw_jobs<W: Write, B: Book, P: Progress>(
 fn put_job<W: Write, B: Book>(
     alloc: Global,
     book: &mut B,
-    plan: &Plan<'_>,
+    plan: &PageSetup<'_>,
     job: &Job,
     out: &mut W,
 ) -> Result<(), PageFault>
@@ -123,7 +123,7 @@ fn put_out<W: Write>(page: &Markup, out: &mut W) -> Result<(), PageFault>
 fn markup_of<B: Book>(
     alloc: Global,
     book: &mut B,
-    plan: &Plan<'_>,
+    plan: &PageSetup<'_>,
     job: &Job,
 ) -> Result<Markup, PageFault>
     ensures stays { Stays (B.state book.old) (B.state book.new) }
@@ -136,7 +136,7 @@ fn markup_of<B: Book>(
 }
 
 // What stands between the services.
-fn frame_of(alloc: Global, plan: &Plan<'_>, job: &Job) -> Markup {
+fn frame_of(alloc: Global, plan: &PageSetup<'_>, job: &Job) -> Markup {
     let mut page = Markup::new(alloc);
     let placed = plan.placed;
     match job {
@@ -148,13 +148,13 @@ fn frame_of(alloc: Global, plan: &Plan<'_>, job: &Job) -> Markup {
         Job::IndexEnd => end_index(&mut page),
         Job::Waiting => part(&mut page, Group::Waits.name(), count_waiting(placed)),
         Job::Going => {
-            let count = count_standing(placed, Standing::Goes);
+            let count = count_standing(placed, AttentionLevel::Goes);
             part(&mut page, Group::Goes.name(), count);
         }
         Job::Done => part(
             &mut page,
             Group::Done.name(),
-            count_standing(placed, Standing::Done),
+            count_standing(placed, AttentionLevel::Done),
         ),
         Job::Table => begin_table(&mut page),
         Job::TableEnd => end_table(&mut page),

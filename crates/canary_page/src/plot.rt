@@ -1,15 +1,15 @@
 //! A chart as SVG. Its lengths are tenths of a pixel.
-use crate::bounds::Bound;
 use crate::chart::{Chart, Point};
 use crate::numbers::{Span, part};
 use crate::spot::{Spot, number_text};
+use crate::thresholds::Threshold;
 use crate::time::clock;
 use crate::words;
 use canary_base::moments::Moment;
 use canary_condition::outcome::{Outcome, Phase};
 use canary_decimal::shown::Units;
-use canary_markup::element::{Attribute, Element};
-use canary_markup::markup::Markup;
+use canary_page_html::element::{Attribute, Element};
+use canary_page_html::markup::Markup;
 
 const LEFT: u64 = 400;
 
@@ -94,8 +94,14 @@ fn label(page: &mut Markup, class: &str, left: u64, top: u64) {
 }
 
 // The dashed line of each of these bounds of that condition that is one of what the chart shows.
-pub(crate) fn bounds(page: &mut Markup, frame: &Frame, class: &str, bounds: &[Bound], text: &str) {
-    for bound in bounds {
+pub(crate) fn thresholds(
+    page: &mut Markup,
+    frame: &Frame,
+    class: &str,
+    thresholds: &[Threshold],
+    text: &str,
+) {
+    for bound in thresholds {
         if bound.is_drawn(frame.spot, frame.units) {
             limit(page, frame, class, bound.constant.number, text);
         }

@@ -1,7 +1,7 @@
 //! How far the drawing of a page has come.
 
 /// Is told how far the drawing of a page has come.
-pub trait Progress {
+pub trait DrawingProgress {
     /// So many services are to be drawn.
     fn begin(&mut self, services: u64);
 

@@ -6,7 +6,7 @@ ghost use Rattle.canary_files.specs.Exporting.{Stays, recorded_of};
 use crate::chart::Chart;
 use crate::conditions::{Conditions, conditions_of};
 use crate::fault::PageFault;
-use crate::shown::{Attempts, Shown, ShownRun, drawn_attempts, run_numbers};
+use crate::shown::{Attempts, ShownRun, ShownService, drawn_attempts, run_numbers};
 use canary_base::error::Memory;
 use canary_base::moments::Moment;
 use canary_base::names::Name;
@@ -56,7 +56,7 @@ pub(crate) fn lines_of<B: Book>(
 fn with_told(lines: Vec<Line>, effects: &[Effect]) -> Result<Vec<Line>, Memory> {
     let mut lines = lines;
     for effect in effects {
-        if let Effect::Told(line) = effect {
+        if let Effect::LineAdded(line) = effect {
             push_line(&mut lines, line)?;
         }
     }
@@ -82,7 +82,7 @@ pub(crate) fn shown_of<B: Book>(
     name: &Name,
     passed: Passed,
     now: Moment,
-) -> Result<Shown, PageFault>
+) -> Result<ShownService, PageFault>
     ensures { Stays (B.state book.old) (B.state book.new) }
 {
     let Passed { service, effects } = passed;
@@ -90,7 +90,7 @@ pub(crate) fn shown_of<B: Book>(
     let lines = lines_of(book, name, effects.as_slice())?;
     let attempts = drawn_attempts(alloc, service.state(), lines.as_slice(), now)?;
     let runs = runs_of(alloc, book, name, &attempts, effects.as_slice())?;
-    Ok(Shown {
+    Ok(ShownService {
         service,
         now,
         lines,
@@ -247,10 +247,10 @@ fn run_then(
     effect: &Effect,
 ) -> Result<Option<RunRecord>, Memory> {
     match (effect, found) {
-        (Effect::Opened(opening), None) if opening.run == number => {
+        (Effect::RunOpened(opening), None) if opening.run == number => {
             Ok(Some(opened(alloc, opening)?))
         }
-        (Effect::Closed { closing, .. }, Some(run)) if closing.run == number => {
+        (Effect::RunClosed { closing, .. }, Some(run)) if closing.run == number => {
             Ok(Some(RunRecord {
                 closed: Some(*closing),
                 ..run

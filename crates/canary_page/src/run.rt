@@ -2,18 +2,18 @@
 use crate::attempts::Attempt;
 use crate::chart::Chart;
 use crate::conditions::Conditions;
-use crate::figure::{Measured, badge, figure};
-use crate::shown::{Shown, ShownRun};
+use crate::figure::{MetricFigure, badge, figure};
+use crate::shown::{ShownRun, ShownService};
 use crate::time::clock;
 use canary_base::moments::Moment;
-use canary_markup::element::Element;
-use canary_markup::markup::Markup;
 use canary_metric::metric::Metric;
 use canary_metric::tally::Tally;
+use canary_page_html::element::Element;
+use canary_page_html::markup::Markup;
 use canary_plan::analysis_parts::Revision;
 
 // Draws the runs of an attempt, the newest first.
-pub(crate) fn runs_of(page: &mut Markup, shown: &Shown, attempt: &Attempt) {
+pub(crate) fn runs_of(page: &mut Markup, shown: &ShownService, attempt: &Attempt) {
     page.open(Element::Block, "runs");
     for run in shown.runs.iter().rev() {
         if attempt.has_run(run.record.number) {
@@ -112,8 +112,8 @@ fn measured<'a>(
     tally: &'a Tally,
     chart: &'a Chart,
     conditions: &'a Conditions,
-) -> Measured<'a> {
-    Measured {
+) -> MetricFigure<'a> {
+    MetricFigure {
         metric,
         tally,
         chart,

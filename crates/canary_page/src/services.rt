@@ -2,7 +2,7 @@
 ghost use Rattle.canary_files.specs.Exporting.{Stays};
 
 use crate::fault::PageFault;
-use crate::groups::{Placed, placed_of};
+use crate::groups::{PlacedService, placed_of};
 use crate::sheet::{Sheet, put};
 use canary_base::moments::Moment;
 use canary_base::names::Name;
@@ -30,7 +30,7 @@ pub fn draw_services<W: Write, B: Book>(
 }
 
 // The value in JSON: that moment, and a list with an object for each of these services.
-fn list_of(alloc: Global, placed: &[Placed], moment: Moment) -> Sheet {
+fn list_of(alloc: Global, placed: &[PlacedService], moment: Moment) -> Sheet {
     let mut sheet = Sheet::new(alloc, false);
     sheet.begin();
     sheet.moment_at("moment", Some(moment));
@@ -45,7 +45,7 @@ fn list_of(alloc: Global, placed: &[Placed], moment: Moment) -> Sheet {
 }
 
 // Adds the object of a service: its name, its status, and whether it waits for somebody.
-fn add_service(sheet: &mut Sheet, placed: &Placed) {
+fn add_service(sheet: &mut Sheet, placed: &PlacedService) {
     sheet.begin();
     sheet.text_at("service", placed.name.as_str());
     sheet.text_at("status", placed.status.text());

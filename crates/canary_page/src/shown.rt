@@ -10,7 +10,7 @@ use canary_once::record::RunRecord;
 use canary_plan::line::Line;
 use canary_plan::step::Step;
 use canary_release::service::Service;
-use canary_release::stand::State;
+use canary_release::state::ReleaseState;
 use std::alloc::Global;
 
 /// A run, with the measurements and the conditions of each of its metrics, in order.
@@ -52,7 +52,7 @@ impl ShownRun {
 
 /// A service that was passed to a moment, with its history, and the attempts whose runs are drawn.
 #[derive(Drop)]
-pub(crate) struct Shown {
+pub(crate) struct ShownService {
     pub(crate) service: Service,
     /// The moment, or the service's last one if that is later.
     pub(crate) now: Moment,
@@ -71,7 +71,7 @@ pub(crate) struct Attempts {
     pub(crate) recent: Vec<Attempt>,
 }
 
-impl Shown {
+impl ShownService {
     // How many runs of an attempt ended without a measurement.
     pub(crate) fn unmeasured(&self, attempt: &Attempt) -> u64 {
         self.runs
@@ -84,14 +84,14 @@ impl Shown {
 // Those of a service that stands so, at this moment, with this history.
 pub(crate) fn drawn_attempts(
     alloc: Global,
-    state: State,
+    state: ReleaseState,
     lines: &[Line],
     now: Moment,
 ) -> Result<Attempts, Memory> {
     let attempts = attempts_of(alloc, lines)?;
     let all = attempts.as_slice();
     match all.split_last() {
-        Some((last, before)) if state != State::Done => Ok(Attempts {
+        Some((last, before)) if state != ReleaseState::Done => Ok(Attempts {
             present: Some(*last),
             recent: recent_of(alloc, before, now)?,
         }),
@@ -124,7 +124,7 @@ fn push_numbers(numbers: &mut Vec<u32>, attempt: &Attempt) -> Result<(), Memory>
 
 /// How a service stands, as far as it says who has to do something.
 #[derive(Clone, Copy, Debug, PartialEq, Eq)]
-pub(crate) enum Standing {
+pub(crate) enum AttentionLevel {
     Aborted,
     Held,
     /// A measurement is late, and it goes on nevertheless.
@@ -136,38 +136,38 @@ pub(crate) enum Standing {
     Done,
 }
 
-impl Standing {
+impl AttentionLevel {
     // How it stands at this moment.
-    pub(crate) fn of(service: &Service, now: Moment) -> Standing {
+    pub(crate) fn of(service: &Service, now: Moment) -> AttentionLevel {
         match service.state() {
-            State::Aborted => Standing::Aborted,
-            State::Done => Standing::Done,
-            State::InProgress => of_progress(service, now),
+            ReleaseState::Aborted => AttentionLevel::Aborted,
+            ReleaseState::Done => AttentionLevel::Done,
+            ReleaseState::InProgress => of_progress(service, now),
         }
     }
 
     // Whether it waits for somebody.
     pub(crate) fn waits(self) -> bool {
         match self {
-            Standing::Aborted => true,
-            Standing::Held => true,
-            Standing::Late => true,
-            Standing::Waits => true,
-            Standing::Goes => false,
-            Standing::Done => false,
+            AttentionLevel::Aborted => true,
+            AttentionLevel::Held => true,
+            AttentionLevel::Late => true,
+            AttentionLevel::Waits => true,
+            AttentionLevel::Goes => false,
+            AttentionLevel::Done => false,
         }
     }
 }
 
 // How a release in progress is: first counts a hold, then a pause without an end, then lateness.
-fn of_progress(service: &Service, now: Moment) -> Standing {
+fn of_progress(service: &Service, now: Moment) -> AttentionLevel {
     if service.step_hold() || service.background_hold() {
-        return Standing::Held;
+        return AttentionLevel::Held;
     }
     match step_of(service) {
-        Some(Step::Pause(None)) => Standing::Waits,
-        _ if is_late(service, now) => Standing::Late,
-        _ => Standing::Goes,
+        Some(Step::Pause(None)) => AttentionLevel::Waits,
+        _ if is_late(service, now) => AttentionLevel::Late,
+        _ => AttentionLevel::Goes,
     }
 }
 

@@ -1,7 +1,7 @@
 //! What of a result a chart shows.
 use canary_condition::outcome::{Outcome, Value};
 use canary_decimal::shown::Units;
-use canary_markup::markup::Markup;
+use canary_page_html::markup::Markup;
 
 /// What of a result a condition names: `result` itself, or a place of a list, as `result[0]`.
 #[derive(Clone, Copy, Debug, PartialEq, Eq, PartialOrd, Ord)]

@@ -1,12 +1,12 @@
 //! The services that are done.
 use crate::ended::ended;
 use crate::figure::badge;
-use crate::shown::Shown;
+use crate::shown::ShownService;
 use crate::time::stamp;
 use crate::track::bar;
 use crate::words;
-use canary_markup::element::{Attribute, Element};
-use canary_markup::markup::Markup;
+use canary_page_html::element::{Attribute, Element};
+use canary_page_html::markup::Markup;
 use canary_plan::line::Line;
 use canary_release::service::Service;
 use std::alloc::Global;
@@ -42,7 +42,7 @@ pub(crate) fn end_table(page: &mut Markup) {
 }
 
 // The row of a service, and one with its attempts that ended not long ago, if there are any.
-pub(crate) fn row(alloc: Global, shown: &Shown) -> Markup {
+pub(crate) fn row(alloc: Global, shown: &ShownService) -> Markup {
     let mut page = Markup::new(alloc);
     draw_row(&mut page, &shown.service, shown.lines.as_slice());
     if !shown.attempts.recent.is_empty() {
@@ -52,7 +52,7 @@ pub(crate) fn row(alloc: Global, shown: &Shown) -> Markup {
 }
 
 // Draws a row of one cell, over all columns, with the attempts that ended not long ago.
-fn attempts(page: &mut Markup, shown: &Shown) {
+fn attempts(page: &mut Markup, shown: &ShownService) {
     page.open(Element::Row, "attempts");
     page.start(Element::Cell);
     page.measure(Attribute::Columns, COLUMNS);

@@ -1,7 +1,7 @@
 //! Moments and spans of time, for people.
 use canary_base::moments::Moment;
-use canary_markup::element::{Attribute, Element};
-use canary_markup::markup::Markup;
+use canary_page_html::element::{Attribute, Element};
+use canary_page_html::markup::Markup;
 
 const MINUTE: u64 = 60;
 

@@ -1,11 +1,11 @@
 //! The steps of a strategy, and the weight.
 use crate::time::span;
 use canary_base::names::Name;
-use canary_markup::element::{Attribute, Element};
-use canary_markup::markup::Markup;
+use canary_page_html::element::{Attribute, Element};
+use canary_page_html::markup::Markup;
 use canary_plan::step::Step;
 use canary_release::service::Service;
-use canary_release::stand::State;
+use canary_release::state::ReleaseState;
 
 // Draws the steps as a row of marks, of which the present one is marked.
 pub(crate) fn track(page: &mut Markup, service: &Service) {
@@ -13,7 +13,7 @@ pub(crate) fn track(page: &mut Markup, service: &Service) {
     for (place, step) in service.strategy().steps().iter().enumerate() {
         mark(page, service, place as u64, step);
     }
-    let end = if service.state() == State::Done {
+    let end = if service.state() == ReleaseState::Done {
         "end past"
     } else {
         "end ahead"
@@ -27,7 +27,7 @@ pub(crate) fn track(page: &mut Markup, service: &Service) {
 // Draws a step, with its words in full as its title. The present one is marked for screen readers.
 fn mark(page: &mut Markup, service: &Service, place: u64, step: &Step) {
     let (state, present) = (service.state(), u64::from(service.step()));
-    let is_here = place == present && state != State::Done;
+    let is_here = place == present && state != ReleaseState::Done;
     page.start(Element::Item);
     page.value(Attribute::Class);
     page.text(kind_of(step));
@@ -61,13 +61,13 @@ fn kind_of(step: &Step) -> &'static str {
 // Whether a step is past, present or to come, and how the release stands at the present one.
 fn place_of(service: &Service, place: u64) -> &'static str {
     let present = u64::from(service.step());
-    if place < present || service.state() == State::Done {
+    if place < present || service.state() == ReleaseState::Done {
         return "past";
     }
     if place > present {
         return "ahead";
     }
-    if service.state() == State::Aborted {
+    if service.state() == ReleaseState::Aborted {
         return "here stopped";
     }
     if service.step_hold() || service.background_hold() {

@@ -1,35 +1,35 @@
 //! What a release waits for, and what can be said to it.
 use crate::figure::counted;
 use crate::late::late_since;
-use crate::shown::{Shown, Standing, step_of};
+use crate::shown::{AttentionLevel, ShownService, step_of};
 use crate::time::{clock, near, since, span};
 use crate::words::metric_name;
 use canary_base::durations::Seconds;
 use canary_base::moments::Moment;
 use canary_base::names::{Label, Name};
-use canary_markup::element::Element;
-use canary_markup::markup::Markup;
 use canary_metric::metric::Metric;
 use canary_metric::tally::Tally;
+use canary_page_html::element::Element;
+use canary_page_html::markup::Markup;
 use canary_plan::line::{Line, LineEvent};
 use canary_plan::step::Step;
 use canary_release::runs::OpenRun;
 use canary_release::service::Service;
 
 // The most measurements of a run that are named as late.
-const MOST_LATE: u64 = 8;
+const MAX_LATE: u64 = 8;
 
 // What is late, one sentence, and the commands that can be given now.
-pub(crate) fn waits(page: &mut Markup, shown: &Shown) {
+pub(crate) fn waits(page: &mut Markup, shown: &ShownService) {
     let (service, now) = (&shown.service, shown.now);
     late(page, shown);
     page.open(Element::Paragraph, "waits");
-    match Standing::of(service, now) {
-        Standing::Aborted => aborted(page, service, shown.lines.as_slice()),
-        Standing::Held => held(page, service),
-        Standing::Waits => at_pause(page, service, now),
-        Standing::Late | Standing::Goes => goes(page, service, now),
-        Standing::Done => done(page, service),
+    match AttentionLevel::of(service, now) {
+        AttentionLevel::Aborted => aborted(page, service, shown.lines.as_slice()),
+        AttentionLevel::Held => held(page, service),
+        AttentionLevel::Waits => at_pause(page, service, now),
+        AttentionLevel::Late | AttentionLevel::Goes => goes(page, service, now),
+        AttentionLevel::Done => done(page, service),
     }
     page.end(Element::Paragraph);
 }
@@ -156,7 +156,7 @@ fn begin_say(page: &mut Markup, words: &str, name: Name) {
 }
 
 // A paragraph for each measurement that is late: which one, and since when it has been due.
-fn late(page: &mut Markup, shown: &Shown) {
+fn late(page: &mut Markup, shown: &ShownService) {
     for run in shown.service.open_runs() {
         late_of(page, run, shown.now);
     }
@@ -168,15 +168,15 @@ fn late_of(page: &mut Markup, run: &OpenRun, now: Moment) {
     let mut count: u64 = 0;
     for (metric, tally) in metrics.zip(run.tallies.as_slice()) {
         if let Some(due) = late_since(metric, tally, run.started, now) {
-            if count < MOST_LATE {
+            if count < MAX_LATE {
                 late_one(page, run, metric, tally);
                 since_due(page, due, now);
             }
             count = count.saturating_add(1);
         }
     }
-    if count > MOST_LATE {
-        further(page, count - MOST_LATE);
+    if count > MAX_LATE {
+        further(page, count - MAX_LATE);
     }
 }
 

@@ -2,8 +2,8 @@
 use canary_base::names::Label;
 use canary_condition::outcome::Value;
 use canary_decimal::shown::{Shown, Units};
-use canary_markup::element::{Attribute, Element};
-use canary_markup::markup::Markup;
+use canary_page_html::element::{Attribute, Element};
+use canary_page_html::markup::Markup;
 use canary_plan::line::Line;
 
 // The words of a line of a history.

@@ -16,7 +16,8 @@ is_condition_asked None = true
 is_condition_asked (Some text) = nat_lt 0 (length text)
 
 -- the conditions, the counts, of measurements and of successes in a row, and the limits of a metric
-abbrev pub are_metric_limits : Option (List ℕ) → Option (List ℕ) → Option ℕ → Option ℕ → ℕ → ℕ → ℕ → Bool
+abbrev pub are_metric_limits : Option (List ℕ) → Option (List ℕ) → Option ℕ → Option ℕ → ℕ → ℕ → ℕ
+    → Bool
 are_metric_limits success failure count passes failed inconclusive errors =
     is_condition_asked success
     && (is_condition_asked failure

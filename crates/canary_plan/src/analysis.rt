@@ -20,16 +20,16 @@ use canary_metric::metric::{Metric, effective_count};
 use std::alloc::Global;
 
 /// The least templates of an analysis.
-pub const LEAST_TEMPLATES: usize = 1;
+pub const MIN_TEMPLATES: usize = 1;
 
 /// The most templates of an analysis.
-pub const MOST_TEMPLATES: usize = 8;
+pub const MAX_TEMPLATES: usize = 8;
 
 /// The least metrics of a run.
-pub const LEAST_METRICS: usize = 1;
+pub const MIN_METRICS: usize = 1;
 
 /// The most metrics of a run.
-pub const MOST_METRICS: usize = 32;
+pub const MAX_METRICS: usize = 32;
 
 /// The templates' names of each step analysis.
 pub(crate) fn step_analyses(alloc: Global, steps: &[Step]) -> Result<Listed<Listed<Name>>, Memory>
@@ -198,7 +198,7 @@ fn is_without_end(metric: &Metric) -> bool
 pub(crate) fn are_templates_of_run(names: &[Name]) -> bool
     ensures { result ≡ are_templates_of_run names.now }
 {
-    LEAST_TEMPLATES <= names.len() && names.len() <= MOST_TEMPLATES
+    MIN_TEMPLATES <= names.len() && names.len() <= MAX_TEMPLATES
 }
 
 /// Whether each of these templates is known, and they have 1 to 32 metrics together.
@@ -215,9 +215,9 @@ fn are_metrics_of_run(known: &Templates, names: &[Name]) -> bool
     let mut count = 0;
     for name in names {
         count += metrics_of(known, *name).len();
-        if count > MOST_METRICS {
+        if count > MAX_METRICS {
             return false;
         }
     }
-    count >= LEAST_METRICS
+    count >= MIN_METRICS
 }

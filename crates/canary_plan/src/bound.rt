@@ -303,7 +303,7 @@ fn counts_stand(metrics: &[Metric])
     ensures { IsTrue (have_counts metrics.now) }
 {
     for metric in metrics {
-        let _ = metric.count();
-        let _ = metric.pass_after();
+        let _limits = metric.count();
+        let _limits = metric.pass_after();
     }
 }

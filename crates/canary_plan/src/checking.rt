@@ -12,7 +12,7 @@ use crate::analysis;
 use crate::refusal::Refusal;
 use crate::service::{Background, ServiceSpec, copy_background};
 use crate::step::{Step, copy_steps};
-use crate::strategy::{CheckedStrategy, GREATEST_WEIGHT, MOST_STEPS, Strategy};
+use crate::strategy::{CheckedStrategy, MAX_STEPS, MAX_WEIGHT, Strategy};
 use crate::templates::Templates;
 use canary_base::error::Memory;
 use canary_base::lists::Listed;
@@ -142,7 +142,7 @@ fn is_bad_strategy(spec: &ServiceSpec) -> bool
     ensures { result ≡ is_bad_strategy spec.now }
 {
     let steps = spec.steps.as_slice();
-    if steps.len() > MOST_STEPS {
+    if steps.len() > MAX_STEPS {
         return true;
     }
     !are_within_limits(steps) || !is_background_within_limits(&spec.background)
@@ -160,7 +160,7 @@ fn is_within_limits(step: &Step) -> bool
     ensures { result ≡ is_within_limits step.now }
 {
     match step {
-        Step::SetWeight(percent) => percent.get() <= GREATEST_WEIGHT,
+        Step::SetWeight(percent) => percent.get() <= MAX_WEIGHT,
         Step::Pause(_) => true,
         Step::Analysis(names) => analysis::are_templates_of_run(names.as_slice()),
     }

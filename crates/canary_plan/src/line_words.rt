@@ -20,10 +20,10 @@ use itoa::Buffer;
 
 // The bytes that suffice for the words of a line: a first word of at most 8 bytes with its space,
 // and a label.
-const MOST_WORDS: usize = 71;
+const MAX_WORDS: usize = 71;
 
 // The words of an event.
-pub(crate) fn words(event: &LineEvent) -> ArrayString<MOST_WORDS>
+pub(crate) fn words(event: &LineEvent) -> ArrayString<MAX_WORDS>
     ensures value { result.bytes ≡ words event.now }
     ensures kept { IsLineEvent event.now }
 {
@@ -49,8 +49,8 @@ pub(crate) fn words(event: &LineEvent) -> ArrayString<MOST_WORDS>
 }
 
 // A text alone.
-fn alone(text: &str) -> ArrayString<MOST_WORDS>
-    requires { length text.now ≤ MOST_WORDS }
+fn alone(text: &str) -> ArrayString<MAX_WORDS>
+    requires { length text.now ≤ MAX_WORDS }
     ensures { result.bytes ≡ text.now }
 {
     let mut words = ArrayString::new();
@@ -59,7 +59,7 @@ fn alone(text: &str) -> ArrayString<MOST_WORDS>
 }
 
 // A text, and a label.
-fn with_label(text: &str, label: &Label) -> ArrayString<MOST_WORDS>
+fn with_label(text: &str, label: &Label) -> ArrayString<MAX_WORDS>
     requires { length text.now ≤ 8 }
     ensures bytes { result.bytes ≡ text.now ++ label.now }
     ensures label { IsTrue (is_label label.now) }
@@ -72,7 +72,7 @@ fn with_label(text: &str, label: &Label) -> ArrayString<MOST_WORDS>
 }
 
 // A text, and a number.
-fn with_number(text: &str, number: u32) -> ArrayString<MOST_WORDS>
+fn with_number(text: &str, number: u32) -> ArrayString<MAX_WORDS>
     requires { length text.now ≤ 15 }
     ensures bytes { result.bytes ≡ text.now ++ decimal number }
     ensures short { array_string_len result ≤ length text.now + 10 }
@@ -83,7 +83,7 @@ fn with_number(text: &str, number: u32) -> ArrayString<MOST_WORDS>
 }
 
 // A step's number, a text and another number.
-fn of_step(step: u32, text: &str, number: u32) -> ArrayString<MOST_WORDS>
+fn of_step(step: u32, text: &str, number: u32) -> ArrayString<MAX_WORDS>
     requires { length text.now ≤ 14 }
     ensures bytes { result.bytes ≡ codes "step " ++ (decimal step ++ (text.now ++ decimal number)) }
     ensures short { array_string_len result ≤ length text.now + 25 }
@@ -95,7 +95,7 @@ fn of_step(step: u32, text: &str, number: u32) -> ArrayString<MOST_WORDS>
 }
 
 // The words of a pause without a duration.
-fn of_pause(step: u32) -> ArrayString<MOST_WORDS>
+fn of_pause(step: u32) -> ArrayString<MAX_WORDS>
     ensures { result.bytes ≡ codes "step " ++ (decimal step ++ codes " pause") }
 {
     let mut words = with_number("step ", step);
@@ -104,7 +104,7 @@ fn of_pause(step: u32) -> ArrayString<MOST_WORDS>
 }
 
 // The words of a pause with its duration, in seconds.
-fn of_timed_pause(step: u32, seconds: Seconds) -> ArrayString<MOST_WORDS>
+fn of_timed_pause(step: u32, seconds: Seconds) -> ArrayString<MAX_WORDS>
     ensures bytes { result.bytes ≡ codes "step "
         ++ (decimal step ++ (codes " pause " ++ (decimal seconds ++ codes "s"))) }
     ensures limit { seconds ≤ 31536000 }
@@ -115,7 +115,7 @@ fn of_timed_pause(step: u32, seconds: Seconds) -> ArrayString<MOST_WORDS>
 }
 
 // The words of a run's number and the verdict at which it was closed.
-fn of_run(run: u32, phase: Phase) -> ArrayString<MOST_WORDS>
+fn of_run(run: u32, phase: Phase) -> ArrayString<MAX_WORDS>
     ensures bytes { result.bytes ≡ words (Completed run phase) }
     ensures short { array_string_len result ≤ 27 }
 {
@@ -126,7 +126,7 @@ fn of_run(run: u32, phase: Phase) -> ArrayString<MOST_WORDS>
 }
 
 // The words of a run that was ended from outside: those of `of_run` and one more.
-fn of_ended_run(run: u32, phase: Phase) -> ArrayString<MOST_WORDS>
+fn of_ended_run(run: u32, phase: Phase) -> ArrayString<MAX_WORDS>
     ensures { result.bytes ≡ words (Ended run phase) }
 {
     let mut words = of_run(run, phase);

@@ -10,7 +10,7 @@ use std::alloc::Global;
 use std::marker::Model;
 
 /// The last step at which a background analysis can be asked to begin, from 0.
-pub const LAST_STARTING_STEP: u32 = 64;
+pub const MAX_STARTING_STEP: u32 = 64;
 
 /// The step at which a background analysis begins: from 0 to 64.
 #[derive(Clone, Copy, Debug, PartialEq, Eq)]
@@ -31,10 +31,10 @@ impl Model for StartingStep {
 impl StartingStep {
     /// That step, or none above 64.
     pub fn new(step: u64) -> Option<StartingStep>
-        ensures { SomeIff result (step ≤ LAST_STARTING_STEP) step }
+        ensures { SomeIff result (step ≤ MAX_STARTING_STEP) step }
     {
         let step = u32::try_from(step).ok()?;
-        if step <= LAST_STARTING_STEP {
+        if step <= MAX_STARTING_STEP {
             Some(StartingStep { step })
         } else {
             None
@@ -44,7 +44,7 @@ impl StartingStep {
     /// The step, from 0.
     pub fn get(self) -> u32
         ensures value { result ≡ self }
-        ensures limit { result ≤ LAST_STARTING_STEP }
+        ensures limit { result ≤ MAX_STARTING_STEP }
     {
         self.step
     }

@@ -9,8 +9,8 @@ use canary_base::names::Name;
 use std::alloc::Global;
 use std::marker::Model;
 
-/// The greatest weight that can be asked for. A strategy takes less (`GREATEST_WEIGHT`).
-pub const GREATEST_WEIGHT_ASKED: u32 = 1_000_000;
+/// The greatest weight that can be asked for. A strategy takes less (`MAX_WEIGHT`).
+pub const MAX_WEIGHT_ASKED: u32 = 1_000_000;
 
 /// A weight as a step asks for it, in percent: from 0 to 1,000,000.
 #[derive(Clone, Copy, Debug, PartialEq, Eq)]
@@ -31,10 +31,10 @@ impl Model for Weight {
 impl Weight {
     /// The weight of so many percent, or none above 1,000,000.
     pub fn new(percent: u64) -> Option<Weight>
-        ensures { SomeIff result (percent ≤ GREATEST_WEIGHT_ASKED) percent }
+        ensures { SomeIff result (percent ≤ MAX_WEIGHT_ASKED) percent }
     {
         let percent = u32::try_from(percent).ok()?;
-        if percent <= GREATEST_WEIGHT_ASKED {
+        if percent <= MAX_WEIGHT_ASKED {
             Some(Weight { percent })
         } else {
             None
@@ -44,7 +44,7 @@ impl Weight {
     /// The weight, in percent.
     pub fn get(self) -> u32
         ensures value { result ≡ self }
-        ensures limit { result ≤ GREATEST_WEIGHT_ASKED }
+        ensures limit { result ≤ MAX_WEIGHT_ASKED }
     {
         self.percent
     }

@@ -17,10 +17,10 @@ use std::marker::Model;
 use std::rc::Rc;
 
 /// The most steps of a strategy.
-pub const MOST_STEPS: usize = 64;
+pub const MAX_STEPS: usize = 64;
 
 /// The greatest weight, in percent.
-pub const GREATEST_WEIGHT: u32 = 100;
+pub const MAX_WEIGHT: u32 = 100;
 
 /// What a strategy asks for: its steps, and its background analysis. Its analyses name templates.
 #[derive(Drop)]

@@ -11,7 +11,7 @@ use std::alloc::Global;
 use std::marker::Model;
 
 /// The most bytes of a name under `dryRun`.
-pub const MOST_DRY_RUN_BYTES: usize = 63;
+pub const MAX_DRY_RUN_BYTES: usize = 63;
 
 /// The name of a metric that is to be dry-run, or `.*` for all: 1 to 63 bytes.
 #[derive(Debug, Drop)]
@@ -36,7 +36,7 @@ impl DryRunName {
         ensures { SomeIff result (IsTrue (is_dry_run_name text)) text }
     {
         let len = text.as_str().len();
-        if 1 <= len && len <= MOST_DRY_RUN_BYTES {
+        if 1 <= len && len <= MAX_DRY_RUN_BYTES {
             Some(DryRunName { text })
         } else {
             None

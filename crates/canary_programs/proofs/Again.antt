@@ -21,9 +21,9 @@ use Rattle.canary_release.specs.Desks.{Desk, newest}
 use Rattle.canary_once.specs.declared.event.Event.{Event}
 use Rattle.canary_once.specs.declared.event.Answer.{Answer}
 use Rattle.canary_once.specs.declared.event.Answer.TheVariants.{Replied, Unavailable}
-use Rattle.canary_once.specs.Books.{BookState}
+use Rattle.canary_once.specs.BookCalls.{BookState}
 use Rattle.canary_once.specs.Contents.{Contents, put_some, known_named}
-use Rattle.canary_once.specs.Answers.{heard, replies_in, answers_of, after}
+use Rattle.canary_once.specs.Answers.{answered_events, replies_in, answers_of, after}
 use Rattle.canary_files.specs.Exporting.{Stays}
 use Rattle.canary_programs.specs.Successions.{is_going_on, are_going_on, template_again, IsAccepted, Succeeds, requests_from, request_again}
 
@@ -93,7 +93,7 @@ numbered now number command rest made grown whole is before =
 
 -- Requests that were all accepted: each was heard, and so each reply says.
 
-pub all_heard : (events : List Event) (answers : List Answer) → length answers ≡ length events → AllByRecursion IsAccepted answers → heard events answers ≡ events
+pub all_heard : (events : List Event) (answers : List Answer) → length answers ≡ length events → AllByRecursion IsAccepted answers → answered_events events answers ≡ events
 all_heard [] [] n all = refl
 all_heard [] (a ∷ answers) n all = absurd (omega arith)
 all_heard (e ∷ events) [] n all = absurd (omega arith)
@@ -106,10 +106,10 @@ all_accepted (Replied reply ∷ answers) all = (all.0, all_accepted answers all.
 all_accepted (Unavailable fault ∷ answers) all = absurd all.0
 
 pub succeeds : (events : List Event) (answers : List Answer) (old new : Contents) → length answers ≡ length events → All IsAccepted answers
-    → replies_in answers ≡ answers_of old (heard events answers) → new ≡ after old (heard events answers) → Succeeds events old new
+    → replies_in answers ≡ answers_of old (answered_events events answers) → new ≡ after old (answered_events events answers) → Succeeds events old new
 succeeds events answers old new n all told is =
     let each : AllByRecursion IsAccepted answers = recursion_from_All IsAccepted answers all in
-    let whole : heard events answers ≡ events = all_heard events answers n each in (
+    let whole : answered_events events answers ≡ events = all_heard events answers n each in (
       is ∙ ap (after old) whole,
       subst (AllByRecursion (λ (r : Reply). r.status ≡ Accepted)) (told ∙ ap (answers_of old) whole) (all_accepted answers each),
     )

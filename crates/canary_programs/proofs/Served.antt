@@ -1,6 +1,6 @@
 -- From the clauses of what is called to how a stream was served, and to what went out.
 use Rattle.std.proofs.Common.{◌≡◌, ℕ, List, Result, Ok, Err, IfOk, refl}
-use Rattle.canary_wire.specs.Exchanges.{Point}
+use Rattle.canary_wire.specs.Dispositions.{DeskState}
 use Rattle.canary_wire.specs.Serving.{ServesTo, ServesSome, ServesUntil}
 use Rattle.canary_wire.specs.Writes.{Known}
 use Rattle.canary_wire.specs.declared.serve.Ended.{Ended}
@@ -12,7 +12,7 @@ use Rattle.canary_programs.specs.Faults.{done_of}
 use Rattle.canary_programs.specs.Programs.{IsServed}
 use Rattle.canary_programs.specs.declared.fault.Fault.TheVariants as fault
 
-pub served_so : (r new_r w new_w : Known) (old new : Point) (served : Result Ended ServeFault)
+pub served_so : (r new_r w new_w : Known) (old new : DeskState) (served : Result Ended ServeFault)
     → IfOk served (λ ended. ServesTo r new_r w new_w old new ended)
     → (served ≡ Err Read → ServesSome r new_r w new_w old new)
     → (served ≡ Err Write → ServesUntil r new_r w new_w old new)

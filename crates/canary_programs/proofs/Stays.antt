@@ -1,6 +1,6 @@
 -- A book that contains what it did, call after call.
 use Rattle.std.proofs.Common.{◌∙◌}
-use Rattle.canary_once.specs.Books.{BookState}
+use Rattle.canary_once.specs.BookCalls.{BookState}
 use Rattle.canary_files.specs.Exporting.{Stays}
 
 pub stays_then : (a b c : BookState) → Stays a b → Stays b c → Stays a c

@@ -8,10 +8,10 @@ use Rattle.canary_plan.specs.declared.command.Command.TheVariants.{Template as A
 use Rattle.canary_release.specs.declared.reply.Reply.{Reply}
 use Rattle.canary_release.specs.declared.reply.ReplyStatus.TheVariants.{Accepted}
 use Rattle.canary_release.specs.declared.service.ServiceParts.{ServiceParts}
-use Rattle.canary_release.specs.declared.stand.Stand.{Stand}
-use Rattle.canary_release.specs.Services.{is_going}
+use Rattle.canary_release.specs.declared.state.ServiceState.{ServiceState}
+use Rattle.canary_release.specs.Services.{is_in_progress}
 use Rattle.canary_release.specs.Passing.{pass}
-use Rattle.canary_release.specs.Shapes.{kept_course, seen}
+use Rattle.canary_release.specs.Stored.{stored_evolution, stored_service}
 use Rattle.canary_release.specs.Desks.{Desk, newest}
 use Rattle.canary_once.specs.declared.event.Event.{Event}
 use Rattle.canary_once.specs.declared.event.Event.TheVariants.{Request}
@@ -22,23 +22,23 @@ use Rattle.canary_once.specs.Answers.{after, answers_of}
 use Rattle.canary_once.specs.Single.{request_of}
 
 -- how a service stands, passed to a moment
-abbrev pub stand_at : ℕ → ServiceParts → Stand
-stand_at now s = (pass (kept_course s) now).stand
+abbrev pub stand_at : ℕ → ServiceParts → ServiceState
+stand_at now s = (pass (stored_evolution s) now).service
 
 abbrev pub is_going_if : ℕ → Option ServiceParts → Bool
 is_going_if now None = false
-is_going_if now (Some s) = is_going (stand_at now s).state
+is_going_if now (Some s) = is_in_progress (stand_at now s).state
 
 -- a release of the service of this name is going on at a moment
 abbrev pub is_going_on : Desk → ℕ → List ℕ → Bool
-is_going_on desk now name = is_going_if now (seen desk name)
+is_going_on desk now name = is_going_if now (stored_service desk name)
 
 -- or one of some of these services
 abbrev pub are_going_on : Desk → ℕ → List (List ℕ) → Bool
 are_going_on desk now names = list_any (is_going_on desk now) names
 
 -- a service as it is asked for anew: with its strategy, and its stable version
-abbrev pub spec_again : Stand → ServiceSpec
+abbrev pub spec_again : ServiceState → ServiceSpec
 spec_again s =
     record {
       name = s.name;
@@ -55,7 +55,7 @@ template_again desk name =
 -- the command that makes a service anew, as it stands at a moment, if there is such a service
 abbrev pub service_again : Desk → ℕ → List ℕ → Option Command
 service_again desk now name =
-    option_map (λ s. AddService (spec_again (stand_at now s))) (seen desk name)
+    option_map (λ s. AddService (spec_again (stand_at now s))) (stored_service desk name)
 
 -- the commands that make a desk anew: these templates of it, and then these services
 abbrev pub commands_again : Desk → ℕ → List (List ℕ) → List (List ℕ) → List Command

@@ -7,7 +7,7 @@ ghost use Rattle.canary_programs.specs.Programs.{TellsExport};
 
 use crate::fault::Fault;
 use canary_base::names::Name;
-use canary_files::export::MOST_ROWS;
+use canary_files::export::MAX_ROWS;
 use canary_once::book::Book;
 use std::alloc::Global;
 use std::io::Write;
@@ -30,7 +30,7 @@ pub fn export_rows<W: Write, B: Book>(
         (file_in (B.state book.old).contents service caller) result }
     ensures rows { (B.state book.new).is_honest → IfOk result (λ rows.
         (rows ≡ length (recorded_of (B.state book.old).contents service))
-        × (rows ≤ MOST_ROWS)) }
+        × (rows ≤ MAX_ROWS)) }
     ensures why { (B.state book.new).is_honest
         → IfErr result (TellsExport (B.state book.old).contents service) }
     ensures there { (B.state book.new).is_honest

@@ -1,12 +1,12 @@
 //! The rows of a measurement file as requests.
 ghost use Rattle.std.specs.Prelude.{◌≡◌, ◌≤◌, Err, IfOk};
-ghost use Rattle.canary_files.specs.RowExchanges.{point};
+ghost use Rattle.canary_files.specs.RowExchanges.{desk_state};
 ghost use Rattle.canary_files.specs.Importing.{KeepsBook};
 ghost use Rattle.canary_programs.specs.declared.fault.Fault.TheVariants as fault;
 ghost use Rattle.canary_programs.specs.Programs.{ImportsSo, imported};
 
 use crate::fault::Fault;
-use canary_files::import::{ImportFault, MOST_ROWS};
+use canary_files::import::{ImportFault, MAX_ROWS};
 use canary_files::reading::file_reader;
 use canary_once::book::Book;
 use canary_once::clock::Clock;
@@ -26,9 +26,9 @@ pub fn import_rows<R: Read, W: Write, C: Clock, B: Book>(
 ) -> Result<u64, Fault>
     ensures rows { ImportsSo (R.remaining input.old)
         (W.contents output.old) (W.contents output.new)
-        (point (C.tells clock.old) (B.state book.old))
-        (point (C.tells clock.new) (B.state book.new)) result }
-    ensures limit { IfOk result (λ rows. rows ≤ MOST_ROWS) }
+        (desk_state (C.tells clock.old) (B.state book.old))
+        (desk_state (C.tells clock.new) (B.state book.new)) result }
+    ensures limit { IfOk result (λ rows. rows ≤ MAX_ROWS) }
     ensures header { result ≡ Err fault.Header → (output.new ≡ output.old)
         × (clock.new ≡ clock.old) × (book.new ≡ book.old) }
     ensures kept { KeepsBook (B.state book.old) (B.state book.new) }

@@ -6,18 +6,29 @@
 //! do what canary_files, canary_page and canary_wire say of theirs, and `serve_clients` gets from
 //! the desk before to the desk after as canary_listen says. Each fault has its line.
 //!
-//! In use (canary_database, src/work.rt):
+//! In use (canary_cli, src/file/work.rt):
 //!
-//!     Work::History { service } => write_history(alloc, book, service, output),
+//!     BookTask::History { service } => write_history(alloc, book, service, output),
+//!
+//! An overview is the services of a desk, and their open runs, as two tables for people, as JSON
+//! for programs, or in the text format of Prometheus. No contract says what it has. Services stand
+//! in it in the order in which they were added, each as it is once it has passed to its moment, and
+//! a fault is `Memory` alone. In the format of Prometheus they stand so in each family; no sample
+//! has a timestamp; if no service is added twice, no series stands twice; and the text ends with a
+//! newline, as each other one that has a line.
 #![tactic(auto)]
 
 pub mod export;
 pub mod fault;
 pub mod history;
 pub mod import;
+mod json;
 pub mod overview;
 pub mod page;
 pub mod pipe;
+mod prometheus;
 pub mod serve;
 pub mod show;
+pub mod status;
 pub mod succession;
+mod table;

@@ -1,88 +1,244 @@
-//! The services of a desk at a glance.
-ghost use Rattle.canary_files.specs.Exporting.{Stays};
-
-use crate::fault::Fault;
-use crate::show::show;
+//! The services of a desk at a glance, and their open runs.
+use crate::json::add_value;
+use crate::prometheus::Families;
+use crate::table::Table;
+use canary_base::error::Memory;
 use canary_base::moments::Moment;
-use canary_base::names::Name;
-use canary_once::book::Book;
-use canary_overview::overview::{Form, Overview};
+use canary_base::names::{Label, Name};
+use canary_condition::outcome::Phase;
+use canary_decimal::shown::Shown;
+use canary_metric::metric::Metric;
+use canary_metric::tally::Tally;
+use canary_metric::verdict::is_completed;
+use canary_plan::analysis_parts::Revision;
+use canary_release::runs::OpenRun;
+use canary_release::service::Service;
 use std::alloc::Global;
-use std::io::Write;
 
-// Goes to the upper left corner of a terminal and erases all of it.
-const CLEARED: &str = "\x1b[H\x1b[2J";
+const SERVICE_TITLES: [&str; 6] = ["NAME", "STATUS", "STEP", "WEIGHT", "VERSION", "STABLE"];
 
-/// How often the status is drawn, in which form, and on what.
+const RUN_TITLES: [&str; 9] = [
+    "RUN",
+    "SERVICE",
+    "ANALYSIS",
+    "TEMPLATES",
+    "METRIC",
+    "PHASE",
+    "COUNTED",
+    "PASSES",
+    "DUE",
+];
+
+// How many cells the bar of a weight has.
+const BAR_CELLS: u32 = 10;
+
+/// What the text of an overview is.
 #[derive(Clone, Copy, Debug, PartialEq, Eq)]
-pub struct Drawing {
-    /// Tables, or JSON.
-    pub form: Form,
-    /// The seconds from one drawing to the next; none where it is drawn once.
-    pub every: Option<u64>,
-    /// The output is a terminal: it is erased before each drawing where there are more than one.
-    pub is_terminal: bool,
+pub enum OverviewFormat {
+    /// Two tables for people: of services, and of their open runs.
+    Tables,
+    /// A line for each service, which is one JSON value.
+    Json,
+    /// The text format of Prometheus, version 0.0.4, without timestamps.
+    Prometheus,
 }
 
-/// Draws a text, which is on its way then.
-///
-/// # Errors
-/// `Write` where the output failed.
-pub fn draw<W: Write>(text: &str, drawing: Drawing, output: &mut W) -> Result<(), Fault> {
-    if drawing.is_terminal && drawing.every.is_some() {
-        show(CLEARED, output)?;
-    }
-    show(text, output)?;
-    match output.flush() {
-        Ok(()) => Ok(()),
-        Err(_) => Err(Fault::Write),
-    }
-}
-
-/// The text of the status of these services of a book, passed to a moment. The book is unchanged.
-///
-/// # Errors
-/// `Memory` where an allocation was refused, and `Storage` where the store failed.
-pub fn text_of_book<B: Book>(
+/// An overview of services, and of their open runs.
+#[derive(Drop)]
+pub struct Overview {
     alloc: Global,
-    book: &mut B,
-    names: &[Name],
-    now: Moment,
-    form: Form,
-) -> Result<String, Fault>
-    ensures { Stays (B.state book.old) (B.state book.new) }
-{
-    let mut overview = Overview::new(alloc, form)?;
-    add_services(book, names, now, &mut overview)?;
-    Ok(overview.text()?)
+    form: OverviewFormat,
+    services: Table,
+    runs: Table,
+    values: String,
+    families: Families,
 }
 
-// Adds the services of these names.
-fn add_services<B: Book>(
-    book: &mut B,
-    names: &[Name],
-    now: Moment,
-    overview: &mut Overview,
-) -> Result<(), Fault>
-    ensures { Stays (B.state book.old) (B.state book.new) }
-{
-    for name in names {
-        add_named(book, name, now, overview)?;
+impl Overview {
+    /// One of no service.
+    ///
+    /// # Errors
+    /// `Memory` where an allocation was refused.
+    pub fn new(alloc: Global, form: OverviewFormat) -> Result<Overview, Memory> {
+        let services = Table::new(alloc, &SERVICE_TITLES)?;
+        let runs = Table::new(alloc, &RUN_TITLES)?;
+        Ok(Overview {
+            alloc,
+            form,
+            services,
+            runs,
+            values: String::new(alloc),
+            families: Families::new(alloc),
+        })
+    }
+
+    /// Adds a service, passed to a moment, and its open runs.
+    ///
+    /// # Errors
+    /// `Memory` where an allocation was refused; some of its rows may be there then.
+    pub fn add(&mut self, service: &Service, now: Moment) -> Result<(), Memory> {
+        let passed = service.passed(self.alloc, now)?;
+        match self.form {
+            OverviewFormat::Tables => self.add_rows(&passed.service),
+            OverviewFormat::Json => add_value(self.alloc, &mut self.values, &passed.service),
+            OverviewFormat::Prometheus => self.families.add(&passed.service),
+        }
+    }
+
+    // Adds a service's row to one table, and a row for each metric of its open runs to the other.
+    fn add_rows(&mut self, service: &Service) -> Result<(), Memory> {
+        self.services.push(service_row(self.alloc, service)?)?;
+        for run in service.open_runs() {
+            add_run(self.alloc, service, run, &mut self.runs)?;
+        }
+        Ok(())
+    }
+
+    /// Its text. Of two tables, the second one follows an empty line, if it has rows.
+    ///
+    /// # Errors
+    /// `Memory` where an allocation was refused.
+    pub fn text(&self) -> Result<String, Memory> {
+        match self.form {
+            OverviewFormat::Tables => self.tables(),
+            OverviewFormat::Json => Ok(String::from_str(self.alloc, self.values.as_str())?),
+            OverviewFormat::Prometheus => self.families.text(),
+        }
+    }
+
+    // The table of services, and after it that of runs, unless this has its heading alone.
+    fn tables(&self) -> Result<String, Memory> {
+        let text = self.services.text()?;
+        if self.runs.has_rows() {
+            with_table(text, &self.runs)
+        } else {
+            Ok(text)
+        }
+    }
+}
+
+// A text, and a table behind an empty line.
+fn with_table(text: String, table: &Table) -> Result<String, Memory> {
+    let mut text = text;
+    text.push_str("\n")?;
+    text.push_str(table.text()?.as_str())?;
+    Ok(text)
+}
+
+// The cells of a service, in the order of `SERVICE_TITLES`.
+fn service_row(alloc: Global, service: &Service) -> Result<Vec<String>, Memory> {
+    let (step, steps) = (service.step(), service.strategy().steps().len());
+    let mut row = Vec::new(alloc);
+    row.push(String::from_str(alloc, service.name().as_str())?)?;
+    row.push(String::from_str(alloc, service.status().text())?)?;
+    row.push(format!(in alloc; "{step}/{steps}")?)?;
+    row.push(bar(alloc, service.weight())?)?;
+    row.push(String::from_str(alloc, service.version().as_str())?)?;
+    row.push(String::from_str(alloc, service.stable().as_str())?)?;
+    Ok(row)
+}
+
+// A weight as a bar, of which a cell is full for each ten percent, and in percent.
+fn bar(alloc: Global, weight: u32) -> Result<String, Memory> {
+    let full = weight / BAR_CELLS;
+    let mut text = String::new(alloc);
+    for cell in 0..BAR_CELLS {
+        text.push_str(if cell < full { "#" } else { "-" })?;
+    }
+    text.push_str(format!(in alloc; " {weight}%")?.as_str())?;
+    Ok(text)
+}
+
+// Adds a row for each metric of an open run.
+fn add_run(
+    alloc: Global,
+    service: &Service,
+    run: &OpenRun,
+    runs: &mut Table,
+) -> Result<(), Memory> {
+    let name = service.name();
+    for (metric, tally) in run.analysis.metrics().iter().zip(run.tallies.as_slice()) {
+        runs.push(metric_row(alloc, name, run, metric, tally)?)?;
     }
     Ok(())
 }
 
-// Adds the service of this name, or nothing if there is no such service.
-fn add_named<B: Book>(
-    book: &mut B,
-    name: &Name,
-    now: Moment,
-    overview: &mut Overview,
-) -> Result<(), Fault>
-    ensures { Stays (B.state book.old) (B.state book.new) }
-{
-    match book.service(name)? {
-        Some(service) => Ok(overview.add(&service, now)?),
-        None => Ok(()),
+// The cells of a metric of an open run, in the order of `RUN_TITLES`.
+fn metric_row(
+    alloc: Global,
+    service: Name,
+    run: &OpenRun,
+    metric: &Metric,
+    tally: &Tally,
+) -> Result<Vec<String>, Memory> {
+    let (number, counted, phase) = (run.number, tally.counted(), tally.phase(metric, false));
+    let mut row = Vec::new(alloc);
+    row.push(format!(in alloc; "{number}")?)?;
+    row.push(String::from_str(alloc, service.as_str())?)?;
+    row.push(analysis(alloc, run.step)?)?;
+    row.push(templates_text(alloc, run.analysis.revisions())?)?;
+    row.push(name_of(alloc, metric.name())?)?;
+    row.push(String::from_str(alloc, phase.text())?)?;
+    row.push(format!(in alloc; "{counted}")?)?;
+    row.push(passes_text(alloc, metric.pass_after(), tally.passes())?)?;
+    row.push(due_text(alloc, run, metric, tally, phase)?)?;
+    Ok(row)
+}
+
+// The name of a metric as people read it: its label, without an ending that says how its numbers
+// are reported.
+fn name_of(alloc: Global, label: Label) -> Result<String, Memory> {
+    Ok(String::from_str(alloc, Shown::or_whole(label.as_str()).name)?)
+}
+
+// Which analysis a run is of: that of its step, or of the background if it has none.
+fn analysis(alloc: Global, step: Option<u32>) -> Result<String, Memory> {
+    match step {
+        Some(step) => Ok(format!(in alloc; "step {step}")?),
+        None => Ok(String::from_str(alloc, "background")?),
     }
+}
+
+// The templates of an analysis, each with the number of its revision: `errors@2,latency@1`.
+fn templates_text(alloc: Global, revisions: &[Revision]) -> Result<String, Memory> {
+    let mut text = String::new(alloc);
+    for revision in revisions {
+        add_revision(alloc, &mut text, *revision)?;
+    }
+    Ok(text)
+}
+
+// Adds one template with the number of its revision, after a comma if it is not the first.
+fn add_revision(alloc: Global, text: &mut String, revision: Revision) -> Result<(), Memory> {
+    if !text.is_empty() {
+        text.push_str(",")?;
+    }
+    let (template, number) = (revision.template, revision.number);
+    text.push_str(format!(in alloc; "{template}@{number}")?.as_str())?;
+    Ok(())
+}
+
+// How many successes in a row a metric has, of those that complete it; `-` if it has no
+// `passAfter`.
+fn passes_text(alloc: Global, wanted: Option<u32>, passes: u32) -> Result<String, Memory> {
+    match wanted {
+        Some(wanted) => Ok(format!(in alloc; "{passes}/{wanted}")?),
+        None => Ok(String::from_str(alloc, "-")?),
+    }
+}
+
+// When the next measurement of a metric is due; `-` where it wants none.
+fn due_text(
+    alloc: Global,
+    run: &OpenRun,
+    metric: &Metric,
+    tally: &Tally,
+    phase: Phase,
+) -> Result<String, Memory> {
+    let mut text = String::new(alloc);
+    match Moment::new(tally.due(metric, run.started)) {
+        Some(moment) if !is_completed(phase) => moment.text(&mut text)?,
+        _ => text.push_str("-")?,
+    }
+    Ok(text)
 }

@@ -7,7 +7,7 @@ use canary_base::moments::Moment;
 use canary_base::names::Name;
 use canary_once::book::Book;
 use canary_page::page::{View, draw};
-use canary_page::progress::Progress;
+use canary_page::progress::DrawingProgress;
 use canary_page::record::draw_json;
 use canary_page::services::draw_services;
 use std::alloc::Global;
@@ -17,7 +17,7 @@ use std::io::Write;
 ///
 /// # Errors
 /// `Write`, `Memory` and `Storage`, each where canary_page answers the same.
-pub fn draw_page<W: Write, B: Book, P: Progress>(
+pub fn draw_page<W: Write, B: Book, P: DrawingProgress>(
     alloc: Global,
     book: &mut B,
     names: &[Name],

@@ -1,7 +1,7 @@
 //! A stream answered over a book.
 ghost use Rattle.std.specs.Prelude.{◌≡◌, Err};
 ghost use Rattle.canary_once.specs.Contents.{KeepsReceipts};
-ghost use Rattle.canary_wire.specs.Exchanges.{point};
+ghost use Rattle.canary_wire.specs.Dispositions.{desk_state};
 ghost use Rattle.canary_programs.specs.declared.fault.Fault.TheVariants as fault;
 ghost use Rattle.canary_programs.specs.Programs.{AnswersSo};
 
@@ -26,8 +26,8 @@ pub fn answer<R: Read, W: Write, C: Clock, B: Book>(
 ) -> Result<(), Fault>
     ensures served { AnswersSo (R.remaining input.old) (R.remaining input.new)
         (W.contents output.old) (W.contents output.new)
-        (point (C.tells clock.old) (B.state book.old))
-        (point (C.tells clock.new) (B.state book.new)) result }
+        (desk_state (C.tells clock.old) (B.state book.old))
+        (desk_state (C.tells clock.new) (B.state book.new)) result }
     ensures memory { result ≡ Err fault.Memory → (input.new ≡ input.old)
         × (output.new ≡ output.old) × (clock.new ≡ clock.old) × (book.new ≡ book.old) }
     ensures honest { (B.state book.new).is_honest → (B.state book.old).is_honest }

@@ -1,6 +1,6 @@
 //! The desk on a socket.
 ghost use Rattle.std.specs.Prelude.{◌≡◌};
-ghost use Rattle.canary_wire.specs.Exchanges.{point};
+ghost use Rattle.canary_wire.specs.Dispositions.{desk_state};
 ghost use Rattle.canary_listen.specs.Attending.{ServesAll, nobody};
 ghost use Rattle.canary_listen.specs.Crowd.{attendance_of};
 
@@ -82,7 +82,7 @@ pub fn serve_book<B: Placed, W: Write, F: Write>(
     let _ = errors.write_all(notice.as_bytes());
     announce(rt, &listener, output)?;
     let mut errors = Unblocked::new(rt, errors);
-    attend(rt, &mut listener, listening.connections, book, &mut errors)
+    run_listener(rt, &mut listener, listening.connections, book, &mut errors)
 }
 
 // A socket at that address.
@@ -98,7 +98,7 @@ fn bind<P: Net + AllocGlobal>(
 }
 
 // Serves clients over a book, by the machine's clock.
-fn attend<P: time::Clock + AllocGlobal, B: Placed, F: Write>(
+fn run_listener<P: time::Clock + AllocGlobal, B: Placed, F: Write>(
     rt: &P,
     listener: &mut Listener,
     connections: Option<u64>,
@@ -123,8 +123,8 @@ pub fn serve_clients<P: time::Clock + AllocGlobal, C: Clock, B: Placed, F: Write
     errors: &mut F,
 ) -> Result<(), Fault>
     ensures { attendance_of listener.old ≡ nobody
-        → ServesAll (point (C.tells clock.old) (B.state book.old))
-        (point (C.tells clock.new) (B.state book.new)) }
+        → ServesAll (desk_state (C.tells clock.old) (B.state book.old))
+        (desk_state (C.tells clock.new) (B.state book.new)) }
 {
     match listener.serve(rt, connections, clock, book, errors) {
         Ok(()) => Ok(()),

@@ -3,7 +3,7 @@ ghost use Rattle.std.specs.Prelude.{◌≡◌, ◌≢◌, ◌≤◌, [], ◌++�
 ghost use Rattle.std.specs.Option.{option_copied};
 ghost use Rattle.std.specs.List.{filter_map, cons_option};
 ghost use Rattle.canary_files.specs.Exporting.{Stays};
-ghost use Rattle.canary_release.specs.Services.{is_going};
+ghost use Rattle.canary_release.specs.Services.{is_in_progress};
 ghost use Rattle.canary_once.specs.Single.{request_of};
 ghost use Rattle.canary_programs.specs.declared.fault.Fault.TheVariants as fault;
 ghost use Rattle.canary_programs.specs.Successions.{is_going_on, are_going_on, stand_at};
@@ -26,7 +26,7 @@ use canary_plan::service::{Background, ServiceSpec};
 use canary_plan::step::copy_steps;
 use canary_release::reply::ReplyStatus;
 use canary_release::service::Service;
-use canary_release::stand::State;
+use canary_release::state::ReleaseState;
 use std::alloc::Global;
 
 // The caller of the requests by which a new desk is made.
@@ -177,29 +177,29 @@ fn service_again<B: Book>(
 
 // The service as it is asked for anew, if no release of it is going on at that moment.
 fn made_again(alloc: Global, service: &Service, now: Moment) -> Result<ServiceSpec, Fault>
-    ensures idle { IfOk result (λ _. is_going (stand_at now service.now).state ≡ false) }
+    ensures idle { IfOk result (λ _. is_in_progress (stand_at now service.now).state ≡ false) }
     ensures going { result ≡ Err fault.InProgress
-        → is_going (stand_at now service.now).state ≡ true }
+        → is_in_progress (stand_at now service.now).state ≡ true }
     ensures made { IfOk result (λ spec. spec ≡ spec_again (stand_at now service.now)) }
     ensures unasked { result ≢ Err fault.Storage }
 {
     let passed = service.passed(alloc, now)?;
-    if is_going(passed.service.state()) {
+    if is_in_progress(passed.service.state()) {
         return Err(Fault::InProgress);
     }
     Ok(spec_again(alloc, &passed.service)?)
 }
 
 // Whether a release is going on in this state of a service.
-fn is_going(state: State) -> bool
-    ensures { result ≡ is_going state }
+fn is_in_progress(state: ReleaseState) -> bool
+    ensures { result ≡ is_in_progress state }
 {
-    matches!(state, State::InProgress)
+    matches!(state, ReleaseState::InProgress)
 }
 
 // The service as it is asked for anew: with its strategy, and its stable version.
 fn spec_again(alloc: Global, service: &Service) -> Result<ServiceSpec, Memory>
-    ensures { IfOk result (λ spec. spec ≡ spec_again service.now.stand) }
+    ensures { IfOk result (λ spec. spec ≡ spec_again service.now.service) }
 {
     let strategy = service.strategy();
     let steps = copy_steps(alloc, strategy.steps())?;

@@ -4,7 +4,7 @@ use Rattle.std.proofs.lemmas.List.{append-nil}
 use Rattle.json.specs.Json.{Json, Items, no_items, item}
 use Rattle.canary_measure.specs.declared.measured.Given.{Given}
 use Rattle.canary_measure.specs.declared.measured.Measured.TheVariants.{One, Several}
-use Rattle.canary_provider.specs.declared.failure.Fault.{Fault}
+use Rattle.canary_provider.specs.declared.failure.ReplyFault.{ReplyFault}
 use Rattle.canary_provider.specs.declared.values.Kind.{Kind}
 use Rattle.canary_provider.specs.Answers.{IsRead, IsReadIn, IsScalar, IsValue, AreValues, Refutes}
 use Rattle.canary_provider.specs.Plans.{IsHeader, AreHeaders}
@@ -30,7 +30,7 @@ one_header j js all before line is so_far rest are =
     subst (AreHeaders all) (sym (append_assoc before (line ∷ []) rest)) (so_far (line ∷ rest) (is, are))
 
 -- if an item has no value, the list has none
-pub refuted : (kind : Kind) (j : Json) (js all : Items) (fault : Fault)
+pub refuted : (kind : Kind) (j : Json) (js all : Items) (fault : ReplyFault)
     → ((values : List Given) → AreValues kind all values → (rest : List Given) × AreValues kind (item j js) rest)
     → Refutes (IsValue kind j) fault → Refutes (AreValues kind all) fault
 refuted kind j js all fault left none fine values are =
@@ -49,7 +49,7 @@ all_headers js all lines none so_far =
     subst (AreHeaders all) (append-nil lines) (so_far [] (subst (λ left. AreHeaders left []) (sym none) refl))
 
 -- a text that says nothing is no scalar
-pub no_scalar : (text : List ℕ) (found : Option (List ℕ)) (fault : Fault) → Some text ≡ found
+pub no_scalar : (text : List ℕ) (found : Option (List ℕ)) (fault : ReplyFault) → Some text ≡ found
     → Refutes (IsRead text) fault → Refutes (IsScalar found) fault
 no_scalar text found fault is none fine (One given) says = none fine given (subst (λ t. IsReadIn t given) (sym is) says)
 no_scalar text found fault is none fine (Several values) says = absurd says

@@ -11,10 +11,10 @@ use Rattle.canary_measure.specs.declared.measured.Measured.{Measured}
 use Rattle.canary_measure.specs.declared.measured.Measured.TheVariants.{One, Several}
 use Rattle.canary_provider.specs.declared.values.Kind.{Kind}
 use Rattle.canary_provider.specs.declared.values.Kind.TheVariants.{Plain, Sample}
-use Rattle.canary_provider.specs.declared.plan.Answer.{Answer}
-use Rattle.canary_provider.specs.declared.plan.Answer.TheVariants.{Prometheus, Web}
-use Rattle.canary_provider.specs.declared.failure.Fault.{Fault}
-use Rattle.canary_provider.specs.declared.failure.Fault.TheVariants.{Memory, Has, Text}
+use Rattle.canary_provider.specs.declared.plan.ReplyFormat.{ReplyFormat}
+use Rattle.canary_provider.specs.declared.plan.ReplyFormat.TheVariants.{Prometheus, Web}
+use Rattle.canary_provider.specs.declared.failure.ReplyFault.{ReplyFault}
+use Rattle.canary_provider.specs.declared.failure.ReplyFault.TheVariants.{Memory, Has, Text}
 use Rattle.canary_provider.specs.Paths.{found}
 
 -- ---- a value
@@ -99,7 +99,7 @@ IsAnswer j m =
     × IsResult (text_at (codes "resultType") d) r m
 
 -- what a value of JSON says was measured
-abbrev pub Says : Answer → Json → Measured → Type 0
+abbrev pub Says : ReplyFormat → Json → Measured → Type 0
 Says Prometheus j m = IsAnswer j m
 Says (Web path) j m = IsFound (found path.steps.items j) m
 
@@ -109,18 +109,18 @@ abbrev pub is_success : ℕ → Bool
 is_success status = nat_le 200 status && nat_le status 299
 
 -- what a reply of that status with that body says was measured
-abbrev pub IsMeasured : Answer → ℕ → List ℕ → Measured → Type 0
+abbrev pub IsMeasured : ReplyFormat → ℕ → List ℕ → Measured → Type 0
 IsMeasured answer status body m =
     IsTrue (is_success status) × IsUtf8 body
     × (j : Json) × (document body ≡ Some j) × Says answer j m
 
 -- ---- faults
 
-abbrev pub is_memory : Fault → Bool
+abbrev pub is_memory : ReplyFault → Bool
 is_memory Memory = true
 is_memory (Has what) = false
 is_memory (Text what text) = false
 
 -- a fault that is not of memory says that there is none
-abbrev pub Refutes : {A : Type 0} → (A → Type 0) → Fault → Type 0
+abbrev pub Refutes : {A : Type 0} → (A → Type 0) → ReplyFault → Type 0
 Refutes {A = A} P fault = is_memory fault ≡ false → (m : A) → P m → ⊥

@@ -12,8 +12,8 @@ use Rattle.canary_provider.specs.declared.fields.TheConstants.{USER_AGENT, ACCEP
 use Rattle.canary_provider.specs.declared.target.TheConstants.{QUERY, API, VERSION}
 use Rattle.canary_provider.specs.declared.target.Method.{Method}
 use Rattle.canary_provider.specs.declared.target.Method.TheVariants as method
-use Rattle.canary_provider.specs.declared.plan.Answer.{Answer}
-use Rattle.canary_provider.specs.declared.plan.Answer.TheVariants.{Prometheus, Web}
+use Rattle.canary_provider.specs.declared.plan.ReplyFormat.{ReplyFormat}
+use Rattle.canary_provider.specs.declared.plan.ReplyFormat.TheVariants.{Prometheus, Web}
 use Rattle.canary_provider.specs.declared.plan.Provider.{Provider}
 use Rattle.canary_provider.specs.Paths.{IsPathText}
 use Rattle.canary_provider.specs.Answers.{text_at}
@@ -194,7 +194,7 @@ IsBody None (Some j) body is_json = (body ≡ print (json_tokens j)) × (is_json
 IsBody (Some j) (Some k) body is_json = ⊥
 
 -- the path at which the value stands
-abbrev pub IsPathAt : Option Json → Answer → Type 0
+abbrev pub IsPathAt : Option Json → ReplyFormat → Type 0
 IsPathAt o Prometheus = ⊥
 IsPathAt None (Web path) = path.steps.items ≡ []
 IsPathAt (Some j) (Web path) =

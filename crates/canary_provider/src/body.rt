@@ -7,8 +7,8 @@ ghost use Rattle.json.specs.Value.{value_view};
 ghost use Rattle.canary_provider.specs.Plans.{IsBody, given_at};
 
 use crate::fields::given_at;
-use crate::refusal::Refusal;
-use crate::stop::Stop;
+use crate::refusal::ProviderRefusal;
+use crate::stop::PlanFault;
 use crate::target::Method;
 use json::{Value, to_vec};
 use std::alloc::Global;
@@ -21,7 +21,7 @@ pub(crate) struct Body {
 }
 
 /// The body that a plan has: a text as it is, or JSON, or nothing.
-pub(crate) fn body_of(alloc: Global, value: &Value<'_>, method: Method) -> Result<Body, Stop>
+pub(crate) fn body_of(alloc: Global, value: &Value<'_>, method: Method) -> Result<Body, PlanFault>
     requires { HasNumbers (value_view value.now) }
     ensures { IfOk result (λ body. IsBody (given_at (codes "body") (value_view value.now))
         (given_at (codes "jsonBody") (value_view value.now)) body.bytes.items body.is_json) }
@@ -29,7 +29,7 @@ pub(crate) fn body_of(alloc: Global, value: &Value<'_>, method: Method) -> Resul
     let json = given_at(value, "jsonBody");
     match given_at(value, "body") {
         Some(text) if json.is_none() => text_body(alloc, text, method),
-        Some(_) => Err(Stop::Refused(Refusal::TwoBodies)),
+        Some(_) => Err(PlanFault::Refused(ProviderRefusal::TwoBodies)),
         None => match json {
             Some(json) => json_body(alloc, json, method),
             None => Ok(nothing(alloc)),
@@ -48,12 +48,12 @@ fn nothing(alloc: Global) -> Body
 }
 
 // The body that is this text as it is; refused if it is no text, or the method is GET.
-fn text_body(alloc: Global, text: &Value<'_>, method: Method) -> Result<Body, Stop>
+fn text_body(alloc: Global, text: &Value<'_>, method: Method) -> Result<Body, PlanFault>
     ensures { IfOk result (λ body. (as_str (value_view text.now) ≡ Some body.bytes.items)
         × (body.is_json ≡ false)) }
 {
     let Some(text) = text.as_str() else {
-        return Err(Stop::Refused(Refusal::Body));
+        return Err(PlanFault::Refused(ProviderRefusal::Body));
     };
     take_body(method)?;
     Ok(Body {
@@ -63,7 +63,7 @@ fn text_body(alloc: Global, text: &Value<'_>, method: Method) -> Result<Body, St
 }
 
 // The body that is this value printed as JSON; refused if the method is GET.
-fn json_body(alloc: Global, json: &Value<'_>, method: Method) -> Result<Body, Stop>
+fn json_body(alloc: Global, json: &Value<'_>, method: Method) -> Result<Body, PlanFault>
     requires { HasNumbers (value_view json.now) }
     ensures { IfOk result (λ body. (body.bytes.items ≡ print (json_tokens (value_view json.now)))
         × (body.is_json ≡ true)) }
@@ -76,9 +76,9 @@ fn json_body(alloc: Global, json: &Value<'_>, method: Method) -> Result<Body, St
 }
 
 // A GET has none.
-fn take_body(method: Method) -> Result<(), Refusal> {
+fn take_body(method: Method) -> Result<(), ProviderRefusal> {
     if method == Method::Get {
-        Err(Refusal::BodyOfGet)
+        Err(ProviderRefusal::BodyOfGet)
     } else {
         Ok(())
     }

@@ -6,16 +6,16 @@ ghost use Rattle.canary_provider.specs.Texts.{IsShown};
 use arrayvec::ArrayString;
 use canary_base::error::Memory;
 use canary_base::lists::Text;
-use canary_condition::outcome::{FailureText, MOST_FAILURE_BYTES};
-use canary_markup::laws;
-use canary_markup::shown::{Form, shown};
+use canary_condition::outcome::{FailureText, MAX_FAILURE_BYTES};
+use canary_page_html::laws;
+use canary_page_html::shown::{TextKind, shown};
 use itoa::Buffer;
 use std::alloc::{AllocError, AllocFailed, Global};
 use std::str;
 
 /// Why a reply has no measurement.
 #[derive(Clone, Copy)]
-pub(crate) enum Fault<'a> {
+pub(crate) enum ReplyFault<'a> {
     /// An allocation was refused.
     Memory,
     /// What it has in place of one.
@@ -25,53 +25,57 @@ pub(crate) enum Fault<'a> {
 }
 
 // The most bytes of a failure's text.
-const MOST: usize = MOST_FAILURE_BYTES;
+const MOST: usize = MAX_FAILURE_BYTES;
 
-impl From<Memory> for Fault<'_> {
-    ghost use Rattle.canary_provider.specs.declared.failure.Fault.TheVariants.{Memory as refused};
+impl From<Memory> for ReplyFault<'_> {
+    ghost use Rattle.canary_provider.specs.declared.failure.ReplyFault.TheVariants.{Memory as refused};
     ghost use Rattle.std.specs.Prelude.{◌≡◌};
 
     ghost from_gives = { λ _ fault. fault ≡ refused };
 
-    // A refused allocation is `Fault::Memory`.
+    // A refused allocation is `ReplyFault::Memory`.
     fn from(_: Memory) -> Self {
-        Fault::Memory
+        ReplyFault::Memory
     }
 }
 
-impl From<AllocError> for Fault<'_> {
-    ghost use Rattle.canary_provider.specs.declared.failure.Fault.TheVariants.{Memory as refused};
+impl From<AllocError> for ReplyFault<'_> {
+    ghost use Rattle.canary_provider.specs.declared.failure.ReplyFault.TheVariants.{Memory as refused};
     ghost use Rattle.std.specs.Prelude.{◌≡◌};
 
     ghost from_gives = { λ _ fault. fault ≡ refused };
 
     // The same, as calls of the standard library report it.
     fn from(_: AllocError) -> Self {
-        Fault::Memory
+        ReplyFault::Memory
     }
 }
 
-impl<T: Drop> From<AllocFailed<T>> for Fault<'_> {
-    ghost use Rattle.canary_provider.specs.declared.failure.Fault.TheVariants.{Memory as refused};
+impl<T: Drop> From<AllocFailed<T>> for ReplyFault<'_> {
+    ghost use Rattle.canary_provider.specs.declared.failure.ReplyFault.TheVariants.{Memory as refused};
     ghost use Rattle.std.specs.Prelude.{◌≡◌};
 
     ghost from_gives = { λ _ fault. fault ≡ refused };
 
     // The same, as calls report it that return the value for which there was no room.
     fn from(_: AllocFailed<T>) -> Self {
-        Fault::Memory
+        ReplyFault::Memory
     }
 }
 
 /// The text of a fault, with how the body begins; or `Memory`.
-pub(crate) fn text_of(alloc: Global, fault: Fault<'_>, body: &[u8]) -> Result<FailureText, Memory>
+pub(crate) fn text_of(
+    alloc: Global,
+    fault: ReplyFault<'_>,
+    body: &[u8],
+) -> Result<FailureText, Memory>
     ensures shown { IfOk result (λ text. IsShown text) }
     ensures fault { OnOk result (is_memory fault.entry ≡ false) }
 {
     match fault {
-        Fault::Memory => Err(Memory),
-        Fault::Has(what) => told(alloc, what, front_of(body)),
-        Fault::Text(what, text) => told(alloc, what, text),
+        ReplyFault::Memory => Err(Memory),
+        ReplyFault::Has(what) => told(alloc, what, front_of(body)),
+        ReplyFault::Text(what, text) => told(alloc, what, text),
     }
 }
 
@@ -178,5 +182,5 @@ fn shown_one(alloc: Global, text: &str) -> Result<Text, Memory>
     ensures { IfOk result (λ shown. IsShown shown) }
 {
     laws::showing();
-    Ok(Text::of(shown(alloc, text, Form::Json)?))
+    Ok(Text::of(shown(alloc, text, TextKind::Json)?))
 }

@@ -9,9 +9,9 @@ ghost use Rattle.canary_provider.specs.Plans.{is_token, is_token_byte, is_token_
 ghost use Rattle.canary_provider.specs.Plans.{is_colon, name_of, has_name, with_own, with_type};
 ghost use Rattle.canary_provider.specs.Plans.{with_length, HasFields};
 
-use crate::line::Line;
-use crate::refusal::Refusal;
-use crate::stop::Stop;
+use crate::line::HeaderLine;
+use crate::refusal::ProviderRefusal;
+use crate::stop::PlanFault;
 use crate::target::Method;
 use crate::values::{items_of, text_at};
 use itoa::Buffer;
@@ -42,7 +42,7 @@ pub(crate) fn given_at<'v, 'a>(value: &'v Value<'a>, key: &str) -> Option<&'v Va
 
 /// The fields that a plan has, and those that each message has besides.
 #[tactic(auto, unfolding(crate::specs::Plans::with_all_own))]
-pub(crate) fn fields_of(alloc: Global, value: &Value<'_>) -> Result<Vec<Line>, Stop>
+pub(crate) fn fields_of(alloc: Global, value: &Value<'_>) -> Result<Vec<HeaderLine>, PlanFault>
     ensures { IfOk result (λ fields. HasFields (value_view value.now) fields.items) }
 {
     let mut fields = headers_at(alloc, given_at(value, "headers"))?;
@@ -54,7 +54,11 @@ pub(crate) fn fields_of(alloc: Global, value: &Value<'_>) -> Result<Vec<Line>, S
 }
 
 /// Adds what says of which kind a body is, if it is JSON.
-pub(crate) fn add_type(alloc: Global, fields: &mut Vec<Line>, is_json: bool) -> Result<(), Stop>
+pub(crate) fn add_type(
+    alloc: Global,
+    fields: &mut Vec<HeaderLine>,
+    is_json: bool,
+) -> Result<(), PlanFault>
     ensures { OnOk result (fields.new.items ≡ with_type is_json fields.old.items) }
 {
     if is_json {
@@ -67,10 +71,10 @@ pub(crate) fn add_type(alloc: Global, fields: &mut Vec<Line>, is_json: bool) -> 
 /// Adds how long a body is, if the method has one.
 pub(crate) fn add_length(
     alloc: Global,
-    fields: &mut Vec<Line>,
+    fields: &mut Vec<HeaderLine>,
     method: Method,
     length: usize,
-) -> Result<(), Stop>
+) -> Result<(), PlanFault>
     ensures { OnOk result (fields.new.items ≡ with_length method length fields.old.items) }
 {
     match method {
@@ -84,7 +88,7 @@ pub(crate) fn add_length(
 }
 
 // The field Content-Length with that number, in decimal.
-fn length_line(alloc: Global, length: usize) -> Result<Line, Stop>
+fn length_line(alloc: Global, length: usize) -> Result<HeaderLine, PlanFault>
     ensures { IfOk result (λ line. line ≡ LENGTH.now ++ decimal length) }
 {
     let mut buffer = Buffer::new();
@@ -93,33 +97,38 @@ fn length_line(alloc: Global, length: usize) -> Result<Line, Stop>
 }
 
 // The line of these three parts, one after another; refused as `HeaderValue` if they are no line.
-fn line_of(alloc: Global, first: &[u8], second: &[u8], third: &[u8]) -> Result<Line, Stop>
+fn line_of(
+    alloc: Global,
+    first: &[u8],
+    second: &[u8],
+    third: &[u8],
+) -> Result<HeaderLine, PlanFault>
     ensures { IfOk result (λ line. line ≡ first.now ++ second.now ++ third.now) }
 {
-    match Line::of_parts(alloc, first, second, third)? {
+    match HeaderLine::of_parts(alloc, first, second, third)? {
         Some(line) => Ok(line),
-        None => Err(Stop::Refused(Refusal::HeaderValue)),
+        None => Err(PlanFault::Refused(ProviderRefusal::HeaderValue)),
     }
 }
 
 // ---- the fields of the plan
 
 // The fields that the plan's `headers` ask for, if they are there; refused if they are no list.
-fn headers_at(alloc: Global, headers: Option<&Value<'_>>) -> Result<Vec<Line>, Stop>
+fn headers_at(alloc: Global, headers: Option<&Value<'_>>) -> Result<Vec<HeaderLine>, PlanFault>
     ensures { IfOk result (λ lines. AreHeadersAt
         (option_map (λ v. value_view v.now) headers.entry) lines.items) }
 {
     match headers {
         Some(list) => match items_of(list) {
             Some(items) => headers_of(alloc, items),
-            None => Err(Stop::Refused(Refusal::Headers)),
+            None => Err(PlanFault::Refused(ProviderRefusal::Headers)),
         },
         None => Ok(Vec::new(alloc)),
     }
 }
 
 // The field that each item asks for, in order, or the first refusal.
-fn headers_of(alloc: Global, list: &[Value<'_>]) -> Result<Vec<Line>, Stop>
+fn headers_of(alloc: Global, list: &[Value<'_>]) -> Result<Vec<HeaderLine>, PlanFault>
     ensures { IfOk result (λ lines. AreHeaders (items_view list.now) lines.items) }
 {
     let mut lines = Vec::new(alloc);
@@ -130,29 +139,29 @@ fn headers_of(alloc: Global, list: &[Value<'_>]) -> Result<Vec<Line>, Stop>
 }
 
 // The field that an object with `key` and `value` asks for; refused if one of them is no text.
-fn header_of(alloc: Global, value: &Value<'_>) -> Result<Line, Stop>
+fn header_of(alloc: Global, value: &Value<'_>) -> Result<HeaderLine, PlanFault>
     ensures { IfOk result (λ line. IsHeader (value_view value.now) line) }
 {
     let Some(key) = text_at(value, "key") else {
-        return Err(Stop::Refused(Refusal::Headers));
+        return Err(PlanFault::Refused(ProviderRefusal::Headers));
     };
     let Some(text) = text_at(value, "value") else {
-        return Err(Stop::Refused(Refusal::Headers));
+        return Err(PlanFault::Refused(ProviderRefusal::Headers));
     };
     header(alloc, key.as_bytes(), text.as_bytes())
 }
 
 // The field of that name with that text; refused if the name is no token, or no plan may have it.
-fn header(alloc: Global, key: &[u8], text: &[u8]) -> Result<Line, Stop>
+fn header(alloc: Global, key: &[u8], text: &[u8]) -> Result<HeaderLine, PlanFault>
     ensures name { OnOk result (IsTrue (is_token key.now)) }
     ensures own { OnOk result (is_own key.now ≡ false) }
     ensures line { IfOk result (λ line. line ≡ key.now ++ codes ": " ++ text.now) }
 {
     if !is_token(key) {
-        return Err(Stop::Refused(Refusal::HeaderName));
+        return Err(PlanFault::Refused(ProviderRefusal::HeaderName));
     }
     if is_own(key) {
-        return Err(Stop::Refused(Refusal::OwnHeader));
+        return Err(PlanFault::Refused(ProviderRefusal::OwnHeader));
     }
     line_of(alloc, key, b": ", text)
 }
@@ -214,7 +223,7 @@ fn is_token_mark(byte: u8) -> bool
 // ---- the agent's own
 
 // Adds a field, unless there is one of its name.
-fn add_own(alloc: Global, fields: &mut Vec<Line>, own: &str) -> Result<(), Stop>
+fn add_own(alloc: Global, fields: &mut Vec<HeaderLine>, own: &str) -> Result<(), PlanFault>
     ensures { OnOk result (fields.new.items ≡ with_own own.now fields.old.items) }
 {
     if has_name(fields.as_slice(), own.as_bytes()) {
@@ -226,7 +235,7 @@ fn add_own(alloc: Global, fields: &mut Vec<Line>, own: &str) -> Result<(), Stop>
 }
 
 // Whether one of them has the name of that one.
-fn has_name(fields: &[Line], own: &[u8]) -> bool
+fn has_name(fields: &[HeaderLine], own: &[u8]) -> bool
     ensures { result ≡ list_any (has_name own.now) fields.now }
 {
     fields.iter().any(|line| is_named_as(line.as_bytes(), own))

@@ -10,11 +10,11 @@ use std::marker::Model;
 
 /// A line of a message's head, without its end. It has at least one byte, and no control but a tab.
 #[derive(Drop)]
-pub struct Line {
+pub struct HeaderLine {
     bytes: Vec<u8>,
 }
 
-impl Model for Line {
+impl Model for HeaderLine {
     ghost use Rattle.std.specs.Prelude.{List, ℕ, IsTrue};
     ghost use Rattle.canary_provider.specs.Lines.{is_line};
 
@@ -25,14 +25,14 @@ impl Model for Line {
     ghost invariant = { λ l. IsTrue (is_line l.bytes.items) };
 }
 
-impl Line {
+impl HeaderLine {
     /// The line of these bytes; none if they are none.
-    pub fn of(bytes: Vec<u8>) -> Option<Line>
+    pub fn of(bytes: Vec<u8>) -> Option<HeaderLine>
         ensures line { SomeIff result (IsTrue (is_line bytes.items)) bytes.items }
         ensures none { IfNone result (is_line bytes.items ≡ false) }
     {
         if is_line(bytes.as_slice()) {
-            Some(Line { bytes })
+            Some(HeaderLine { bytes })
         } else {
             None
         }
@@ -44,7 +44,7 @@ impl Line {
         first: &[u8],
         second: &[u8],
         third: &[u8],
-    ) -> Result<Option<Line>, Memory>
+    ) -> Result<Option<HeaderLine>, Memory>
         ensures line { IfOk result (λ made. IfSome made
             (λ line. line ≡ first.now ++ second.now ++ third.now)) }
         ensures none { IfOk result (λ made. IfNone made
@@ -53,7 +53,7 @@ impl Line {
         let mut bytes = Vec::from_slice(alloc, first)?;
         bytes.extend_from_slice(second)?;
         bytes.extend_from_slice(third)?;
-        Ok(Line::of(bytes))
+        Ok(HeaderLine::of(bytes))
     }
 
     /// Its bytes.

@@ -4,7 +4,7 @@ ghost use Rattle.std.specs.List.{list_all};
 ghost use Rattle.canary_provider.specs.Lines.{is_line};
 ghost use Rattle.canary_provider.specs.Messages.{ended, message, lines_of};
 
-use crate::line::Line;
+use crate::line::HeaderLine;
 use crate::plan::Provider;
 use canary_base::error::Memory;
 use std::alloc::Global;
@@ -30,7 +30,7 @@ pub fn message_of(alloc: Global, provider: &Provider) -> Result<Vec<u8>, Memory>
 }
 
 // Appends the fields, each as a line with its end.
-fn put_all(bytes: &mut Vec<u8>, lines: &[Line]) -> Result<(), Memory>
+fn put_all(bytes: &mut Vec<u8>, lines: &[HeaderLine]) -> Result<(), Memory>
     ensures bytes { OnOk result
         (bytes.new.items ≡ bytes.old.items ++ flat_map ended lines.now) }
     ensures lines { OnOk result (IsTrue (list_all is_line lines.now)) }
@@ -42,7 +42,7 @@ fn put_all(bytes: &mut Vec<u8>, lines: &[Line]) -> Result<(), Memory>
 }
 
 // Appends a line, with its end.
-fn put(bytes: &mut Vec<u8>, line: &Line) -> Result<(), Memory>
+fn put(bytes: &mut Vec<u8>, line: &HeaderLine) -> Result<(), Memory>
     ensures bytes { OnOk result (bytes.new.items ≡ bytes.old.items ++ ended line.now) }
     ensures line { IsTrue (is_line line.now) }
 {

@@ -22,7 +22,7 @@ use std::str;
 
 /// A step of a path.
 #[derive(Drop)]
-pub enum Step {
+pub enum JsonPathStep {
     /// `.NAME`: the member of that name. If there are several, it is the last.
     Member(Text),
     /// `[N]`: the item at that index, from 0.
@@ -33,21 +33,21 @@ pub enum Step {
 #[derive(Drop)]
 pub struct Path {
     /// Its steps, each from where the one before it leads.
-    pub steps: Vec<Step>,
+    pub steps: Vec<JsonPathStep>,
 }
 
 // A step, and what stands behind it.
-type First<'t> = Option<(Step, &'t [u8])>;
+type First<'t> = Option<(JsonPathStep, &'t [u8])>;
 
-impl Step {
+impl JsonPathStep {
     // Where the step leads from this value, if it has that member or item.
     fn to<'v, 'a>(&self, value: &'v Value<'a>) -> Option<&'v Value<'a>>
         ensures { option_map (λ v. value_view v.now) result
             ≡ step_to self.now (value_view value.now) }
     {
         match self {
-            Step::Member(name) => value.get(name.as_str()),
-            Step::Item(index) => value.at(*index as usize),
+            JsonPathStep::Member(name) => value.get(name.as_str()),
+            JsonPathStep::Item(index) => value.at(*index as usize),
         }
     }
 }
@@ -74,7 +74,7 @@ impl Path {
 }
 
 // Where these steps lead, one after another; without any, to the value itself.
-fn follow<'v, 'a>(steps: &[Step], value: &'v Value<'a>) -> Option<&'v Value<'a>>
+fn follow<'v, 'a>(steps: &[JsonPathStep], value: &'v Value<'a>) -> Option<&'v Value<'a>>
     ensures { option_map (λ v. value_view v.now) result ≡ found steps.now (value_view value.now) }
 {
     match steps {
@@ -140,7 +140,7 @@ fn member(alloc: Global, text: &[u8]) -> Result<First<'_>, Memory>
         return Ok(None);
     }
     let name = Text::of(String::from_str(alloc, name)?);
-    Ok(Some((Step::Member(name), behind)))
+    Ok(Some((JsonPathStep::Member(name), behind)))
 }
 
 // How many bytes of a name it begins with.
@@ -165,7 +165,7 @@ fn item(text: &[u8]) -> First<'_>
     let (digits, behind) = text.split_at(digits_len(text));
     let index = index_of(digits)?;
     match behind {
-        [b']', behind @ ..] => Some((Step::Item(index), behind)),
+        [b']', behind @ ..] => Some((JsonPathStep::Item(index), behind)),
         _ => None,
     }
 }

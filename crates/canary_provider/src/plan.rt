@@ -10,11 +10,11 @@ ghost use Rattle.canary_provider.specs.Plans.{given_at, method_text};
 
 use crate::body::body_of;
 use crate::fields::{add_length, add_type, fields_of, given_at};
-use crate::line::Line;
+use crate::line::HeaderLine;
 use crate::path::Path;
-use crate::refusal::Refusal;
-use crate::stop::Stop;
-use crate::target::{Method, Place, host_line, place_of, query_line, web_line};
+use crate::refusal::ProviderRefusal;
+use crate::stop::PlanFault;
+use crate::target::{Method, ProviderTarget, host_line, provider_target, query_line, web_line};
 use crate::values::text_at;
 use canary_base::error::Memory;
 use canary_base::lists::Text;
@@ -23,7 +23,7 @@ use std::alloc::Global;
 
 /// How a reply is read.
 #[derive(Drop)]
-pub enum Answer {
+pub enum ReplyFormat {
     /// As an answer of Prometheus.
     Prometheus,
     /// As JSON, by the value at this path.
@@ -36,13 +36,13 @@ pub struct Provider {
     /// Its address, as it stands in the plan.
     pub address: Text,
     /// The first line of the message, the field `Host`, and the other fields.
-    pub first: Line,
-    pub host: Line,
-    pub fields: Vec<Line>,
+    pub first: HeaderLine,
+    pub host: HeaderLine,
+    pub fields: Vec<HeaderLine>,
     /// The body of the message.
     pub body: Vec<u8>,
     /// How the reply is read.
-    pub answer: Answer,
+    pub answer: ReplyFormat,
     /// The most seconds of the exchange, if the plan has any.
     pub seconds: Option<u64>,
 }
@@ -65,45 +65,49 @@ impl Provider {
     ///
     /// # Errors
     /// `Memory` if an allocation was refused.
-    pub fn read(alloc: Global, kind: &str, json: &str) -> Result<Result<Provider, Refusal>, Memory>
+    pub fn read(
+        alloc: Global,
+        kind: &str,
+        json: &str,
+    ) -> Result<Result<Provider, ProviderRefusal>, Memory>
         ensures { IfOk result (λ read. IfOk read (IsAsked kind.now json.now)) }
     {
         let mut scratch = Scratch::new(alloc);
         match Value::parse(alloc, json, &mut scratch) {
             Ok(value) => settled(provider_of(alloc, kind, &value)),
             Err(Error::OutOfMemory) => Err(Memory),
-            Err(_) => Ok(Err(Refusal::Provider)),
+            Err(_) => Ok(Err(ProviderRefusal::Provider)),
         }
     }
 }
 
 // The two reasons to stop, apart: a refusal is part of the result, `Memory` is the error.
-fn settled(read: Result<Provider, Stop>) -> Result<Result<Provider, Refusal>, Memory>
+fn settled(read: Result<Provider, PlanFault>) -> Result<Result<Provider, ProviderRefusal>, Memory>
     ensures { IfOk result (λ told. IfOk told (λ p. read ≡ Ok p)) }
 {
     match read {
         Ok(provider) => Ok(Ok(provider)),
-        Err(Stop::Refused(refusal)) => Ok(Err(refusal)),
-        Err(Stop::Memory) => Err(Memory),
+        Err(PlanFault::Refused(refusal)) => Ok(Err(refusal)),
+        Err(PlanFault::Memory) => Err(Memory),
     }
 }
 
 // What a provider of that kind is asked by this value, which has its object under the kind.
-fn provider_of(alloc: Global, kind: &str, value: &Value<'_>) -> Result<Provider, Stop>
+fn provider_of(alloc: Global, kind: &str, value: &Value<'_>) -> Result<Provider, PlanFault>
     requires { HasNumbers (value_view value.now) }
     ensures { IfOk result (λ p. IsPlanAt kind.now (given_at kind.now (value_view value.now)) p) }
 {
     if kind != "prometheus" && kind != "web" {
-        return Err(Stop::Refused(Refusal::Kind));
+        return Err(PlanFault::Refused(ProviderRefusal::Kind));
     }
     match given_at(value, kind) {
         Some(plan) => of_kind(alloc, kind, plan),
-        None => Err(Stop::Refused(Refusal::Provider)),
+        None => Err(PlanFault::Refused(ProviderRefusal::Provider)),
     }
 }
 
 // What a provider of that kind is asked by its own object.
-fn of_kind(alloc: Global, kind: &str, value: &Value<'_>) -> Result<Provider, Stop>
+fn of_kind(alloc: Global, kind: &str, value: &Value<'_>) -> Result<Provider, PlanFault>
     requires { HasNumbers (value_view value.now) }
     ensures { IfOk result (λ p. IsPlan kind.now (value_view value.now) p) }
 {
@@ -112,18 +116,18 @@ fn of_kind(alloc: Global, kind: &str, value: &Value<'_>) -> Result<Provider, Sto
     } else if kind == "web" {
         web(alloc, value)
     } else {
-        Err(Stop::Refused(Refusal::Kind))
+        Err(PlanFault::Refused(ProviderRefusal::Kind))
     }
 }
 
 // ---- Prometheus
 
 // What Prometheus is asked by its object: a query at one moment.
-fn prometheus(alloc: Global, value: &Value<'_>) -> Result<Provider, Stop>
+fn prometheus(alloc: Global, value: &Value<'_>) -> Result<Provider, PlanFault>
     ensures { IfOk result (λ p. IsPrometheus (value_view value.now) p) }
 {
     refuse_prometheus(value)?;
-    let place = place_at(value, "address")?;
+    let place = target_at(value, "address")?;
     let query = query_at(value)?;
     let seconds = seconds_at(value, "timeout")?;
     let first = query_line(alloc, place, query)?;
@@ -135,39 +139,39 @@ fn prometheus(alloc: Global, value: &Value<'_>) -> Result<Provider, Stop>
         host,
         fields,
         body: Vec::new(alloc),
-        answer: Answer::Prometheus,
+        answer: ReplyFormat::Prometheus,
         seconds,
     })
 }
 
 // Refuses a range query, and what else is not done for Prometheus.
-fn refuse_prometheus(value: &Value<'_>) -> Result<(), Refusal> {
+fn refuse_prometheus(value: &Value<'_>) -> Result<(), ProviderRefusal> {
     if given_at(value, "rangeQuery").is_some() {
-        return Err(Refusal::RangeQuery);
+        return Err(ProviderRefusal::RangeQuery);
     }
-    refuse(value, &PROMETHEUS, Refusal::Prometheus)
+    refuse(value, &PROMETHEUS, ProviderRefusal::Prometheus)
 }
 
 // The query, which is not empty.
-fn query_at<'a>(value: &Value<'a>) -> Result<&'a str, Refusal>
+fn query_at<'a>(value: &Value<'a>) -> Result<&'a str, ProviderRefusal>
     ensures { IfOk result (λ query. text_at (codes "query") (value_view value.now)
         ≡ Some query.now) }
 {
     match text_at(value, "query") {
         Some(query) if !query.is_empty() => Ok(query),
-        _ => Err(Refusal::Query),
+        _ => Err(ProviderRefusal::Query),
     }
 }
 
 // ---- a service that answers in JSON
 
 // What a service that answers in JSON is asked by its object.
-fn web(alloc: Global, value: &Value<'_>) -> Result<Provider, Stop>
+fn web(alloc: Global, value: &Value<'_>) -> Result<Provider, PlanFault>
     requires { HasNumbers (value_view value.now) }
     ensures { IfOk result (λ p. IsWeb (value_view value.now) p) }
 {
-    refuse(value, &WEB, Refusal::Web)?;
-    let place = place_at(value, "url")?;
+    refuse(value, &WEB, ProviderRefusal::Web)?;
+    let place = target_at(value, "url")?;
     let method = method_at(value)?;
     let body = body_of(alloc, value, method)?;
     let seconds = seconds_at(value, "timeoutSeconds")?;
@@ -193,7 +197,7 @@ fn web_fields(
     method: Method,
     is_json: bool,
     length: usize,
-) -> Result<Vec<Line>, Stop>
+) -> Result<Vec<HeaderLine>, PlanFault>
     ensures { IfOk result (λ fields.
         IsWebFields (value_view value.now) method is_json length fields.items) }
 {
@@ -204,7 +208,7 @@ fn web_fields(
 }
 
 // The method that a plan names; GET if it names no method.
-fn method_at(value: &Value<'_>) -> Result<Method, Refusal>
+fn method_at(value: &Value<'_>) -> Result<Method, ProviderRefusal>
     ensures { IfOk result (IsMethod (given_at (codes "method") (value_view value.now))) }
 {
     match given_at(value, "method") {
@@ -214,11 +218,11 @@ fn method_at(value: &Value<'_>) -> Result<Method, Refusal>
 }
 
 // The method that this text is, in capitals; refused if it is another one, or no text.
-fn method_of(value: &Value<'_>) -> Result<Method, Refusal>
+fn method_of(value: &Value<'_>) -> Result<Method, ProviderRefusal>
     ensures { IfOk result (λ m. as_str (value_view value.now) ≡ Some (method_text m)) }
 {
     let Some(text) = value.as_str() else {
-        return Err(Refusal::Method);
+        return Err(ProviderRefusal::Method);
     };
     if text == "GET" {
         Ok(Method::Get)
@@ -227,72 +231,72 @@ fn method_of(value: &Value<'_>) -> Result<Method, Refusal>
     } else if text == "PUT" {
         Ok(Method::Put)
     } else {
-        Err(Refusal::Method)
+        Err(ProviderRefusal::Method)
     }
 }
 
 // How the reply is read: by the plan's `jsonPath`, or if it has no path, as the value itself.
-fn answer_at(alloc: Global, value: &Value<'_>) -> Result<Answer, Stop>
+fn answer_at(alloc: Global, value: &Value<'_>) -> Result<ReplyFormat, PlanFault>
     ensures { IfOk result (IsPathAt (given_at (codes "jsonPath") (value_view value.now))) }
 {
     match given_at(value, "jsonPath") {
         Some(path) => path_of(alloc, path),
-        None => Ok(Answer::Web(Path {
+        None => Ok(ReplyFormat::Web(Path {
             steps: Vec::new(alloc),
         })),
     }
 }
 
 // The path that this text spells; refused if it spells no path, or is no text.
-fn path_of(alloc: Global, value: &Value<'_>) -> Result<Answer, Stop>
+fn path_of(alloc: Global, value: &Value<'_>) -> Result<ReplyFormat, PlanFault>
     ensures { IfOk result (IsPathAt (Some (value_view value.now))) }
 {
     let Some(text) = value.as_str() else {
-        return Err(Stop::Refused(Refusal::Path));
+        return Err(PlanFault::Refused(ProviderRefusal::Path));
     };
     match Path::read(alloc, text)? {
-        Some(path) => Ok(Answer::Web(path)),
-        None => Err(Stop::Refused(Refusal::Path)),
+        Some(path) => Ok(ReplyFormat::Web(path)),
+        None => Err(PlanFault::Refused(ProviderRefusal::Path)),
     }
 }
 
 // ---- both
 
 // The place at the address under that key.
-fn place_at<'a>(value: &Value<'a>, key: &str) -> Result<Place<'a>, Refusal>
+fn target_at<'a>(value: &Value<'a>, key: &str) -> Result<ProviderTarget<'a>, ProviderRefusal>
     ensures address { IfOk result
         (λ place. text_at key.now (value_view value.now) ≡ Some place.address.now) }
     ensures parts { IfOk result
         (λ place. IsAddress place.address.now place.authority.now place.target.now) }
 {
     match text_at(value, key) {
-        Some(text) => place_of(text),
-        None => Err(Refusal::Address),
+        Some(text) => provider_target(text),
+        None => Err(ProviderRefusal::Address),
     }
 }
 
 // The whole number of seconds under that key, if there is one.
-fn seconds_at(value: &Value<'_>, key: &str) -> Result<Option<u64>, Refusal> {
+fn seconds_at(value: &Value<'_>, key: &str) -> Result<Option<u64>, ProviderRefusal> {
     match given_at(value, key) {
         None => Ok(None),
         Some(seconds) => match seconds.as_u64() {
             Some(seconds) if seconds > 0 => Ok(Some(seconds)),
-            _ => Err(Refusal::Seconds),
+            _ => Err(ProviderRefusal::Seconds),
         },
     }
 }
 
 // Refuses what is not done, and members that are not known.
-fn refuse(value: &Value<'_>, known: &[&str], why: Refusal) -> Result<(), Refusal> {
+fn refuse(value: &Value<'_>, known: &[&str], why: ProviderRefusal) -> Result<(), ProviderRefusal> {
     if given_at(value, "authentication").is_some() {
-        return Err(Refusal::Authentication);
+        return Err(ProviderRefusal::Authentication);
     }
     if is_insecure(value) {
-        return Err(Refusal::Insecure);
+        return Err(ProviderRefusal::Insecure);
     }
     match value {
         Value::Object(members) => refuse_members(members.as_slice(), known, why),
-        _ => Err(Refusal::Provider),
+        _ => Err(ProviderRefusal::Provider),
     }
 }
 
@@ -308,8 +312,8 @@ fn is_insecure(value: &Value<'_>) -> bool {
 fn refuse_members(
     members: &[(&str, Value<'_>)],
     known: &[&str],
-    why: Refusal,
-) -> Result<(), Refusal> {
+    why: ProviderRefusal,
+) -> Result<(), ProviderRefusal> {
     for (key, _) in members {
         if !is_known(known, key) {
             return Err(why);

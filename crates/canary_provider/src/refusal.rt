@@ -2,7 +2,7 @@
 
 /// Why a provider of a plan is not asked.
 #[derive(Clone, Copy, Debug, PartialEq, Eq)]
-pub enum Refusal {
+pub enum ProviderRefusal {
     /// It is neither Prometheus nor a service that answers in JSON.
     Kind,
     /// The plan has no object for it.
@@ -37,55 +37,56 @@ pub enum Refusal {
     Path,
 }
 
-impl Refusal {
+impl ProviderRefusal {
     /// What it is, and what to write.
     pub fn text(self) -> &'static str {
         match self {
-            Refusal::Kind => {
+            ProviderRefusal::Kind => {
                 "this provider is not asked: let a program of your own ask it, and give what it \
                  measures to canary agent --values -, in lines SERVICE METRIC VALUE"
             }
-            Refusal::Provider => "expected an object with the one provider",
-            Refusal::Prometheus => {
+            ProviderRefusal::Provider => "expected an object with the one provider",
+            ProviderRefusal::Prometheus => {
                 "a member that is not known: known are address, query, timeout and headers"
             }
-            Refusal::Web => {
+            ProviderRefusal::Web => {
                 "a member that is not known: known are url, method, headers, body, jsonBody, \
                  timeoutSeconds and jsonPath"
             }
-            Refusal::Authentication => {
+            ProviderRefusal::Authentication => {
                 "authentication is not done: write a header, or the address of a proxy on this \
                  machine that does it"
             }
-            Refusal::Insecure => {
+            ProviderRefusal::Insecure => {
                 "insecure is for https, which is not asked: write the http address of a proxy on \
                  this machine"
             }
-            Refusal::RangeQuery => {
+            ProviderRefusal::RangeQuery => {
                 "rangeQuery is not asked: write a query whose values at one moment say it"
             }
-            Refusal::Https => {
+            ProviderRefusal::Https => {
                 "https is not asked: write the http address of a proxy on this machine that asks \
                  by https"
             }
-            Refusal::Address => {
+            ProviderRefusal::Address => {
                 "expected http://HOST, http://HOST:PORT, or one with a path behind it"
             }
-            Refusal::Query => "expected a query, a text",
-            Refusal::Seconds => "expected a whole number of seconds, 1 or more",
-            Refusal::Headers => "expected a list of objects with key and value",
-            Refusal::HeaderName => "the key of a header is no name of a header",
-            Refusal::HeaderValue => "the value of a header has a control, as an end of a line",
-            Refusal::OwnHeader => {
+            ProviderRefusal::Query => "expected a query, a text",
+            ProviderRefusal::Seconds => "expected a whole number of seconds, 1 or more",
+            ProviderRefusal::Headers => "expected a list of objects with key and value",
+            ProviderRefusal::HeaderName => "the key of a header is no name of a header",
+            ProviderRefusal::HeaderValue =>
+                "the value of a header has a control, as an end of a line",
+            ProviderRefusal::OwnHeader => {
                 "a header that the agent writes itself: leave it out (Host, Connection, \
                  Keep-Alive, Content-Length, Transfer-Encoding, Accept-Encoding, Expect, TE, \
                  Trailer, Upgrade)"
             }
-            Refusal::Method => "expected GET, POST or PUT",
-            Refusal::Body => "expected a body, a text",
-            Refusal::TwoBodies => "body and jsonBody: write one of them",
-            Refusal::BodyOfGet => "a GET has no body: write method: POST",
-            Refusal::Path => {
+            ProviderRefusal::Method => "expected GET, POST or PUT",
+            ProviderRefusal::Body => "expected a body, a text",
+            ProviderRefusal::TwoBodies => "body and jsonBody: write one of them",
+            ProviderRefusal::BodyOfGet => "a GET has no body: write method: POST",
+            ProviderRefusal::Path => {
                 "expected a jsonPath of members and indices, as {$.data.items[0].value}; no \
                  filter, wildcard, union or slice is read"
             }

@@ -3,15 +3,15 @@ ghost use Rattle.std.specs.Prelude.{◌≡◌, false, Ok, Err, IfOk, IfErr, OnEr
 ghost use Rattle.json.specs.Find.{as_array};
 ghost use Rattle.json.specs.Value.{value_view};
 ghost use Rattle.canary_measure.specs.declared.measured.Measured.{Measured};
-ghost use Rattle.canary_provider.specs.declared.failure.Fault.{Fault};
+ghost use Rattle.canary_provider.specs.declared.failure.ReplyFault.{ReplyFault};
 ghost use Rattle.canary_provider.specs.Answers.{is_success, is_memory, IsWhole, IsFound, Says};
 ghost use Rattle.canary_provider.specs.Answers.{IsMeasured, Refutes};
 ghost use Rattle.canary_provider.specs.Paths.{found};
 ghost use Rattle.canary_provider.specs.Texts.{IsShown};
 
-use crate::failure::{Fault, front_of, status_text, text_of};
+use crate::failure::{ReplyFault, front_of, status_text, text_of};
 use crate::path::Path;
-use crate::plan::Answer;
+use crate::plan::ReplyFormat;
 use crate::prometheus::answer;
 use crate::values::{Kind, items_of, plain, text_at, values_of};
 use canary_base::error::Memory;
@@ -27,7 +27,7 @@ use std::alloc::Global;
 /// `Memory` if an allocation was refused.
 pub fn measured_of(
     alloc: Global,
-    answer: &Answer,
+    answer: &ReplyFormat,
     status: u16,
     body: &[u8],
 ) -> Result<Result<Measured, FailureText>, Memory>
@@ -46,7 +46,7 @@ pub fn measured_of(
     match Value::from_slice(alloc, body, &mut scratch) {
         Ok(value) => told_of(alloc, says(alloc, answer, &value), body),
         Err(Error::OutOfMemory) => Err(Memory),
-        Err(_) => Ok(Err(text_of(alloc, Fault::Has("no JSON"), body)?)),
+        Err(_) => Ok(Err(text_of(alloc, ReplyFault::Has("no JSON"), body)?)),
     }
 }
 
@@ -96,19 +96,23 @@ fn error_text(
 }
 
 // What a value of JSON says.
-fn says<'a>(alloc: Global, asked: &Answer, value: &Value<'a>) -> Result<Measured, Fault<'a>>
+fn says<'a>(
+    alloc: Global,
+    asked: &ReplyFormat,
+    value: &Value<'a>,
+) -> Result<Measured, ReplyFault<'a>>
     ensures sound { IfOk result (λ m. Says asked.now (value_view value.now) m) }
     ensures complete { IfErr result
         (λ fault. Refutes (Says asked.now (value_view value.now)) fault) }
 {
     match asked {
-        Answer::Prometheus => answer(alloc, value),
-        Answer::Web(path) => at_path(alloc, path, value),
+        ReplyFormat::Prometheus => answer(alloc, value),
+        ReplyFormat::Web(path) => at_path(alloc, path, value),
     }
 }
 
 // What stands at the path.
-fn at_path<'a>(alloc: Global, path: &Path, value: &Value<'a>) -> Result<Measured, Fault<'a>>
+fn at_path<'a>(alloc: Global, path: &Path, value: &Value<'a>) -> Result<Measured, ReplyFault<'a>>
     ensures sound { IfOk result
         (λ m. IsFound (found path.now.steps.items (value_view value.now)) m) }
     ensures complete { IfErr result
@@ -116,12 +120,12 @@ fn at_path<'a>(alloc: Global, path: &Path, value: &Value<'a>) -> Result<Measured
 {
     match path.find(value) {
         Some(found) => whole(alloc, found),
-        None => Err(Fault::Has("nothing at the jsonPath")),
+        None => Err(ReplyFault::Has("nothing at the jsonPath")),
     }
 }
 
 // What a value is: a list is several values, and any other is one.
-fn whole<'a>(alloc: Global, value: &Value<'a>) -> Result<Measured, Fault<'a>>
+fn whole<'a>(alloc: Global, value: &Value<'a>) -> Result<Measured, ReplyFault<'a>>
     ensures sound { IfOk result
         (λ m. IsWhole (as_array (value_view value.now)) (value_view value.now) m) }
     ensures complete { IfErr result (λ fault.
@@ -136,12 +140,12 @@ fn whole<'a>(alloc: Global, value: &Value<'a>) -> Result<Measured, Fault<'a>>
 // The same, with the text of a fault.
 fn told_of(
     alloc: Global,
-    outcome: Result<Measured, Fault<'_>>,
+    outcome: Result<Measured, ReplyFault<'_>>,
     body: &[u8],
 ) -> Result<Result<Measured, FailureText>, Memory>
     ensures sound { IfOk result (λ told. IfOk told (λ m. outcome.entry ≡ Ok m)) }
     ensures fault { IfOk result (λ told. OnErr told
-        ((fault : Fault) × (outcome.entry ≡ Err fault) × (is_memory fault ≡ false))) }
+        ((fault : ReplyFault) × (outcome.entry ≡ Err fault) × (is_memory fault ≡ false))) }
     ensures shown { IfOk result (λ told. IfErr told (λ text. IsShown text)) }
 {
     match outcome {

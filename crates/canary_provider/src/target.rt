@@ -14,9 +14,9 @@ ghost use Rattle.canary_provider.specs.Plans.{is_authority, is_authority_byte, i
 ghost use Rattle.canary_provider.specs.Plans.{is_target_byte, begins_target, IsAddress, IsBase};
 ghost use Rattle.canary_provider.specs.Plans.{IsQueryLine, web_target, web_line, method_text};
 
-use crate::line::Line;
-use crate::refusal::Refusal;
-use crate::stop::Stop;
+use crate::line::HeaderLine;
+use crate::refusal::ProviderRefusal;
+use crate::stop::PlanFault;
 use canary_base::error::Memory;
 use percent_encoding::{AsciiSet, NON_ALPHANUMERIC, ascii_set, percent_encode};
 use std::alloc::Global;
@@ -37,7 +37,7 @@ const VERSION: &str = " HTTP/1.1";
 
 /// Where a provider is, and what is asked there.
 #[derive(Clone, Copy)]
-pub(crate) struct Place<'t> {
+pub(crate) struct ProviderTarget<'t> {
     /// The address, as it stands in the plan.
     pub(crate) address: &'t str,
     pub(crate) authority: &'t [u8],
@@ -66,27 +66,27 @@ impl Method {
 }
 
 /// The place at an address.
-pub(crate) fn place_of(text: &str) -> Result<Place<'_>, Refusal>
+pub(crate) fn provider_target(text: &str) -> Result<ProviderTarget<'_>, ProviderRefusal>
     ensures address { IfOk result (λ place. place.address.now ≡ text.now) }
     ensures parts { IfOk result
         (λ place. IsAddress text.now place.authority.now place.target.now) }
 {
     if text.starts_with("https:") {
-        return Err(Refusal::Https);
+        return Err(ProviderRefusal::Https);
     }
     let Some(rest) = text.strip_prefix("http://") else {
-        return Err(Refusal::Address);
+        return Err(ProviderRefusal::Address);
     };
     let rest = rest.as_bytes();
     let (authority, target) = rest.split_at(authority_len(rest));
     if is_authority(authority) && is_target(target) {
-        Ok(Place {
+        Ok(ProviderTarget {
             address: text,
             authority,
             target,
         })
     } else {
-        Err(Refusal::Address)
+        Err(ProviderRefusal::Address)
     }
 }
 
@@ -158,28 +158,37 @@ fn is_target_byte(byte: u8) -> bool
 }
 
 // The line of these three parts, one after another; refused as `Address` if they are no line.
-fn line_of(alloc: Global, first: &[u8], second: &[u8], third: &[u8]) -> Result<Line, Stop>
+fn line_of(
+    alloc: Global,
+    first: &[u8],
+    second: &[u8],
+    third: &[u8],
+) -> Result<HeaderLine, PlanFault>
     ensures { IfOk result (λ line. line ≡ first.now ++ second.now ++ third.now) }
 {
-    match Line::of_parts(alloc, first, second, third)? {
+    match HeaderLine::of_parts(alloc, first, second, third)? {
         Some(line) => Ok(line),
-        None => Err(Stop::Refused(Refusal::Address)),
+        None => Err(PlanFault::Refused(ProviderRefusal::Address)),
     }
 }
 
 /// The field `Host`.
-pub(crate) fn host_line(alloc: Global, place: Place<'_>) -> Result<Line, Stop>
+pub(crate) fn host_line(alloc: Global, place: ProviderTarget<'_>) -> Result<HeaderLine, PlanFault>
     ensures { IfOk result (λ line. line ≡ codes "Host: " ++ place.entry.authority.now) }
 {
     line_of(alloc, b"Host: ", place.authority, &[])
 }
 
 /// The first line of a query of Prometheus at one moment.
-pub(crate) fn query_line(alloc: Global, place: Place<'_>, query: &str) -> Result<Line, Stop>
+pub(crate) fn query_line(
+    alloc: Global,
+    place: ProviderTarget<'_>,
+    query: &str,
+) -> Result<HeaderLine, PlanFault>
     ensures { IfOk result (IsQueryLine place.entry.target.now query.now) }
 {
     if place.target.contains(&b'?') {
-        return Err(Stop::Refused(Refusal::Address));
+        return Err(PlanFault::Refused(ProviderRefusal::Address));
     }
     let asked = asked_of(alloc, query)?;
     let base = base_of(place.target);
@@ -222,7 +231,11 @@ fn base_of(target: &[u8]) -> &[u8]
 }
 
 /// The first line of a message to a service.
-pub(crate) fn web_line(alloc: Global, method: Method, place: Place<'_>) -> Result<Line, Stop>
+pub(crate) fn web_line(
+    alloc: Global,
+    method: Method,
+    place: ProviderTarget<'_>,
+) -> Result<HeaderLine, PlanFault>
     ensures { IfOk result (λ line. line ≡ web_line method place.entry.target.now) }
 {
     let front = joined(alloc, method.text().as_bytes(), b" ")?;

@@ -5,7 +5,7 @@ ghost use Rattle.json.specs.Value.{value_view, items_view};
 ghost use Rattle.canary_provider.specs.Answers.{text_at, text_item, sample_text, is_memory};
 ghost use Rattle.canary_provider.specs.Answers.{IsRead, IsValue, AreValues, Refutes};
 
-use crate::failure::Fault;
+use crate::failure::ReplyFault;
 use canary_decimal::reading::read;
 use canary_measure::measured::Given;
 use json::Value;
@@ -52,30 +52,30 @@ fn sample_text<'a>(value: &Value<'a>) -> Option<&'a str>
 }
 
 /// The number, NaN or infinity that a text says.
-pub(crate) fn number<'a>(alloc: Global, text: &'a str) -> Result<Given, Fault<'a>>
+pub(crate) fn number<'a>(alloc: Global, text: &'a str) -> Result<Given, ReplyFault<'a>>
     ensures sound { IfOk result (λ given. IsRead text.now given) }
     ensures complete { IfErr result (λ fault. Refutes (IsRead text.now) fault) }
 {
     match read(alloc, text)? {
         Some(reading) => Ok(Given::Read(reading)),
-        None => Err(Fault::Text("not a number", text)),
+        None => Err(ReplyFault::Text("not a number", text)),
     }
 }
 
 // What is no number.
-fn other<'a>(value: &Value<'a>) -> Fault<'a>
+fn other<'a>(value: &Value<'a>) -> ReplyFault<'a>
     ensures { is_memory result ≡ false }
 {
     match value {
-        Value::String(text) => Fault::Text("a text, and no number", text),
-        Value::Bool(_) => Fault::Has("true or false, and no number"),
-        Value::Array(_) => Fault::Has("a list, and no number"),
-        _ => Fault::Has("an object, and no number"),
+        Value::String(text) => ReplyFault::Text("a text, and no number", text),
+        Value::Bool(_) => ReplyFault::Has("true or false, and no number"),
+        Value::Array(_) => ReplyFault::Has("a list, and no number"),
+        _ => ReplyFault::Has("an object, and no number"),
     }
 }
 
 /// The value that is null or a number.
-pub(crate) fn plain<'a>(alloc: Global, value: &Value<'a>) -> Result<Given, Fault<'a>>
+pub(crate) fn plain<'a>(alloc: Global, value: &Value<'a>) -> Result<Given, ReplyFault<'a>>
     ensures sound { IfOk result (λ given. IsValue Kind.Plain (value_view value.now) given) }
     ensures complete { IfErr result
         (λ fault. Refutes (IsValue Kind.Plain (value_view value.now)) fault) }
@@ -90,19 +90,19 @@ pub(crate) fn plain<'a>(alloc: Global, value: &Value<'a>) -> Result<Given, Fault
 }
 
 // The value of a series.
-fn sample<'a>(alloc: Global, value: &Value<'a>) -> Result<Given, Fault<'a>>
+fn sample<'a>(alloc: Global, value: &Value<'a>) -> Result<Given, ReplyFault<'a>>
     ensures sound { IfOk result (λ given. IsValue Kind.Sample (value_view value.now) given) }
     ensures complete { IfErr result
         (λ fault. Refutes (IsValue Kind.Sample (value_view value.now)) fault) }
 {
     match sample_text(value) {
         Some(text) => number(alloc, text),
-        None => Err(Fault::Has("a series without a value")),
+        None => Err(ReplyFault::Has("a series without a value")),
     }
 }
 
 // The value of an item of a list, whose items are of that kind.
-fn value_of<'a>(alloc: Global, kind: Kind, value: &Value<'a>) -> Result<Given, Fault<'a>>
+fn value_of<'a>(alloc: Global, kind: Kind, value: &Value<'a>) -> Result<Given, ReplyFault<'a>>
     ensures sound { IfOk result (λ given. IsValue kind (value_view value.now) given) }
     ensures complete { IfErr result (λ fault. Refutes (IsValue kind (value_view value.now)) fault) }
 {
@@ -117,7 +117,7 @@ pub(crate) fn values_of<'a>(
     alloc: Global,
     kind: Kind,
     list: &[Value<'a>],
-) -> Result<Vec<Given>, Fault<'a>>
+) -> Result<Vec<Given>, ReplyFault<'a>>
     ensures sound { IfOk result (λ values. AreValues kind (items_view list.now) values.items) }
     ensures complete { IfErr result
         (λ fault. Refutes (AreValues kind (items_view list.now)) fault) }

@@ -1,4 +1,4 @@
--- What is watched is seen in whole lists as in tallies.
+-- What is tracked is seen in whole lists as in tallies.
 use Rattle.std.proofs.Common.{◌≡◌, ℕ, zero, suc, ◌+◌, List, [], ◌∷◌, ◌++◌, length, refl, ap, sym, ◌∙◌, length-append}
 use Rattle.std.specs.Prelude.{true, false, if◌then◌else◌, cond, map, filter, ◌==◌, Some, None, is_none, replicate}
 use Rattle.std.proofs.lemmas.List.{map-append}
@@ -6,13 +6,13 @@ use Rattle.canary_metric.specs.Counts.{counts, CountsOneMore}
 use Rattle.canary_release.specs.declared.effect.Recorded.{Recorded}
 use Rattle.canary_release.specs.declared.effect.Closing.{Closing}
 use Rattle.canary_release.specs.declared.effect.Effect.{Effect}
-use Rattle.canary_release.specs.declared.effect.Effect.TheVariants.{Told, Opened, Measured, Closed}
+use Rattle.canary_release.specs.declared.effect.Effect.TheVariants.{LineAdded, RunOpened, MeasurementRecorded, RunClosed}
 use Rattle.canary_release.specs.declared.runs.OpenRun.{OpenRun}
 use Rattle.canary_release.specs.declared.runs.Runs.{Runs}
-use Rattle.canary_release.specs.declared.stand.Stand.{Stand}
-use Rattle.canary_release.specs.Pasts.{Run, Past, change_at, opened_run, with_recorded, measured_in, closed_in, grows, is_open, measurement_of, counts_of, tallied, watched}
-use Rattle.canary_release.specs.Watching.{opened_now, counted, counted_in, is_other, happens, after_all}
-use Rattle.canary_release.specs.Courses.{Course, Watch, course_from}
+use Rattle.canary_release.specs.declared.state.ServiceState.{ServiceState}
+use Rattle.canary_release.specs.Pasts.{Run, Past, change_at, opened_run, with_recorded, measured_in, closed_in, past_with, is_open, measurement_of, counts_of, tallied, tracked}
+use Rattle.canary_release.specs.Watching.{opened_now, counted, counted_in, is_other, effect_applied, after_all}
+use Rattle.canary_release.specs.Evolutions.{Evolution, RunView, evolution_from}
 use Rattle.canary_release.specs.Desks.{watch_of}
 use Rattle.canary_release.specs.Laws.{WatchesAlike}
 
@@ -76,25 +76,25 @@ same_length : (f : Run → Run) (rs : List Run) → length (map f rs) ≡ length
 same_length f [] = refl
 same_length f (r ∷ rs) = ap suc (same_length f rs)
 
-one_alike : CountsOneMore → (p : Past) (x : Effect) → watched (grows p x) ≡ happens (watched p) x
-one_alike one p (Told line) = refl
-one_alike one p (Opened x) =
+one_alike : CountsOneMore → (p : Past) (x : Effect) → tracked (past_with p x) ≡ effect_applied (tracked p) x
+one_alike one p (LineAdded line) = refl
+one_alike one p (RunOpened x) =
     let r = opened_run x in
     let opened = open_more p.runs r refl ∙ (λ i. map tallied (filter is_open p.runs) ++ record (opened_now x) { tallies = none_alike (length x.analysis.metrics) i } ∷ []) in
     λ i. record { count = one_longer p.runs r i; open_runs = opened i }
-one_alike one p (Measured x) =
+one_alike one p (MeasurementRecorded x) =
     let going = mapped (measured_in x) (counted_in x) (run_alike one x) p.runs in
     λ i. record { count = same_length (measured_in x) p.runs i; open_runs = going i }
-one_alike one p (Closed x tallies) = λ i. record { count = same_length (closed_in x) p.runs i; open_runs = others x p.runs i }
+one_alike one p (RunClosed x tallies) = λ i. record { count = same_length (closed_in x) p.runs i; open_runs = others x p.runs i }
 
 pub watches_alike : CountsOneMore → WatchesAlike
 watches_alike one p [] = refl
-watches_alike one p (x ∷ xs) = watches_alike one (grows p x) xs ∙ ap (λ w. after_all w xs) (one_alike one p x)
+watches_alike one p (x ∷ xs) = watches_alike one (past_with p x) xs ∙ ap (λ w. after_all w xs) (one_alike one p x)
 
--- the model's watch is the watch of what is kept
-pub one_watch : WatchesAlike → (p : Past) (kept : Runs) → kept ≡ watched p → watch_of p ≡ after_all kept
+-- the model's view of runs is the view of runs of what is kept
+pub one_watch : WatchesAlike → (p : Past) (kept : Runs) → kept ≡ tracked p → watch_of p ≡ after_all kept
 one_watch alike p kept known = λ i xs. (alike p xs ∙ ap (λ (w : Runs). after_all w xs) (sym known)) i
 
--- so a rule, which is told of a course alone, says of the one what it says of the other
-pub rules_alike : WatchesAlike → {A : Type 0} (rule : Course → A) (s : Stand) (p : Past) (kept : Runs) → kept ≡ watched p → rule (course_from s (watch_of p)) ≡ rule (course_from s (after_all kept))
-rules_alike alike rule s p kept known = ap (λ (w : Watch). rule (course_from s w)) (one_watch alike p kept known)
+-- so a rule, which is told of an evolution alone, says of the one what it says of the other
+pub rules_alike : WatchesAlike → {A : Type 0} (rule : Evolution → A) (s : ServiceState) (p : Past) (kept : Runs) → kept ≡ tracked p → rule (evolution_from s (watch_of p)) ≡ rule (evolution_from s (after_all kept))
+rules_alike alike rule s p kept known = ap (λ (w : RunView). rule (evolution_from s w)) (one_watch alike p kept known)

@@ -16,9 +16,9 @@ use Rattle.canary_plan.specs.declared.refusal.Refusal.{Refusal}
 use Rattle.canary_plan.specs.Plans.{Templates, template_of}
 use Rattle.canary_plan.specs.Commands.{subject_of}
 use Rattle.canary_release.specs.declared.reply.Reply.{Reply}
-use Rattle.canary_release.specs.Courses.{Course}
-use Rattle.canary_release.specs.Commands.{Acted}
-use Rattle.canary_release.specs.Desks.{ModelService, Desk, Change, Ruling, rules, after, desk_after, course_of, act_new, act_passed, adds_unless, newest_number, revision_refusal, revisions_of, newest, with_revision, rule_template, rule_service, ruling, ruling_on, apply, machine}
+use Rattle.canary_release.specs.Evolutions.{Evolution}
+use Rattle.canary_release.specs.Commands.{ModelResult}
+use Rattle.canary_release.specs.Desks.{ModelService, Desk, Change, ModelDecision, rules, after, desk_after, model_evolution, act_new, act_passed, adds_unless, newest_number, revision_refusal, revisions_of, newest, with_revision, rule_template, rule_service, model_decision, ruling_on, apply, machine}
 use Rattle.canary_release.specs.Desks.Change.{Nothing, Adds, Becomes}
 use Rattle.canary_release.specs.Laws.{is_on, concerns, concerning, is_reply_on, replies_on, AgreeOn, AreIndependent}
 
@@ -43,16 +43,16 @@ adds_no_service (Some refusal) t = tt
 pub template_changes : (found : Option Known) (spec : TemplateSpec) → ChangesNoService (rule_template found spec).change
 template_changes found spec = adds_no_service (revision_refusal (newest_number found) spec) (template_of spec (newest_number found + 1))
 
-rules_change : (r : Result Acted Refusal) → ChangesNoTemplate (rules r).change
+rules_change : (r : Result ModelResult Refusal) → ChangesNoTemplate (rules r).change
 rules_change (Ok a) = tt
 rules_change (Err refusal) = tt
 
-pub service_changes : (known : Templates) (found : Option Course) (now : ℕ) (command : Command) → ChangesNoTemplate (rule_service known found now command).change
+pub service_changes : (known : Templates) (found : Option Evolution) (now : ℕ) (command : Command) → ChangesNoTemplate (rule_service known found now command).change
 service_changes known None now command = rules_change (act_new known command now)
 service_changes known (Some c) now command = rules_change (act_passed known command c now)
 
-pub changes_on : (desk : Desk) (now : ℕ) (command : Command) → ChangesNoTemplate (rule_service (newest desk.templates) (option_map course_of (get desk.services (subject_of command))) now command).change
-changes_on desk now command = service_changes (newest desk.templates) (option_map course_of (get desk.services (subject_of command))) now command
+pub changes_on : (desk : Desk) (now : ℕ) (command : Command) → ChangesNoTemplate (rule_service (newest desk.templates) (option_map model_evolution (get desk.services (subject_of command))) now command).change
+changes_on desk now command = service_changes (newest desk.templates) (option_map model_evolution (get desk.services (subject_of command))) now command
 
 -- What is found after a change.
 
@@ -85,9 +85,9 @@ same_there name desk other command (Adds t) h there =
 same_there name desk other command (Becomes c) h there =
     record {
       templates = h.templates;
-      service = put_at desk command (after (get desk.services (subject_of command)) c.stand c.effects) name
-          ∙ (λ i. cond (bytes_eq name (subject_of command)) (Some (after (there i) c.stand c.effects)) (h.service i))
-          ∙ sym (put_at other command (after (get other.services (subject_of command)) c.stand c.effects) name);
+      service = put_at desk command (after (get desk.services (subject_of command)) c.service c.effects) name
+          ∙ (λ i. cond (bytes_eq name (subject_of command)) (Some (after (there i) c.service c.effects)) (h.service i))
+          ∙ sym (put_at other command (after (get other.services (subject_of command)) c.service c.effects) name);
     }
 
 -- and so does a change of the templates
@@ -105,7 +105,7 @@ left_alone : (name : List ℕ) (desk other : Desk) (command : Command) (x : Chan
 left_alone name desk other command Nothing none apart h = h
 left_alone name desk other command (Adds t) none apart h = absurd none
 left_alone name desk other command (Becomes c) none apart h =
-    let m : ModelService = after (get desk.services (subject_of command)) c.stand c.effects in
+    let m : ModelService = after (get desk.services (subject_of command)) c.service c.effects in
     record {
       templates = h.templates;
       service = put_at desk command m name ∙ ap (λ b. cond b (Some m) (get desk.services name)) apart ∙ h.service;
@@ -116,23 +116,23 @@ left_alone name desk other command (Becomes c) none apart h =
 named_so : (name : List ℕ) (command : Command) → bytes_eq name (subject_of command) ≡ true → name ≡ subject_of command
 named_so name command e = (bytes_eq-Decides name (subject_of command)).0 e
 
--- the rulings are the same, and so the desks agree afterwards
+-- the decisions are the same, and so the desks agree afterwards
 abbrev pub StepsAlike : List ℕ → Desk → Desk → ℕ → Command → Type 0
 StepsAlike name desk other now command = ((apply desk now command).reply ≡ (apply other now command).reply) × AgreeOn name (apply desk now command).desk (apply other now command).desk
 
 on_it : (name : List ℕ) (desk other : Desk) (now : ℕ) (command : Command) → AgreeOn name desk other → bytes_eq name (subject_of command) ≡ true → StepsAlike name desk other now command
 on_it name desk other now command h e =
     let there : get desk.services (subject_of command) ≡ get other.services (subject_of command) = subst (λ n. get desk.services n ≡ get other.services n) (named_so name command e) h.service in
-    let same : ruling_on desk now command ≡ ruling_on other now command = λ i. ruling (newest_alike desk other h.templates i) (option_map course_of (there i)) now command in (
-      ap (λ (r : Ruling). r.reply) same,
-      subst (λ (r : Ruling). AgreeOn name (desk_after desk command (ruling_on desk now command).change) (desk_after other command r.change)) same (same_there name desk other command (ruling_on desk now command).change h there),
+    let same : ruling_on desk now command ≡ ruling_on other now command = λ i. model_decision (newest_alike desk other h.templates i) (option_map model_evolution (there i)) now command in (
+      ap (λ (r : ModelDecision). r.reply) same,
+      subst (λ (r : ModelDecision). AgreeOn name (desk_after desk command (ruling_on desk now command).change) (desk_after other command r.change)) same (same_there name desk other command (ruling_on desk now command).change h there),
     )
 
 adds_it : (name : List ℕ) (desk other : Desk) (now : ℕ) (spec : TemplateSpec) → AgreeOn name desk other → StepsAlike name desk other now (Template spec)
 adds_it name desk other now spec h =
     let same : rule_template (newest desk.templates spec.name) spec ≡ rule_template (newest other.templates spec.name) spec = (λ i. rule_template (newest_alike desk other h.templates i spec.name) spec) in (
-      ap (λ (r : Ruling). r.reply) same,
-      subst (λ (r : Ruling). AgreeOn name (desk_after desk (Template spec) (rule_template (newest desk.templates spec.name) spec).change) (desk_after other (Template spec) r.change)) same
+      ap (λ (r : ModelDecision). r.reply) same,
+      subst (λ (r : ModelDecision). AgreeOn name (desk_after desk (Template spec) (rule_template (newest desk.templates spec.name) spec).change) (desk_after other (Template spec) r.change)) same
           (same_added name desk other (Template spec) (rule_template (newest desk.templates spec.name) spec).change (template_changes (newest desk.templates spec.name) spec) h),
     )
 

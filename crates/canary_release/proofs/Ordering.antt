@@ -25,14 +25,14 @@ use Rattle.canary_plan.specs.Commands.{subject_of}
 use Rattle.canary_release.specs.declared.runs.OpenRun.{OpenRun}
 use Rattle.canary_release.specs.declared.runs.Runs.{Runs}
 use Rattle.canary_release.specs.declared.service.ServiceParts.{ServiceParts}
-use Rattle.canary_release.specs.Pasts.{Run, Past, no_past, grows_by, watched}
+use Rattle.canary_release.specs.Pasts.{Run, Past, no_past, past_with_all, tracked}
 use Rattle.canary_release.specs.Watching.{after_all}
-use Rattle.canary_release.specs.Services.{is_going, is_held}
-use Rattle.canary_release.specs.Courses.{Course, Watch, course_from, runs_now, has_number}
-use Rattle.canary_release.specs.Commands.{Acted, unless, leads}
-use Rattle.canary_release.specs.Desks.{ModelService, Desk, no_desk, Change, course_of, watch_of, rules, act_passed, act_new, new_service, RevisionMap, revisions_of, newest, with_revision, newest_number, revision_refusal, adds_unless, rule_service, ruling, ruling_on, after, desk_after, apply}
+use Rattle.canary_release.specs.Services.{is_in_progress, is_held}
+use Rattle.canary_release.specs.Evolutions.{Evolution, RunView, evolution_from, runs_now, has_number}
+use Rattle.canary_release.specs.Commands.{ModelResult, unless, succeeds_with}
+use Rattle.canary_release.specs.Desks.{ModelService, Desk, no_desk, Change, model_evolution, watch_of, rules, act_passed, act_new, new_service, RevisionMap, revisions_of, newest, with_revision, newest_number, revision_refusal, adds_unless, rule_service, model_decision, ruling_on, after, desk_after, apply}
 use Rattle.canary_release.specs.Desks.Change.{Nothing, Adds, Becomes}
-use Rattle.canary_release.specs.Shapes.{kept_course, kept_after, shape}
+use Rattle.canary_release.specs.Stored.{stored_evolution, stored_after, stored_form}
 use Rattle.canary_release.specs.Parts.{runs_wanted, is_misplaced, is_misnumbered, repeats_number, has_wrong_tallies, is_misbound, has_other_revisions, is_background_run, is_step_run, has_background_run, is_astray, is_judged, is_broken}
 use Rattle.canary_release.specs.Passing.{next_move, is_by, pass}
 use Rattle.canary_release.specs.PartsLaws.{PassingKeepsParts, ActingKeepsParts, NewPartsAreUnbroken}
@@ -75,12 +75,12 @@ no_cause (suc k) (c ∷ causes) b none at = no_cause k causes b (neither c (list
 
 pub parts_say : (p : ServiceParts) → is_broken p ≡ false → PartsSay p
 parts_say p e =
-    let stand = p.stand in
-    let going = is_going stand.state in
+    let service = p.service in
+    let going = is_in_progress service.state in
     let runs = p.runs.open_runs in
     let causes : List Bool = (
-    is_misplaced stand
-    ∷ nat_lt stand.last stand.entered
+    is_misplaced service
+    ∷ nat_lt service.last service.entered
     ∷ nat_lt 1000000 p.runs.count
     ∷ (going && nat_lt (1000000 - p.runs.count) (runs_wanted p))
     ∷ list_any (is_misnumbered p.runs.count) runs
@@ -89,15 +89,15 @@ parts_say p e =
     ∷ (not going && nat_lt 0 (length runs))
     ∷ nat_lt 1 (length (filter is_background_run runs))
     ∷ nat_lt 1 (length (filter is_step_run runs))
-    ∷ list_any (is_astray stand) runs
-    ∷ (has_background_run p && (not stand.background || stand.background_hold))
-    ∷ (is_held stand && not going)
-    ∷ (stand.background && is_none stand.strategy.background)
-    ∷ (stand.background_hold && not stand.background)
+    ∷ list_any (is_astray service) runs
+    ∷ (has_background_run p && (not service.background || service.background_hold))
+    ∷ (is_held service && not going)
+    ∷ (service.background && is_none service.strategy.background)
+    ∷ (service.background_hold && not service.background)
     ∷ list_any is_judged runs
-    ∷ is_by stand.last (next_move stand)
-    ∷ is_misbound stand
-    ∷ list_any (has_other_revisions stand) runs
+    ∷ is_by service.last (next_move service)
+    ∷ is_misbound service
+    ∷ list_any (has_other_revisions service) runs
     ∷ []
     ) in
     let within = no_cause 4 causes (list_any (is_misnumbered p.runs.count) runs) e refl in
@@ -107,35 +107,35 @@ parts_say p e =
 
 -- A service.
 
-to_lists : (ts : RevisionMap) (s : ModelService) (rs : List Run) → AllByRecursion (IsRun ts s) rs → AllByRecursion (HasLists ts s.stand.strategy s.past.measurements) rs
-to_lists ts s rs h = each (IsRun ts s) (HasLists ts s.stand.strategy s.past.measurements) (λ r k. record { binding = k.binding; analysis = k.analysis; one_each = k.one_each; lists = k.lists }) rs h
+to_lists : (ts : RevisionMap) (s : ModelService) (rs : List Run) → AllByRecursion (IsRun ts s) rs → AllByRecursion (HasLists ts s.service.strategy s.past.measurements) rs
+to_lists ts s rs h = each (IsRun ts s) (HasLists ts s.service.strategy s.past.measurements) (λ r k. record { binding = k.binding; analysis = k.analysis; one_each = k.one_each; lists = k.lists }) rs h
 
-from_lists : (ts : RevisionMap) (s : ModelService) (rs : List Run) → AllByRecursion (HasLists ts s.stand.strategy s.past.measurements) rs → AllByRecursion (IsRun ts s) rs
-from_lists ts s rs h = each (HasLists ts s.stand.strategy s.past.measurements) (IsRun ts s) (λ r k. record { binding = k.binding; analysis = k.analysis; one_each = k.one_each; lists = k.lists }) rs h
+from_lists : (ts : RevisionMap) (s : ModelService) (rs : List Run) → AllByRecursion (HasLists ts s.service.strategy s.past.measurements) rs → AllByRecursion (IsRun ts s) rs
+from_lists ts s rs h = each (HasLists ts s.service.strategy s.past.measurements) (IsRun ts s) (λ r k. record { binding = k.binding; analysis = k.analysis; one_each = k.one_each; lists = k.lists }) rs h
 
-pub past_ordered : (ts : RevisionMap) (name : List ℕ) (m : ModelService) → IsInOrder ts name m → IsOrdered ts m.stand.strategy m.past
+pub past_ordered : (ts : RevisionMap) (name : List ℕ) (m : ModelService) → IsInOrder ts name m → IsOrdered ts m.service.strategy m.past
 past_ordered ts name m o = record { numbered = o.numbered; runs = to_lists ts m m.past.runs o.runs; measured = o.measured }
 
 -- the change of a service that was found, and what came of it
-pub record HasBecome (ts : RevisionMap) (name : List ℕ) (m : ModelService) (command : Command) (c : Course) : Type 0 where
-  pub order : IsInOrder ts name (after (Some m) c.stand c.effects)
-  pub following : IsFollowing ts m.stand (watched m.past) c
-  pub bound : c.stand.bound ≡ bound_after (newest ts) command (Some m) c.stand.strategy
+pub record HasBecome (ts : RevisionMap) (name : List ℕ) (m : ModelService) (command : Command) (c : Evolution) : Type 0 where
+  pub order : IsInOrder ts name (after (Some m) c.service c.effects)
+  pub following : IsFollowing ts m.service (tracked m.past) c
+  pub bound : c.service.bound ≡ bound_after (newest ts) command (Some m) c.service.strategy
 
-service_becomes : WatchesAlike → PassingKeepsParts → ActingKeepsParts → (ts : RevisionMap) → AllBound ts → (name : List ℕ) (m : ModelService) (command : Command) (now : ℕ) (a : Acted) → IsInOrder ts name m → act_passed (newest ts) command (course_of m) now ≡ Ok a → HasBecome ts name m command a.course
+service_becomes : WatchesAlike → PassingKeepsParts → ActingKeepsParts → (ts : RevisionMap) → AllBound ts → (name : List ℕ) (m : ModelService) (command : Command) (now : ℕ) (a : ModelResult) → IsInOrder ts name m → act_passed (newest ts) command (model_evolution m) now ≡ Ok a → HasBecome ts name m command a.evolution
 service_becomes alike passing acting ts all name m command now a o e =
-    let w : Runs = watched m.past in
-    let accepted : IsTrue (is_accepted m.stand.strategy) = subst (λ (st : CheckedStrategy). IsTrue (is_accepted st)) (sym o.strategy) (strategy_accepted (newest ts) m.made o.accepted) in
-    let fit : IsTrue (are_fit m.stand.bound) = fit_in ts m.stand all o.bound in
+    let w : Runs = tracked m.past in
+    let accepted : IsTrue (is_accepted m.service.strategy) = subst (λ (st : CheckedStrategy). IsTrue (is_accepted st)) (sym o.strategy) (strategy_accepted (newest ts) m.made o.accepted) in
+    let fit : IsTrue (are_fit m.service.bound) = fit_in ts m.service all o.bound in
     let same : watch_of m.past ≡ after_all w = one_watch alike m.past w refl in
-    let kept : act_passed (newest ts) command (kept_course (shape m)) now ≡ Ok a = ap (λ (v : Watch). act_passed (newest ts) command (course_from m.stand v) now) (sym same) ∙ e in
-    let f0 : IsFollowing ts m.stand w (kept_course (shape m)) = record { strategy = refl; name = refl; watch = refl; bound = o.bound; wholly = λ g. (bound_going m.stand (fit_of (shape m) o.parts).0 g).0; allowed = tt } in
-    let idle = (fit_of (kept_after (pass (kept_course (shape m)) now)) (passing (shape m) now accepted fit o.parts)).0.idle in
-    let f : IsFollowing ts m.stand w a.course = follows ts m.stand w (parts_say (shape m) o.parts).numbered command (kept_course (shape m)) now a idle f0 kept in
-    let unbroken : is_broken (kept_after a.course) ≡ false = (acting (newest ts) command (shape m) now a accepted fit o.parts kept (fit_in ts a.course.stand all f.bound)).0 in
-    let grown : Past = grows_by m.past a.course.effects in
-    let now_watched : runs_now a.course ≡ watched grown = (λ i. f.watch i a.course.effects) ∙ sym (alike m.past a.course.effects) in
-    let ordered : IsOrdered ts a.course.stand.strategy grown = subst (λ (st : CheckedStrategy). IsOrdered ts st grown) (sym f.strategy) (ordered_after_all alike ts m.stand.strategy m.past a.course.effects f.allowed (past_ordered ts name m o)) in
+    let kept : act_passed (newest ts) command (stored_evolution (stored_form m)) now ≡ Ok a = ap (λ (v : RunView). act_passed (newest ts) command (evolution_from m.service v) now) (sym same) ∙ e in
+    let f0 : IsFollowing ts m.service w (stored_evolution (stored_form m)) = record { strategy = refl; name = refl; watch = refl; bound = o.bound; wholly = λ g. (bound_going m.service (fit_of (stored_form m) o.parts).0 g).0; allowed = tt } in
+    let idle = (fit_of (stored_after (pass (stored_evolution (stored_form m)) now)) (passing (stored_form m) now accepted fit o.parts)).0.idle in
+    let f : IsFollowing ts m.service w a.evolution = follows ts m.service w (parts_say (stored_form m) o.parts).numbered command (stored_evolution (stored_form m)) now a idle f0 kept in
+    let unbroken : is_broken (stored_after a.evolution) ≡ false = (acting (newest ts) command (stored_form m) now a accepted fit o.parts kept (fit_in ts a.evolution.service all f.bound)).0 in
+    let grown : Past = past_with_all m.past a.evolution.effects in
+    let now_watched : runs_now a.evolution ≡ tracked grown = (λ i. f.watch i a.evolution.effects) ∙ sym (alike m.past a.evolution.effects) in
+    let ordered : IsOrdered ts a.evolution.service.strategy grown = subst (λ (st : CheckedStrategy). IsOrdered ts st grown) (sym f.strategy) (ordered_after_all alike ts m.service.strategy m.past a.evolution.effects f.allowed (past_ordered ts name m o)) in
     record {
       order =
           record {
@@ -145,15 +145,15 @@ service_becomes alike passing acting ts all name m command now a o e =
             accepted = o.accepted;
             bound = f.bound;
             numbered = ordered.numbered;
-            runs = from_lists ts (after (Some m) a.course.stand a.course.effects) grown.runs ordered.runs;
+            runs = from_lists ts (after (Some m) a.evolution.service a.evolution.effects) grown.runs ordered.runs;
             measured = ordered.measured;
-            parts = ap (λ (v : Runs). is_broken (record { stand = a.course.stand; runs = v })) (sym now_watched) ∙ unbroken;
+            parts = ap (λ (v : Runs). is_broken (record { service = a.evolution.service; runs = v })) (sym now_watched) ∙ unbroken;
           };
       following = f;
-      bound = binds (newest ts) m command (course_of m) now a refl refl e ∙ ap (bound_after (newest ts) command (Some m)) (sym f.strategy);
+      bound = binds (newest ts) m command (model_evolution m) now a refl refl e ∙ ap (bound_after (newest ts) command (Some m)) (sym f.strategy);
     }
 
-service_begins : NewPartsAreUnbroken → (ts : RevisionMap) (spec : ServiceSpec) (now : ℕ) → strategy_refusal (newest ts) spec ≡ None → IsInOrder ts spec.name (after None (new_service spec now).stand (new_service spec now).effects)
+service_begins : NewPartsAreUnbroken → (ts : RevisionMap) (spec : ServiceSpec) (now : ℕ) → strategy_refusal (newest ts) spec ≡ None → IsInOrder ts spec.name (after None (new_service spec now).service (new_service spec now).effects)
 service_begins adding ts spec now none =
     record {
       named = refl;
@@ -175,11 +175,11 @@ OrderIf ts name (Some m) = IsInOrder ts name m
 
 -- a new service is bound as its command binds it, it has no runs, and what happened to it may
 -- happen
-pub record HasBegun (ts : RevisionMap) (command : Command) (c : Course) : Type 0 where
-  pub order : IsInOrder ts (subject_of command) (after None c.stand c.effects)
-  pub bound : c.stand.bound ≡ bound_after (newest ts) command None c.stand.strategy
-  pub no_runs : (grows_by no_past c.effects).runs ≡ []
-  pub allowed : AreAllowed ts c.stand.strategy (watched no_past) c.effects
+pub record HasBegun (ts : RevisionMap) (command : Command) (c : Evolution) : Type 0 where
+  pub order : IsInOrder ts (subject_of command) (after None c.service c.effects)
+  pub bound : c.service.bound ≡ bound_after (newest ts) command None c.service.strategy
+  pub no_runs : (past_with_all no_past c.effects).runs ≡ []
+  pub allowed : AreAllowed ts c.service.strategy (tracked no_past) c.effects
 
 -- the next revision of a template, which has room
 pub record HasAdded (ts : RevisionMap) (name : List ℕ) (t : Template) : Type 0 where
@@ -197,11 +197,11 @@ no_more_rows true h = cc h
 no_more_rows false h = refl
 
 module _ (alike : WatchesAlike) (passing : PassingKeepsParts) (acting : ActingKeepsParts) (adding : NewPartsAreUnbroken) (ts : RevisionMap) (all : AllBound ts) where
-  came_old : (m : ModelService) (command : Command) (now : ℕ) → IsInOrder ts (subject_of command) m → (r : Result Acted Refusal) → act_passed (newest ts) command (course_of m) now ≡ r → HasCome ts (Some m) command (rules r).change
+  came_old : (m : ModelService) (command : Command) (now : ℕ) → IsInOrder ts (subject_of command) m → (r : Result ModelResult Refusal) → act_passed (newest ts) command (model_evolution m) now ≡ r → HasCome ts (Some m) command (rules r).change
   came_old m command now o (Ok a) e = service_becomes alike passing acting ts all (subject_of command) m command now a o e
   came_old m command now o (Err refusal) e = tt
 
-  came_new : (spec : ServiceSpec) (now : ℕ) (refusal : Option Refusal) → strategy_refusal (newest ts) spec ≡ refusal → HasCome ts None (AddService spec) (rules (unless refusal (leads (new_service spec now)))).change
+  came_new : (spec : ServiceSpec) (now : ℕ) (refusal : Option Refusal) → strategy_refusal (newest ts) spec ≡ refusal → HasCome ts None (AddService spec) (rules (unless refusal (succeeds_with (new_service spec now)))).change
   came_new spec now None e = record { order = service_begins adding ts spec now e; bound = refl; no_runs = refl; allowed = (tt, tt) }
   came_new spec now (Some refusal) e = tt
 
@@ -216,9 +216,9 @@ module _ (alike : WatchesAlike) (passing : PassingKeepsParts) (acting : ActingKe
   came_to_none (Tick name) now = tt
   came_to_none (Report report) now = tt
 
-  came_to_service : (found : Option ModelService) (now : ℕ) (command : Command) → OrderIf ts (subject_of command) found → HasCome ts found command (rule_service (newest ts) (option_map course_of found) now command).change
+  came_to_service : (found : Option ModelService) (now : ℕ) (command : Command) → OrderIf ts (subject_of command) found → HasCome ts found command (rule_service (newest ts) (option_map model_evolution found) now command).change
   came_to_service None now command o = came_to_none command now
-  came_to_service (Some m) now command o = came_old m command now o (act_passed (newest ts) command (course_of m) now) refl
+  came_to_service (Some m) now command o = came_old m command now o (act_passed (newest ts) command (model_evolution m) now) refl
 
   came_adds : (found : Option ModelService) (spec : TemplateSpec) (refusal : Option Refusal) → revision_refusal (newest_number (newest ts spec.name)) spec ≡ refusal → HasCome ts found (AddTemplate spec) (adds_unless refusal (template_of spec (newest_number (newest ts spec.name) + 1))).change
   came_adds found spec None e =
@@ -227,7 +227,7 @@ module _ (alike : WatchesAlike) (passing : PassingKeepsParts) (acting : ActingKe
       record { order = record { named = refl; accepted = h.0; bound = refl }; room = no_more_rows (nat_le 1000000 n) h.1 }
   came_adds found spec (Some refusal) e = tt
 
-  pub came : (found : Option ModelService) (now : ℕ) (command : Command) → OrderIf ts (subject_of command) found → HasCome ts found command (ruling (newest ts) (option_map course_of found) now command).change
+  pub came : (found : Option ModelService) (now : ℕ) (command : Command) → OrderIf ts (subject_of command) found → HasCome ts found command (model_decision (newest ts) (option_map model_evolution found) now command).change
   came found now (AddTemplate spec) o = came_adds found spec (revision_refusal (newest_number (newest ts spec.name)) spec) refl
   came found now (AddService spec) o = came_to_service found now (AddService spec) o
   came found now (Start name version) o = came_to_service found now (Start name version) o
@@ -256,7 +256,7 @@ run_kept : (ts other : RevisionMap) (s : ModelService) → Extends ts other → 
 run_kept ts other s more r h =
     record {
       binding = restricted ts h.binding;
-      analysis = ap (λ (known : Templates). analysis_at (bound_of known s.stand.strategy) r.step) (sym (same_known ts other h.binding more)) ∙ h.analysis;
+      analysis = ap (λ (known : Templates). analysis_at (bound_of known s.service.strategy) r.step) (sym (same_known ts other h.binding more)) ∙ h.analysis;
       one_each = h.one_each;
       lists = h.lists;
     }
@@ -268,7 +268,7 @@ order_kept ts other name s more knows o =
       shown = o.shown;
       strategy = o.strategy;
       accepted = stays_accepted (newest ts) (newest other) s.made knows o.accepted;
-      bound = still_bound ts other s.stand more o.bound;
+      bound = still_bound ts other s.service more o.bound;
       numbered = o.numbered;
       runs = each (IsRun ts s) (IsRun other s) (run_kept ts other s more) s.past.runs o.runs;
       measured = o.measured;
@@ -304,7 +304,7 @@ order_of desk o name = by (get desk.services name) refl
     by None e = tt
     by (Some s) e = o.services name s e
 
-becomes_order : (ts : RevisionMap) (found : Option ModelService) (command : Command) (c : Course) → HasCome ts found command (Becomes c) → IsInOrder ts (subject_of command) (after found c.stand c.effects)
+becomes_order : (ts : RevisionMap) (found : Option ModelService) (command : Command) (c : Evolution) → HasCome ts found command (Becomes c) → IsInOrder ts (subject_of command) (after found c.service c.effects)
 becomes_order ts None command c h = h.order
 becomes_order ts (Some m) command c h = h.order
 
@@ -346,7 +346,7 @@ order_after desk command (Becomes c) o h =
     let name = subject_of command in
     record {
       templates = o.templates;
-      services = found_inserted (IsInOrder desk.templates) desk.services name (after (get desk.services name) c.stand c.effects) (becomes_order desk.templates (get desk.services name) command c h) o.services;
+      services = found_inserted (IsInOrder desk.templates) desk.services name (after (get desk.services name) c.service c.effects) (becomes_order desk.templates (get desk.services name) command c h) o.services;
     }
 
 pub came_on : WatchesAlike → PassingKeepsParts → ActingKeepsParts → NewPartsAreUnbroken → (desk : Desk) (now : ℕ) (command : Command) → AreInOrder desk → HasCome desk.templates (get desk.services (subject_of command)) command (ruling_on desk now command).change

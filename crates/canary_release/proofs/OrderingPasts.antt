@@ -13,12 +13,12 @@ use Rattle.canary_release.specs.Desks.{RevisionMap}
 use Rattle.canary_release.specs.declared.effect.Recorded.{Recorded}
 use Rattle.canary_release.specs.declared.effect.Closing.{Closing}
 use Rattle.canary_release.specs.declared.effect.Effect.{Effect}
-use Rattle.canary_release.specs.declared.effect.Effect.TheVariants.{Told, Opened, Measured, Closed}
+use Rattle.canary_release.specs.declared.effect.Effect.TheVariants.{LineAdded, RunOpened, MeasurementRecorded, RunClosed}
 use Rattle.canary_release.specs.declared.runs.OpenRun.{OpenRun}
 use Rattle.canary_release.specs.declared.runs.Runs.{Runs}
-use Rattle.canary_release.specs.Pasts.{Run, Past, change_at, opened_run, with_recorded, measured_in, closed_in, grows, grows_by, is_open, measurement_of, counts_of, tallied, watched}
-use Rattle.canary_release.specs.Watching.{happens}
-use Rattle.canary_release.specs.Courses.{has_number}
+use Rattle.canary_release.specs.Pasts.{Run, Past, change_at, opened_run, with_recorded, measured_in, closed_in, past_with, past_with_all, is_open, measurement_of, counts_of, tallied, tracked}
+use Rattle.canary_release.specs.Watching.{effect_applied}
+use Rattle.canary_release.specs.Evolutions.{has_number}
 use Rattle.canary_release.specs.Laws.{WatchesAlike}
 use Rattle.canary_release.specs.Order.{known_by, AreNumbered, AreOrdered, is_of, AreLists, is_measured_by, is_of_some}
 use Rattle.canary_release.proofs.OrderingBasics.{other_number, not_same, some_same, each, each_both, each_and_more, each_mapped}
@@ -333,9 +333,9 @@ has_place x w t is_tally q number one =
     let below : nat_lt x.metric (length q.lists) ≡ true = grind (arith, nat_tests, h, many) in
     λ i. eq-eqb x.run q.number (sym number) i && below i
 
-pub ordered_after : (ts : RevisionMap) (st : CheckedStrategy) (p : Past) (x : Effect) → Allowed ts st (watched p) x → IsOrdered ts st p → IsOrdered ts st (grows p x)
-ordered_after ts st p (Told line) a o = record { numbered = o.numbered; runs = o.runs; measured = o.measured }
-ordered_after ts st p (Opened x) a o =
+pub ordered_after : (ts : RevisionMap) (st : CheckedStrategy) (p : Past) (x : Effect) → Allowed ts st (tracked p) x → IsOrdered ts st p → IsOrdered ts st (past_with p x)
+ordered_after ts st p (LineAdded line) a o = record { numbered = o.numbered; runs = o.runs; measured = o.measured }
+ordered_after ts st p (RunOpened x) a o =
     let number : x.run ≡ length p.runs + 1 = a.number in
     let all_below : AllByRecursion (λ (y : Recorded). y.run < x.run) p.measurements =
     each (IsOfRun p.runs) (λ (y : Recorded). y.run < x.run) (λ y e. let h : y.run < 1 + length p.runs = number_within 1 p.runs y o.numbered e in omega (arith, h, number)) p.measurements (all_true (is_of_some p.runs) p.measurements o.measured) in
@@ -348,7 +348,7 @@ ordered_after ts st p (Opened x) a o =
           true_all (is_of_some (p.runs ++ opened_run x ∷ [])) p.measurements
           (each (IsOfRun p.runs) (IsOfRun (p.runs ++ opened_run x ∷ [])) (λ y e. any_more (is_measured_by y) p.runs (opened_run x) e) p.measurements (all_true (is_of_some p.runs) p.measurements o.measured));
     }
-ordered_after ts st p (Measured x) a o =
+ordered_after ts st p (MeasurementRecorded x) a o =
     let all = p.measurements ++ x ∷ [] in
     let that = that_run x.run 1 p.runs a.run o.numbered a.found in
     let alike : (y : Recorded) → is_of_some (map (measured_in x) p.runs) y ≡ is_of_some p.runs y =
@@ -363,7 +363,7 @@ ordered_after ts st p (Measured x) a o =
           (each_both (HasLists ts st p.measurements) (IsThatRun x.run a.run) (λ (r : Run). HasLists ts st all (measured_in x r)) (lists_more ts st p.measurements x a.run a.metric a.tally a.is_metric a.is_tally a.next a.room) p.runs o.runs that);
       measured = true_all (is_of_some (map (measured_in x) p.runs)) all (each_and_more (IsOfRun (map (measured_in x) p.runs)) p.measurements x old new);
     }
-ordered_after ts st p (Closed x tallies) a o =
+ordered_after ts st p (RunClosed x tallies) a o =
     let alike : (y : Recorded) → is_of_some (map (closed_in x) p.runs) y ≡ is_of_some p.runs y =
     λ y. any_mapped (is_measured_by y) (is_measured_by y) (closed_in x) (λ r i. y.run == closed_number x r i && nat_lt y.metric (closed_length x r i)) p.runs in
     record {
@@ -374,10 +374,10 @@ ordered_after ts st p (Closed x tallies) a o =
           (each (IsOfRun p.runs) (IsOfRun (map (closed_in x) p.runs)) (λ y e. alike y ∙ e) p.measurements (all_true (is_of_some p.runs) p.measurements o.measured));
     }
 
--- one effect of a whole list: what is watched then
-pub watched_then : WatchesAlike → (p : Past) (x : Effect) → watched (grows p x) ≡ happens (watched p) x
+-- one effect of a whole list: what is tracked then
+pub watched_then : WatchesAlike → (p : Past) (x : Effect) → tracked (past_with p x) ≡ effect_applied (tracked p) x
 watched_then alike p x = alike p (x ∷ [])
 
-pub ordered_after_all : WatchesAlike → (ts : RevisionMap) (st : CheckedStrategy) (p : Past) (xs : List Effect) → AreAllowed ts st (watched p) xs → IsOrdered ts st p → IsOrdered ts st (grows_by p xs)
+pub ordered_after_all : WatchesAlike → (ts : RevisionMap) (st : CheckedStrategy) (p : Past) (xs : List Effect) → AreAllowed ts st (tracked p) xs → IsOrdered ts st p → IsOrdered ts st (past_with_all p xs)
 ordered_after_all alike ts st p [] h o = o
-ordered_after_all alike ts st p (x ∷ xs) h o = ordered_after_all alike ts st (grows p x) xs (subst (λ (w : Runs). AreAllowed ts st w xs) (sym (watched_then alike p x)) h.1) (ordered_after ts st p x h.0 o)
+ordered_after_all alike ts st p (x ∷ xs) h o = ordered_after_all alike ts st (past_with p x) xs (subst (λ (w : Runs). AreAllowed ts st w xs) (sym (watched_then alike p x)) h.1) (ordered_after ts st p x h.0 o)

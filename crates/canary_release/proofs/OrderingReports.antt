@@ -21,24 +21,24 @@ use Rattle.canary_plan.specs.Plans.{bound_of}
 use Rattle.canary_plan.specs.PlanRefusals.{bound_refusal}
 use Rattle.canary_plan.specs.Refusals.{first_that_holds, or_refusal}
 use Rattle.canary_release.specs.declared.effect.Recorded.{Recorded}
-use Rattle.canary_release.specs.declared.effect.Effect.TheVariants.{Measured}
+use Rattle.canary_release.specs.declared.effect.Effect.TheVariants.{MeasurementRecorded}
 use Rattle.canary_release.specs.declared.runs.OpenRun.{OpenRun}
 use Rattle.canary_release.specs.declared.runs.Runs.{Runs}
-use Rattle.canary_release.specs.declared.stand.Stand.{Stand}
-use Rattle.canary_release.specs.declared.stand.State.TheVariants.{InProgress}
+use Rattle.canary_release.specs.declared.state.ServiceState.{ServiceState}
+use Rattle.canary_release.specs.declared.state.ReleaseState.TheVariants.{InProgress}
 use Rattle.canary_release.specs.Pasts.{change_at}
 use Rattle.canary_release.specs.Watching.{counted, counted_in}
-use Rattle.canary_release.specs.Courses.{Course, with_stand, happen, tell, runs_now, has_number, open_run_now}
+use Rattle.canary_release.specs.Evolutions.{Evolution, with_service_state, apply_effect, tell, runs_now, has_number, open_run_now}
 use Rattle.canary_release.specs.Entering.{without_holds}
 use Rattle.canary_release.specs.Passing.{pass, judged_at}
 use Rattle.canary_release.specs.Reports.{Place, place_from, place_of, names_metric, entry_refusal_at, entry_refusal, entries_refusal, report_refusal, recorded_at, recorded_if, brought, record_all, report_on}
-use Rattle.canary_release.specs.Commands.{Acted, unless, leads, reports, reports_if, is_progressing, start_refusal_at, retry_refusal_at, start_refusal, retry_refusal, promote_refusal, progress_refusal, begun, begin, started_at, start, retry, promoted_to, promote, promote_full, abort_by_command, act}
+use Rattle.canary_release.specs.Commands.{ModelResult, unless, succeeds_with, reports, reports_if, is_progressing, start_refusal_at, retry_refusal_at, start_refusal, retry_refusal, promote_refusal, progress_refusal, begun, begin, started_at, start, retry, promoted_to, promote, promote_full, abort_by_command, act}
 use Rattle.canary_release.specs.Desks.{RevisionMap, revisions_of, newest, passed_on, act_passed}
-use Rattle.canary_release.specs.Services.{is_going, status}
+use Rattle.canary_release.specs.Services.{is_in_progress, status}
 use Rattle.canary_release.specs.Order.{at_revision, known_by, IsBoundIn}
 use Rattle.canary_release.proofs.PartsBinding.{bound_where_not_refused}
 use Rattle.canary_release.proofs.PartsReports.{found_going}
-use Rattle.canary_release.proofs.Keeping.{recorded_stand}
+use Rattle.canary_release.proofs.Keeping.{recorded_service_state}
 use Rattle.canary_release.proofs.OrderingBasics.{both_none, found_passes, found_mapped, some_same, neither, row_false}
 use Rattle.canary_release.proofs.OrderingAllowed.{IsNumbered, IsFollowing, counted_number, follows_on, now_after, stands_on, as_bound}
 use Rattle.canary_release.proofs.OrderingWalk.{told, entered, aborted, passed, assessed}
@@ -141,7 +141,7 @@ newest_at : (ts : List Template) → at_revision ts (Some (length ts)) ≡ last_
 newest_at [] = refl
 newest_at (t ∷ ts) = last_at t ts
 
-pub newest_bound : (ts : RevisionMap) (st : CheckedStrategy) (d : Stand) → d.strategy ≡ st → d.bound ≡ bound_of (newest ts) st → IsBoundIn ts d
+pub newest_bound : (ts : RevisionMap) (st : CheckedStrategy) (d : ServiceState) → d.strategy ≡ st → d.bound ≡ bound_of (newest ts) st → IsBoundIn ts d
 newest_bound ts st d same bound =
     let binding : List ℕ → Option ℕ = λ name. Some (length (revisions_of ts name)) in
     let is : newest ts ≡ known_by ts binding = λ i name. sym (newest_at (revisions_of ts name)) i in
@@ -151,9 +151,9 @@ going_row : (g : Bool) (rows : List (Bool × Refusal)) → first_that_holds ((no
 going_row true rows h = refl
 going_row false rows h = cc h
 
-module _ (ts : RevisionMap) (s : Stand) (w : Runs) (numbered : IsNumbered w) where
+module _ (ts : RevisionMap) (s : ServiceState) (w : Runs) (numbered : IsNumbered w) where
   -- entries that aren't refused are recorded, one after another
-  recorded : (r : OpenRun) (t : ℕ) (before es : List Entry) (c : Course) (now : OpenRun) → IsFollowing ts s w c → open_run_now c r.number ≡ Some now → now.analysis ≡ r.analysis → Untouched r.analysis.metrics r.tallies before now.tallies → entries_refusal r.analysis.metrics r t before es ≡ None → IsFollowing ts s w (record_all c (brought r.analysis.metrics r es))
+  recorded : (r : OpenRun) (t : ℕ) (before es : List Entry) (c : Evolution) (now : OpenRun) → IsFollowing ts s w c → open_run_now c r.number ≡ Some now → now.analysis ≡ r.analysis → Untouched r.analysis.metrics r.tallies before now.tallies → entries_refusal r.analysis.metrics r t before es ≡ None → IsFollowing ts s w (record_all c (brought r.analysis.metrics r es))
   recorded r t before [] c now f found same untouched none = f
   recorded r t before (e ∷ es) c now f found same untouched none =
       let ms = r.analysis.metrics in
@@ -171,10 +171,10 @@ module _ (ts : RevisionMap) (s : Stand) (w : Runs) (numbered : IsNumbered w) whe
             let unnamed : list_any (names_metric p.metric.name) before ≡ false = ap (λ (name : List ℕ). list_any (names_metric name) before) stands.named ∙ good.first in
             let is_metric : slice_get now.analysis.metrics p.place ≡ Some p.metric = (λ i. slice_get (same i).metrics (is_k i)) ∙ stands.metric in
             let is_tally : slice_get now.tallies p.place ≡ Some p.tally = ap (slice_get now.tallies) is_k ∙ untouched k p.metric stands.metric unnamed ∙ stands.tally in
-            let more : IsFollowing ts s w (happen c (Measured x)) =
-            follows_on ts s w c (Measured x) f (record { run = now; found = found; metric = p.metric; is_metric = is_metric; tally = p.tally; is_tally = is_tally; next = good.next; room = good.room; judged = refl }) in
-            let after : open_run_now (happen c (Measured x)) r.number ≡ Some (counted_in x now) =
-            ap (λ (v : Runs). find (has_number r.number) v.open_runs) (now_after ts s w c (Measured x) f)
+            let more : IsFollowing ts s w (apply_effect c (MeasurementRecorded x)) =
+            follows_on ts s w c (MeasurementRecorded x) f (record { run = now; found = found; metric = p.metric; is_metric = is_metric; tally = p.tally; is_tally = is_tally; next = good.next; room = good.room; judged = refl }) in
+            let after : open_run_now (apply_effect c (MeasurementRecorded x)) r.number ≡ Some (counted_in x now) =
+            ap (λ (v : Runs). find (has_number r.number) v.open_runs) (now_after ts s w c (MeasurementRecorded x) f)
             ∙ found_mapped (has_number r.number) (counted_in x) (λ q. ap (λ n. n == r.number) (counted_number x q)) (runs_now c).open_runs
             ∙ ap (option_map (counted_in x)) found in
             let still : Untouched ms r.tallies (before ++ e ∷ []) (counted_in x now).tallies =
@@ -184,73 +184,73 @@ module _ (ts : RevisionMap) (s : Stand) (w : Runs) (numbered : IsNumbered w) whe
             let one : m ≡ p.metric = some_same m p.metric (sym there ∙ ap (slice_get ms) (is ∙ is_k) ∙ stands.metric) in
             true≢false (sym ((bytes_eq-Decides e.metric m.name).1 (sym stands.named ∙ ap (λ (q : MetricValue). q.name) (sym one))) ∙ parts.1) in
             other_tally x now j differ ∙ untouched j m there parts.0 in
-            recorded r t (before ++ e ∷ []) es (happen c (Measured x)) (counted_in x now) more after (counted_analysis x now ∙ same) still halves.1
+            recorded r t (before ++ e ∷ []) es (apply_effect c (MeasurementRecorded x)) (counted_in x now) more after (counted_analysis x now ∙ same) still halves.1
       ] refl none
 
-  reported : (c : Course) (run : ℕ) (r : OpenRun) (es : List Entry) (t : ℕ) → is_going c.stand.state ≡ true → IsFollowing ts s w c → open_run_now c run ≡ Some r → entries_refusal r.analysis.metrics r t [] es ≡ None → IsFollowing ts s w (report_on c r es t)
+  reported : (c : Evolution) (run : ℕ) (r : OpenRun) (es : List Entry) (t : ℕ) → is_in_progress c.service.state ≡ true → IsFollowing ts s w c → open_run_now c run ≡ Some r → entries_refusal r.analysis.metrics r t [] es ≡ None → IsFollowing ts s w (report_on c r es t)
   reported c run r es t g f found none =
       let ms = r.analysis.metrics in
-      let all : Course = record_all c (brought ms r es) in
+      let all : Evolution = record_all c (brought ms r es) in
       let number : r.number ≡ run = eqb-true r.number run (found_passes (has_number run) (runs_now c).open_runs r found) in
       let there : open_run_now c r.number ≡ Some r = ap (open_run_now c) number ∙ found in
       let fa : IsFollowing ts s w all = recorded r t [] es c r f there refl (λ k m e h. refl) none in
-      let stands : all.stand ≡ c.stand = recorded_stand c (brought ms r es) in
-      assessed ts s w numbered all r.number (open_run_now all r.number) t (ap (λ (x : Stand). is_going x.state) stands ∙ g) fa refl
+      let stands : all.service ≡ c.service = recorded_service_state c (brought ms r es) in
+      assessed ts s w numbered all r.number (open_run_now all r.number) t (ap (λ (x : ServiceState). is_in_progress x.state) stands ∙ g) fa refl
 
   -- where a command leads, if it isn't refused
-  abbrev FollowsIf : Result Acted Refusal → Type 0
-  FollowsIf (Ok a) = IsFollowing ts s w a.course
+  abbrev FollowsIf : Result ModelResult Refusal → Type 0
+  FollowsIf (Ok a) = IsFollowing ts s w a.evolution
   FollowsIf (Err refusal) = Unit {0}
 
-  unless_follows : (refusal : Option Refusal) (a : Acted) → (refusal ≡ None → IsFollowing ts s w a.course) → FollowsIf (unless refusal a)
+  unless_follows : (refusal : Option Refusal) (a : ModelResult) → (refusal ≡ None → IsFollowing ts s w a.evolution) → FollowsIf (unless refusal a)
   unless_follows None a f = f refl
   unless_follows (Some refusal) a f = tt
 
-  report_follows : (c : Course) (run : ℕ) (o : Option OpenRun) (es : List Entry) (t : ℕ) → (is_going c.stand.state ≡ false → (runs_now c).open_runs ≡ []) → IsFollowing ts s w c → open_run_now c run ≡ o → FollowsIf (unless (report_refusal c t run es o) (reports_if c o es t))
+  report_follows : (c : Evolution) (run : ℕ) (o : Option OpenRun) (es : List Entry) (t : ℕ) → (is_in_progress c.service.state ≡ false → (runs_now c).open_runs ≡ []) → IsFollowing ts s w c → open_run_now c run ≡ o → FollowsIf (unless (report_refusal c t run es o) (reports_if c o es t))
   report_follows c run None es t idle f e = tt
-  report_follows c run (Some r) es t idle f e = unless_follows (entries_refusal r.analysis.metrics r t [] es) (reports c r es t) (λ none. reported c run r es t (found_going (is_going c.stand.state) (has_number run) (runs_now c).open_runs r idle e) f e none)
+  report_follows c run (Some r) es t idle f e = unless_follows (entries_refusal r.analysis.metrics r t [] es) (reports c r es t) (λ none. reported c run r es t (found_going (is_in_progress c.service.state) (has_number run) (runs_now c).open_runs r idle e) f e none)
 
-  begins : (c : Course) (t : ℕ) (version : List ℕ) (event : LineEvent) (i : ℕ) → bound_refusal (newest ts) c.stand.strategy ≡ None → IsFollowing ts s w c → IsFollowing ts s w (begin (newest ts) c t version event i)
+  begins : (c : Evolution) (t : ℕ) (version : List ℕ) (event : LineEvent) (i : ℕ) → bound_refusal (newest ts) c.service.strategy ≡ None → IsFollowing ts s w c → IsFollowing ts s w (begin (newest ts) c t version event i)
   begins c t version event i fine f =
-      let d : Course = begun (newest ts) c version in
-      let fd : IsFollowing ts s w d = stands_on ts s w c (record (without_holds c.stand) { bound = bound_of (newest ts) c.stand.strategy; version = version; state = InProgress; background = false }) f refl refl (newest_bound ts c.stand.strategy d.stand refl refl) (λ g. bound_where_not_refused (newest ts) c.stand fine) in
+      let d : Evolution = begun (newest ts) c version in
+      let fd : IsFollowing ts s w d = stands_on ts s w c (record (without_holds c.service) { bound = bound_of (newest ts) c.service.strategy; version = version; state = InProgress; background = false }) f refl refl (newest_bound ts c.service.strategy d.service refl refl) (λ g. bound_where_not_refused (newest ts) c.service fine) in
       entered ts s w numbered (tell d t event) i t refl (told ts s w numbered d t event fd)
 
-  promotes : (c : Course) (t : ℕ) → is_going c.stand.state ≡ true → IsFollowing ts s w c → IsFollowing ts s w (promote c t)
+  promotes : (c : Evolution) (t : ℕ) → is_in_progress c.service.state ≡ true → IsFollowing ts s w c → IsFollowing ts s w (promote c t)
   promotes c t g f =
-      let d : Course = with_stand c (without_holds c.stand) in
-      entered ts s w numbered (tell d t Promoted) (promoted_to c.stand) t g (told ts s w numbered d t Promoted (stands_on ts s w c (without_holds c.stand) f refl refl (as_bound ts s w c (without_holds c.stand) f refl refl) f.wholly))
+      let d : Evolution = with_service_state c (without_holds c.service) in
+      entered ts s w numbered (tell d t Promoted) (promoted_to c.service) t g (told ts s w numbered d t Promoted (stands_on ts s w c (without_holds c.service) f refl refl (as_bound ts s w c (without_holds c.service) f refl refl) f.wholly))
 
-  promotes_fully : (c : Course) (t : ℕ) → is_going c.stand.state ≡ true → IsFollowing ts s w c → IsFollowing ts s w (promote_full c t)
-  promotes_fully c t g f = entered ts s w numbered (tell c t PromotedFull) (length c.stand.strategy.steps) t g (told ts s w numbered c t PromotedFull f)
+  promotes_fully : (c : Evolution) (t : ℕ) → is_in_progress c.service.state ≡ true → IsFollowing ts s w c → IsFollowing ts s w (promote_full c t)
+  promotes_fully c t g f = entered ts s w numbered (tell c t PromotedFull) (length c.service.strategy.steps) t g (told ts s w numbered c t PromotedFull f)
 
-  aborts : (c : Course) (t : ℕ) → IsFollowing ts s w c → IsFollowing ts s w (abort_by_command c t)
+  aborts : (c : Evolution) (t : ℕ) → IsFollowing ts s w c → IsFollowing ts s w (abort_by_command c t)
   aborts c t f = aborted ts s w numbered (tell c t AbortLine) t (told ts s w numbered c t AbortLine f)
 
-  acted : (command : Command) (c : Course) (t : ℕ) → (is_going c.stand.state ≡ false → (runs_now c).open_runs ≡ []) → IsFollowing ts s w c → FollowsIf (act (newest ts) command c t)
-  acted (Start name version) c t idle f = unless_follows (start_refusal (newest ts) c version) (leads (start (newest ts) c t version)) (λ e. begins c t version (Started version) (started_at c.stand version) (both_none (bound_refusal (newest ts) c.stand.strategy) (start_refusal_at c version) e).0 f)
-  acted (Promote name) c t idle f = unless_follows (promote_refusal c.stand) (leads (promote c t)) (λ e. promotes c t (going_row (is_going c.stand.state) ((is_progressing (status c.stand), NotPaused) ∷ []) e) f)
-  acted (PromoteFull name) c t idle f = unless_follows (progress_refusal c.stand) (leads (promote_full c t)) (λ e. promotes_fully c t (going_row (is_going c.stand.state) [] e) f)
-  acted (Abort name) c t idle f = unless_follows (progress_refusal c.stand) (leads (abort_by_command c t)) (λ e. aborts c t f)
-  acted (Retry name) c t idle f = unless_follows (retry_refusal (newest ts) c) (leads (retry (newest ts) c t)) (λ e. begins c t c.stand.version (Retried c.stand.version) 0 (both_none (bound_refusal (newest ts) c.stand.strategy) (retry_refusal_at c) e).0 f)
+  acted : (command : Command) (c : Evolution) (t : ℕ) → (is_in_progress c.service.state ≡ false → (runs_now c).open_runs ≡ []) → IsFollowing ts s w c → FollowsIf (act (newest ts) command c t)
+  acted (Start name version) c t idle f = unless_follows (start_refusal (newest ts) c version) (succeeds_with (start (newest ts) c t version)) (λ e. begins c t version (Started version) (started_at c.service version) (both_none (bound_refusal (newest ts) c.service.strategy) (start_refusal_at c version) e).0 f)
+  acted (Promote name) c t idle f = unless_follows (promote_refusal c.service) (succeeds_with (promote c t)) (λ e. promotes c t (going_row (is_in_progress c.service.state) ((is_progressing (status c.service), NotPaused) ∷ []) e) f)
+  acted (PromoteFull name) c t idle f = unless_follows (progress_refusal c.service) (succeeds_with (promote_full c t)) (λ e. promotes_fully c t (going_row (is_in_progress c.service.state) [] e) f)
+  acted (Abort name) c t idle f = unless_follows (progress_refusal c.service) (succeeds_with (abort_by_command c t)) (λ e. aborts c t f)
+  acted (Retry name) c t idle f = unless_follows (retry_refusal (newest ts) c) (succeeds_with (retry (newest ts) c t)) (λ e. begins c t c.service.version (Retried c.service.version) 0 (both_none (bound_refusal (newest ts) c.service.strategy) (retry_refusal_at c) e).0 f)
   acted (Tick name) c t idle f = f
   acted (Report report) c t idle f = report_follows c report.run (open_run_now c report.run) report.entries t idle f refl
   acted (AddService spec) c t idle f = tt
   acted (AddTemplate spec) c t idle f = tt
 
-  passed_after : (r : Result Acted Refusal) (t : ℕ) → FollowsIf r → FollowsIf (passed_on r t)
-  passed_after (Ok a) t f = passed ts s w numbered a.course t f
+  passed_after : (r : Result ModelResult Refusal) (t : ℕ) → FollowsIf r → FollowsIf (passed_on r t)
+  passed_after (Ok a) t f = passed ts s w numbered a.evolution t f
   passed_after (Err refusal) t f = tt
 
   -- no run is open of a service that is passed and not in progress
-  abbrev pub IsIdle : Course → Type 0
-  IsIdle c = is_going c.stand.state ≡ false → (runs_now c).open_runs ≡ []
+  abbrev pub IsIdle : Evolution → Type 0
+  IsIdle c = is_in_progress c.service.state ≡ false → (runs_now c).open_runs ≡ []
 
-  acted_passed : (command : Command) (c : Course) (now : ℕ) → IsIdle (pass c now) → IsFollowing ts s w c → FollowsIf (act_passed (newest ts) command c now)
+  acted_passed : (command : Command) (c : Evolution) (now : ℕ) → IsIdle (pass c now) → IsFollowing ts s w c → FollowsIf (act_passed (newest ts) command c now)
   acted_passed command c now idle f =
-      let t = judged_at c.stand now in
+      let t = judged_at c.service now in
       passed_after (act (newest ts) command (pass c now) t) t (acted command (pass c now) t idle (passed ts s w numbered c now f))
 
   -- a command that isn't refused brings allowed effects alone
-  pub follows : (command : Command) (c : Course) (now : ℕ) (a : Acted) → IsIdle (pass c now) → IsFollowing ts s w c → act_passed (newest ts) command c now ≡ Ok a → IsFollowing ts s w a.course
+  pub follows : (command : Command) (c : Evolution) (now : ℕ) (a : ModelResult) → IsIdle (pass c now) → IsFollowing ts s w c → act_passed (newest ts) command c now ≡ Ok a → IsFollowing ts s w a.evolution
   follows command c now a idle f e = subst FollowsIf e (acted_passed command c now idle f)

@@ -21,7 +21,7 @@ use Rattle.canary_plan.specs.declared.refusal.Refusal.TheVariants.{UnknownTempla
 use Rattle.canary_plan.specs.Fit.{are_metrics_of_run, is_at_least_one, asks_for_some, have_counts}
 use Rattle.canary_plan.specs.Plans.{Templates, template_of, bound_metric, metrics_in, metrics_named, revisions_named, strategy_of, has_unknown, binds, analysis_of, bound_step, bound_background, bound_of, is_within_limits, is_background_within_limits, is_accepted, is_fit_if, are_fit}
 use Rattle.canary_plan.specs.PlanRefusals.{analyses, is_bad_strategy, strategy_refusal}
-use Rattle.canary_release.specs.declared.stand.Stand.{Stand}
+use Rattle.canary_release.specs.declared.state.ServiceState.{ServiceState}
 use Rattle.canary_release.specs.Desks.{RevisionMap, revisions_of, newest, with_revision}
 use Rattle.canary_release.specs.Order.{at_revision, known_by, IsBoundIn, AreRevisions}
 use Rattle.canary_release.proofs.PartsFresh.{and_right}
@@ -154,7 +154,7 @@ known_bound ts b all name t e = by (b name) e
     by (Some zero) e = cc e
     by (Some (suc k)) e = all name k t e
 
-pub fit_in : (ts : RevisionMap) (s : Stand) → AllBound ts → IsBoundIn ts s → are_fit s.bound ≡ true
+pub fit_in : (ts : RevisionMap) (s : ServiceState) → AllBound ts → IsBoundIn ts s → are_fit s.bound ≡ true
 fit_in ts s all b = ap are_fit b.bound ∙ all_fit (known_by ts b.binding) (known_bound ts b.binding all) s.strategy
 
 -- With one revision more.
@@ -179,7 +179,7 @@ restricted ts b name = if_there (at_revision (revisions_of ts name) (b name)) (b
 pub same_known : (ts other : RevisionMap) (b : List ℕ → Option ℕ) → Extends ts other → known_by ts b ≡ known_by other (restricted ts b)
 same_known ts other b more = λ i name. sym (same_at (revisions_of ts name) (revisions_of other name) (more name) (b name) (at_revision (revisions_of ts name) (b name)) refl) i
 
-pub still_bound : (ts other : RevisionMap) (s : Stand) → Extends ts other → IsBoundIn ts s → IsBoundIn other s
+pub still_bound : (ts other : RevisionMap) (s : ServiceState) → Extends ts other → IsBoundIn ts s → IsBoundIn other s
 still_bound ts other s more b = record { binding = restricted ts b.binding; bound = b.bound ∙ ap (λ (known : Templates). bound_of known s.strategy) (same_known ts other b.binding more) }
 
 front_at : (xs ys : List Template) (k : ℕ) (t : Template) → slice_get xs k ≡ Some t → slice_get (xs ++ ys) k ≡ Some t

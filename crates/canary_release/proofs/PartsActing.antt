@@ -16,22 +16,22 @@ use Rattle.canary_plan.specs.declared.service.Background.{Background}
 use Rattle.canary_plan.specs.declared.bound.BoundParts.{BoundParts}
 use Rattle.canary_plan.specs.Plans.{Templates, bound_of, analysis_at, are_fit}
 use Rattle.canary_plan.specs.PlanRefusals.{bound_refusal}
-use Rattle.canary_release.specs.declared.stand.State.{State}
-use Rattle.canary_release.specs.declared.stand.State.TheVariants.{InProgress, Aborted, Done}
-use Rattle.canary_release.specs.declared.stand.Status.TheVariants.{Paused, Progressing}
-use Rattle.canary_release.specs.declared.stand.Stand.{Stand}
+use Rattle.canary_release.specs.declared.state.ReleaseState.{ReleaseState}
+use Rattle.canary_release.specs.declared.state.ReleaseState.TheVariants.{InProgress, Aborted, Done}
+use Rattle.canary_release.specs.declared.state.Status.TheVariants.{Paused, Progressing}
+use Rattle.canary_release.specs.declared.state.ServiceState.{ServiceState}
 use Rattle.canary_release.specs.declared.runs.OpenRun.{OpenRun}
 use Rattle.canary_release.specs.declared.runs.Runs.{Runs}
 use Rattle.canary_release.specs.declared.service.ServiceParts.{ServiceParts}
 use Rattle.canary_release.specs.Watching.{no_runs}
-use Rattle.canary_release.specs.Services.{is_going, is_aborted, is_done, is_held, is_pause, status_as, status, step_of}
-use Rattle.canary_release.specs.Courses.{Course, with_stand, tell, runs_now, open_run_now}
+use Rattle.canary_release.specs.Services.{is_in_progress, is_aborted, is_done, is_held, is_pause, status_as, status, step_of}
+use Rattle.canary_release.specs.Evolutions.{Evolution, with_service_state, tell, runs_now, open_run_now}
 use Rattle.canary_release.specs.Entering.{without_holds}
 use Rattle.canary_release.specs.Passing.{judged_at, pass}
 use Rattle.canary_release.specs.Reports.{report_refusal}
-use Rattle.canary_release.specs.Commands.{is_spent, is_progressing, start_refusal_at, retry_refusal_at, start_refusal, retry_refusal, promote_refusal, progress_refusal, begun, begin, started_at, start, retry, promoted_to, promote, promote_full, abort_by_command, Acted, leads, unless, reports_if, act}
-use Rattle.canary_release.specs.Desks.{passed_on, new_stand, new_service}
-use Rattle.canary_release.specs.Shapes.{kept_course, kept_after}
+use Rattle.canary_release.specs.Commands.{is_spent, is_progressing, start_refusal_at, retry_refusal_at, start_refusal, retry_refusal, promote_refusal, progress_refusal, begun, begin, started_at, start, retry, promoted_to, promote, promote_full, abort_by_command, ModelResult, succeeds_with, unless, reports_if, act}
+use Rattle.canary_release.specs.Desks.{passed_on, new_service_state, new_service}
+use Rattle.canary_release.specs.Stored.{stored_evolution, stored_after}
 use Rattle.canary_release.specs.Parts.{is_step_run, is_judged, is_bound_otherwise, is_bound, is_broken}
 use Rattle.canary_release.specs.PartsLaws.{PassingKeepsParts, ActingKeepsParts, NewPartsAreUnbroken}
 use Rattle.canary_release.proofs.PartsRuns.{told_runs, steady_kept}
@@ -60,7 +60,7 @@ begun_room n i x count short few room = omega arith
 none_passes : (p : OpenRun → Bool) (rs : List OpenRun) → rs ≡ [] → list_any p rs ≡ false
 none_passes p rs e = rw e refl
 
-begun_ready : (s : Stand) (b : BoundParts) (w : Runs) (version : List ℕ) (i : ℕ) → Accepted (basis (record s { bound = b })) → IsWellBound (record s { bound = b }) → Fit s w → is_going s.state ≡ false → is_spent w ≡ false → Ready (record (without_holds s) { bound = b; version = version; state = InProgress; background = false }) w (length s.strategy.steps - i)
+begun_ready : (s : ServiceState) (b : BoundParts) (w : Runs) (version : List ℕ) (i : ℕ) → Accepted (basis (record s { bound = b })) → IsWellBound (record s { bound = b }) → Fit s w → is_in_progress s.state ≡ false → is_spent w ≡ false → Ready (record (without_holds s) { bound = b; version = version; state = InProgress; background = false }) w (length s.strategy.steps - i)
 begun_ready s b w version i acc bound f idle left =
     let none : w.open_runs ≡ [] = f.idle idle in
     record {
@@ -78,16 +78,16 @@ begun_ready s b w version i acc bound f idle left =
     }
 
 -- the basis of an attempt that begins
-abbrev pub begun_basis : Templates → Stand → Basis
+abbrev pub begun_basis : Templates → ServiceState → Basis
 begun_basis known s = record { strategy = s.strategy; bound = bound_of known s.strategy }
 
-begins_loose : (known : Templates) (s : Basis) (t : ℕ) (c : Course) (version : List ℕ) (event : LineEvent) (i : ℕ) → Accepted (begun_basis known c.stand) → bound_refusal known c.stand.strategy ≡ None → Loose s t c → is_going c.stand.state ≡ false → is_spent (runs_now c) ≡ false → i ≤ length c.stand.strategy.steps → Loose (begun_basis known c.stand) t (begin known c t version event i)
+begins_loose : (known : Templates) (s : Basis) (t : ℕ) (c : Evolution) (version : List ℕ) (event : LineEvent) (i : ℕ) → Accepted (begun_basis known c.service) → bound_refusal known c.service.strategy ≡ None → Loose s t c → is_in_progress c.service.state ≡ false → is_spent (runs_now c) ≡ false → i ≤ length c.service.strategy.steps → Loose (begun_basis known c.service) t (begin known c t version event i)
 begins_loose known s t c version event i acc fine l idle left le =
-    let b : Course = begun known c version in
-    let d : Course = tell b t event in
-    let bound : IsWellBound b.stand = (bound_where_not_refused known c.stand fine, never_refused known c.stand.strategy fine) in
-    let ready = begun_ready c.stand (bound_of known c.stand.strategy) (runs_now c) version i acc bound l.fit idle left in
-    enters d i t acc l.steady le (subst (λ (w : Runs). Ready b.stand w (length c.stand.strategy.steps - i)) (sym (told_runs b t event l.steady)) ready)
+    let b : Evolution = begun known c version in
+    let d : Evolution = tell b t event in
+    let bound : IsWellBound b.service = (bound_where_not_refused known c.service fine, never_refused known c.service.strategy fine) in
+    let ready = begun_ready c.service (bound_of known c.service.strategy) (runs_now c) version i acc bound l.fit idle left in
+    enters d i t acc l.steady le (subst (λ (w : Runs). Ready b.service w (length c.service.strategy.steps - i)) (sym (told_runs b t event l.steady)) ready)
 
 -- a promotion
 
@@ -95,12 +95,12 @@ if_paused : (b : Bool) → is_progressing (if b then Paused else Progressing) �
 if_paused true h = refl
 if_paused false h = cc h
 
-paused : (x : State) (held : Bool) (o : Option Step) → is_going x ≡ true → is_progressing (status_as x held o) ≡ false → (held || is_pause o) ≡ true
+paused : (x : ReleaseState) (held : Bool) (o : Option Step) → is_in_progress x ≡ true → is_progressing (status_as x held o) ≡ false → (held || is_pause o) ≡ true
 paused InProgress held o g h = if_paused (held || is_pause o) h
 paused Aborted held o g h = cc g
 paused Done held o g h = cc g
 
-pause_none : (s : Stand) (o : Option Step) → step_of s ≡ o → is_bound s ≡ true → is_pause o ≡ true → is_none (analysis_at s.bound (Some s.step)) ≡ true
+pause_none : (s : ServiceState) (o : Option Step) → step_of s ≡ o → is_bound s ≡ true → is_pause o ≡ true → is_none (analysis_at s.bound (Some s.step)) ≡ true
 pause_none s (Some (SetWeight percent)) is bound h = cc h
 pause_none s (Some (Pause seconds)) is bound h = not_bound s (Pause seconds) is (λ names x. cc x) bound
 pause_none s (Some (Analysis names)) is bound h = cc h
@@ -134,7 +134,7 @@ promoted_within n i held true below = omega arith
 promoted_within n i true false below = omega arith
 promoted_within n i false false below = omega arith
 
-promoted_ready : (s : Stand) (w : Runs) → Fit s w → Unjudged w → is_going s.state ≡ true → is_progressing (status s) ≡ false → Ready (without_holds s) w (length s.strategy.steps - promoted_to s)
+promoted_ready : (s : ServiceState) (w : Runs) → Fit s w → Unjudged w → is_in_progress s.state ≡ true → is_progressing (status s) ≡ false → Ready (without_holds s) w (length s.strategy.steps - promoted_to s)
 promoted_ready s w f u g h =
     let below : s.step < length s.strategy.steps = goes_below s w f g in
     let stops : (is_held s || is_pause (step_of s)) ≡ true = paused s.state (is_held s) (step_of s) g h in
@@ -153,23 +153,23 @@ promoted_ready s w f u g h =
       bound = bound_going s f g;
     }
 
-promotes : (s : Basis) (t : ℕ) (c : Course) → Accepted s → Loose s t c → is_going c.stand.state ≡ true → is_progressing (status c.stand) ≡ false → Loose s t (promote c t)
+promotes : (s : Basis) (t : ℕ) (c : Evolution) → Accepted s → Loose s t c → is_in_progress c.service.state ≡ true → is_progressing (status c.service) ≡ false → Loose s t (promote c t)
 promotes s t c acc l g h =
-    let own : Accepted (basis c.stand) = subst Accepted (sym l.same) acc in
-    let b : Course = with_stand c (without_holds c.stand) in
-    let ready = promoted_ready c.stand (runs_now c) l.fit l.unjudged g h in
-    let within : promoted_to c.stand ≤ length c.stand.strategy.steps = promoted_within (length c.stand.strategy.steps) c.stand.step c.stand.background_hold c.stand.step_hold (goes_below c.stand (runs_now c) l.fit g) in
-    of_strategy (basis c.stand) s t (promote c t) l.same
-    (enters (tell b t Promoted) (promoted_to c.stand) t own l.steady within (subst (λ (w : Runs). Ready b.stand w (length c.stand.strategy.steps - promoted_to c.stand)) (sym (told_runs b t Promoted l.steady)) ready))
+    let own : Accepted (basis c.service) = subst Accepted (sym l.same) acc in
+    let b : Evolution = with_service_state c (without_holds c.service) in
+    let ready = promoted_ready c.service (runs_now c) l.fit l.unjudged g h in
+    let within : promoted_to c.service ≤ length c.service.strategy.steps = promoted_within (length c.service.strategy.steps) c.service.step c.service.background_hold c.service.step_hold (goes_below c.service (runs_now c) l.fit g) in
+    of_strategy (basis c.service) s t (promote c t) l.same
+    (enters (tell b t Promoted) (promoted_to c.service) t own l.steady within (subst (λ (w : Runs). Ready b.service w (length c.service.strategy.steps - promoted_to c.service)) (sym (told_runs b t Promoted l.steady)) ready))
 
-told_few : (c : Course) (t : ℕ) (event : LineEvent) (s : Basis) (u : ℕ) → Loose s u c → (runs_now (tell c t event)).count ≤ 1000000
+told_few : (c : Evolution) (t : ℕ) (event : LineEvent) (s : Basis) (u : ℕ) → Loose s u c → (runs_now (tell c t event)).count ≤ 1000000
 told_few c t event s u l = subst (λ (w : Runs). w.count ≤ 1000000) (sym (told_runs c t event l.steady)) l.fit.few
 
-promotes_full : (s : Basis) (t : ℕ) (c : Course) → Loose s t c → is_going c.stand.state ≡ true → Loose s t (promote_full c t)
-promotes_full s t c l g = of_strategy (basis c.stand) s t (promote_full c t) l.same (enters_end (tell c t PromotedFull) t l.steady (told_few c t PromotedFull s t l) l.fit.known (bound_going c.stand l.fit g))
+promotes_full : (s : Basis) (t : ℕ) (c : Evolution) → Loose s t c → is_in_progress c.service.state ≡ true → Loose s t (promote_full c t)
+promotes_full s t c l g = of_strategy (basis c.service) s t (promote_full c t) l.same (enters_end (tell c t PromotedFull) t l.steady (told_few c t PromotedFull s t l) l.fit.known (bound_going c.service l.fit g))
 
-aborts_by_command : (s : Basis) (t : ℕ) (c : Course) → Loose s t c → is_going c.stand.state ≡ true → Loose s t (abort_by_command c t)
-aborts_by_command s t c l g = of_strategy (basis c.stand) s t (abort_by_command c t) l.same (aborts (tell c t AbortLine) t l.steady (goes_below c.stand (runs_now c) l.fit g) (told_few c t AbortLine s t l) l.fit.known (bound_going c.stand l.fit g) l.entered)
+aborts_by_command : (s : Basis) (t : ℕ) (c : Evolution) → Loose s t c → is_in_progress c.service.state ≡ true → Loose s t (abort_by_command c t)
+aborts_by_command s t c l g = of_strategy (basis c.service) s t (abort_by_command c t) l.same (aborts (tell c t AbortLine) t l.steady (goes_below c.service (runs_now c) l.fit g) (told_few c t AbortLine s t l) l.fit.known (bound_going c.service l.fit g) l.entered)
 
 -- the table
 
@@ -177,75 +177,75 @@ passed_row : (b : Bool) (x : Refusal) (rest : Option Refusal) → ◌≡◌ {A =
 passed_row true x rest h = cc h
 passed_row false x rest h = (refl, h)
 
-aborted_idle : (x : State) → is_aborted x ≡ true → is_going x ≡ false
+aborted_idle : (x : ReleaseState) → is_aborted x ≡ true → is_in_progress x ≡ false
 aborted_idle InProgress h = cc h
 aborted_idle Aborted h = refl
 aborted_idle Done h = refl
 
 -- where a command leads, if it is not refused, and to a fit bound
-abbrev pub LooseIf : Basis → ℕ → Result Acted Refusal → Type 0
-LooseIf s t (Ok a) = are_fit a.course.stand.bound ≡ true → (k : Basis) × Accepted k × (k.strategy ≡ s.strategy) × Loose k t a.course
+abbrev pub LooseIf : Basis → ℕ → Result ModelResult Refusal → Type 0
+LooseIf s t (Ok a) = are_fit a.evolution.service.bound ≡ true → (k : Basis) × Accepted k × (k.strategy ≡ s.strategy) × Loose k t a.evolution
 LooseIf s t (Err refusal) = Unit {0}
 
-unless_loose : (s : Basis) (t : ℕ) (o : Option Refusal) (a : Acted) → Accepted s → (o ≡ None → Loose s t a.course) → LooseIf s t (unless o a)
+unless_loose : (s : Basis) (t : ℕ) (o : Option Refusal) (a : ModelResult) → Accepted s → (o ≡ None → Loose s t a.evolution) → LooseIf s t (unless o a)
 unless_loose s t None a acc h = λ fit. (s, acc, refl, h refl)
 unless_loose s t (Some refusal) a acc h = tt
 
-unless_begun : (s : Basis) (t : ℕ) (o : Option Refusal) (a : Acted) → (o ≡ None → LooseIf s t (Ok a)) → LooseIf s t (unless o a)
+unless_begun : (s : Basis) (t : ℕ) (o : Option Refusal) (a : ModelResult) → (o ≡ None → LooseIf s t (Ok a)) → LooseIf s t (unless o a)
 unless_begun s t None a h = h refl
 unless_begun s t (Some refusal) a h = tt
 
-start_within : (s : Stand) (version : List ℕ) → started_at s version ≤ length s.strategy.steps
+start_within : (s : ServiceState) (version : List ℕ) → started_at s version ≤ length s.strategy.steps
 start_within s version = elim (is_aborted s.state && bytes_eq version s.stable) as (λ b. (if b then length s.strategy.steps else 0) ≤ length s.strategy.steps) [ true ↦ omega arith | false ↦ omega arith ]
 
 -- an attempt is bound as it begins, and stays so
-begun_bound : (known : Templates) (c : Course) (t : ℕ) (version : List ℕ) (event : LineEvent) (i : ℕ) → (begin known c t version event i).stand.bound ≡ bound_of known c.stand.strategy
+begun_bound : (known : Templates) (c : Evolution) (t : ℕ) (version : List ℕ) (event : LineEvent) (i : ℕ) → (begin known c t version event i).service.bound ≡ bound_of known c.service.strategy
 begun_bound known c t version event i = (enter_keeps (tell (begun known c version) t event) i t).3
 
-begun_accepted : (known : Templates) (s : Basis) (c : Course) → Accepted s → basis c.stand ≡ s → are_fit (bound_of known c.stand.strategy) ≡ true → Accepted (begun_basis known c.stand)
+begun_accepted : (known : Templates) (s : Basis) (c : Evolution) → Accepted s → basis c.service ≡ s → are_fit (bound_of known c.service.strategy) ≡ true → Accepted (begun_basis known c.service)
 begun_accepted known s c acc same fit = record { short = subst (λ (k : Basis). length k.strategy.steps ≤ 64) (sym same) acc.short; fit = fit }
 
-leads_begun : (known : Templates) (s : Basis) (t : ℕ) (c : Course) (version : List ℕ) (event : LineEvent) (i : ℕ) → Accepted s → Loose s t c → bound_refusal known c.stand.strategy ≡ None → is_going c.stand.state ≡ false → is_spent (runs_now c) ≡ false → i ≤ length c.stand.strategy.steps → LooseIf s t (Ok (leads (begin known c t version event i)))
+leads_begun : (known : Templates) (s : Basis) (t : ℕ) (c : Evolution) (version : List ℕ) (event : LineEvent) (i : ℕ) → Accepted s → Loose s t c → bound_refusal known c.service.strategy ≡ None → is_in_progress c.service.state ≡ false → is_spent (runs_now c) ≡ false → i ≤ length c.service.strategy.steps → LooseIf s t (Ok (succeeds_with (begin known c t version event i)))
 leads_begun known s t c version event i acc l fine idle left le = λ fit.
-    let own : Accepted (begun_basis known c.stand) = begun_accepted known s c acc l.same (subst (λ (b : BoundParts). are_fit b ≡ true) (begun_bound known c t version event i) fit) in
-    (begun_basis known c.stand, own, ap (λ (k : Basis). k.strategy) l.same, begins_loose known s t c version event i own fine l idle left le)
+    let own : Accepted (begun_basis known c.service) = begun_accepted known s c acc l.same (subst (λ (b : BoundParts). are_fit b ≡ true) (begun_bound known c t version event i) fit) in
+    (begun_basis known c.service, own, ap (λ (k : Basis). k.strategy) l.same, begins_loose known s t c version event i own fine l idle left le)
 
-starts : (known : Templates) (s : Basis) (t : ℕ) (c : Course) (version : List ℕ) → Accepted s → Loose s t c → start_refusal known c version ≡ None → LooseIf s t (Ok (leads (start known c t version)))
+starts : (known : Templates) (s : Basis) (t : ℕ) (c : Evolution) (version : List ℕ) → Accepted s → Loose s t c → start_refusal known c version ≡ None → LooseIf s t (Ok (succeeds_with (start known c t version)))
 starts known s t c version acc l h =
-    let same : Bool = is_done c.stand.state && bytes_eq version c.stand.stable in
+    let same : Bool = is_done c.service.state && bytes_eq version c.service.stable in
     let spent : Option Refusal = if is_spent (runs_now c) then Some RunsSpent else None in
-    let bound = both_none (bound_refusal known c.stand.strategy) (start_refusal_at c version) h in
-    let first = passed_row (is_going c.stand.state) GoesOn (if same then Some AlreadyStable else spent) bound.1 in
+    let bound = both_none (bound_refusal known c.service.strategy) (start_refusal_at c version) h in
+    let first = passed_row (is_in_progress c.service.state) GoesOn (if same then Some AlreadyStable else spent) bound.1 in
     let second = passed_row same AlreadyStable spent first.1 in
     let third = passed_row (is_spent (runs_now c)) RunsSpent None second.1 in
-    leads_begun known s t c version (Started version) (started_at c.stand version) acc l bound.0 first.0 third.0 (start_within c.stand version)
+    leads_begun known s t c version (Started version) (started_at c.service version) acc l bound.0 first.0 third.0 (start_within c.service version)
 
-retries : (known : Templates) (s : Basis) (t : ℕ) (c : Course) → Accepted s → Loose s t c → retry_refusal known c ≡ None → LooseIf s t (Ok (leads (retry known c t)))
+retries : (known : Templates) (s : Basis) (t : ℕ) (c : Evolution) → Accepted s → Loose s t c → retry_refusal known c ≡ None → LooseIf s t (Ok (succeeds_with (retry known c t)))
 retries known s t c acc l h =
-    let bound = both_none (bound_refusal known c.stand.strategy) (retry_refusal_at c) h in
-    let first = passed_row (not (is_aborted c.stand.state)) NotAborted (if is_spent (runs_now c) then Some RunsSpent else None) bound.1 in
+    let bound = both_none (bound_refusal known c.service.strategy) (retry_refusal_at c) h in
+    let first = passed_row (not (is_aborted c.service.state)) NotAborted (if is_spent (runs_now c) then Some RunsSpent else None) bound.1 in
     let second = passed_row (is_spent (runs_now c)) RunsSpent None first.1 in
-    leads_begun known s t c c.stand.version (Retried c.stand.version) 0 acc l bound.0 (aborted_idle c.stand.state (not_false (is_aborted c.stand.state) first.0)) second.0 (omega arith)
+    leads_begun known s t c c.service.version (Retried c.service.version) 0 acc l bound.0 (aborted_idle c.service.state (not_false (is_aborted c.service.state) first.0)) second.0 (omega arith)
 
-in_progress : (s : Stand) → progress_refusal s ≡ None → is_going s.state ≡ true
-in_progress s h = not_false (is_going s.state) (passed_row (not (is_going s.state)) NotInProgress None h).0
+in_progress : (s : ServiceState) → progress_refusal s ≡ None → is_in_progress s.state ≡ true
+in_progress s h = not_false (is_in_progress s.state) (passed_row (not (is_in_progress s.state)) NotInProgress None h).0
 
-promotes_if : (s : Basis) (t : ℕ) (c : Course) → Accepted s → Loose s t c → promote_refusal c.stand ≡ None → Loose s t (promote c t)
+promotes_if : (s : Basis) (t : ℕ) (c : Evolution) → Accepted s → Loose s t c → promote_refusal c.service ≡ None → Loose s t (promote c t)
 promotes_if s t c acc l h =
-    let first = passed_row (not (is_going c.stand.state)) NotInProgress (if is_progressing (status c.stand) then Some NotPaused else None) h in
-    let second = passed_row (is_progressing (status c.stand)) NotPaused None first.1 in
-    promotes s t c acc l (not_false (is_going c.stand.state) first.0) second.0
+    let first = passed_row (not (is_in_progress c.service.state)) NotInProgress (if is_progressing (status c.service) then Some NotPaused else None) h in
+    let second = passed_row (is_progressing (status c.service)) NotPaused None first.1 in
+    promotes s t c acc l (not_false (is_in_progress c.service.state) first.0) second.0
 
-reports_loose : (s : Basis) (t : ℕ) (c : Course) (o : Option OpenRun) (es : List Entry) → Accepted s → Loose s t c → Loose s t (reports_if c o es t).course
+reports_loose : (s : Basis) (t : ℕ) (c : Evolution) (o : Option OpenRun) (es : List Entry) → Accepted s → Loose s t c → Loose s t (reports_if c o es t).evolution
 reports_loose s t c None es acc l = l
 reports_loose s t c (Some r) es acc l = reported s t c r es acc l
 
-acts : (known : Templates) (command : Command) (s : Basis) (t : ℕ) (c : Course) → Accepted s → Loose s t c → LooseIf s t (act known command c t)
-acts known (Start name version) s t c acc l = unless_begun s t (start_refusal known c version) (leads (start known c t version)) (starts known s t c version acc l)
-acts known (Promote name) s t c acc l = unless_loose s t (promote_refusal c.stand) (leads (promote c t)) acc (promotes_if s t c acc l)
-acts known (PromoteFull name) s t c acc l = unless_loose s t (progress_refusal c.stand) (leads (promote_full c t)) acc (λ h. promotes_full s t c l (in_progress c.stand h))
-acts known (Abort name) s t c acc l = unless_loose s t (progress_refusal c.stand) (leads (abort_by_command c t)) acc (λ h. aborts_by_command s t c l (in_progress c.stand h))
-acts known (Retry name) s t c acc l = unless_begun s t (retry_refusal known c) (leads (retry known c t)) (retries known s t c acc l)
+acts : (known : Templates) (command : Command) (s : Basis) (t : ℕ) (c : Evolution) → Accepted s → Loose s t c → LooseIf s t (act known command c t)
+acts known (Start name version) s t c acc l = unless_begun s t (start_refusal known c version) (succeeds_with (start known c t version)) (starts known s t c version acc l)
+acts known (Promote name) s t c acc l = unless_loose s t (promote_refusal c.service) (succeeds_with (promote c t)) acc (promotes_if s t c acc l)
+acts known (PromoteFull name) s t c acc l = unless_loose s t (progress_refusal c.service) (succeeds_with (promote_full c t)) acc (λ h. promotes_full s t c l (in_progress c.service h))
+acts known (Abort name) s t c acc l = unless_loose s t (progress_refusal c.service) (succeeds_with (abort_by_command c t)) acc (λ h. aborts_by_command s t c l (in_progress c.service h))
+acts known (Retry name) s t c acc l = unless_begun s t (retry_refusal known c) (succeeds_with (retry known c t)) (retries known s t c acc l)
 acts known (Tick name) s t c acc l = λ fit. (s, acc, refl, l)
 acts known (Report report) s t c acc l =
     let o : Option OpenRun = open_run_now c report.run in
@@ -255,42 +255,42 @@ acts known (AddTemplate spec) s t c acc l = tt
 
 -- the laws
 
-kept_loose : (s : ServiceParts) (t : ℕ) → is_broken s ≡ false → Loose (basis s.stand) (judged_at s.stand t) (kept_course s)
+kept_loose : (s : ServiceParts) (t : ℕ) → is_broken s ≡ false → Loose (basis s.service) (judged_at s.service t) (stored_evolution s)
 kept_loose s t h =
     let f = fit_of s h in
-    let before : s.stand.entered ≤ s.stand.last = f.2 in
+    let before : s.service.entered ≤ s.service.last = f.2 in
     record { steady = steady_kept s.runs; same = refl; entered = omega arith; fit = f.0; unjudged = f.1 }
 
 pub passing_keeps : PassingKeepsParts
-passing_keeps s t acc fit h = (passes (basis s.stand) (kept_course s) t (accepted (basis s.stand) acc fit) (kept_loose s t h)).unbroken
+passing_keeps s t acc fit h = (passes (basis s.service) (stored_evolution s) t (accepted (basis s.service) acc fit) (kept_loose s t h)).unbroken
 
-late : (s : Basis) (t : ℕ) (c : Course) → Loose s t c → Loose s (judged_at c.stand t) c
-late s t c l = record { steady = l.steady; same = l.same; entered = (let e : c.stand.entered ≤ t = l.entered in omega arith); fit = l.fit; unjudged = l.unjudged }
+late : (s : Basis) (t : ℕ) (c : Evolution) → Loose s t c → Loose s (judged_at c.service t) c
+late s t c l = record { steady = l.steady; same = l.same; entered = (let e : c.service.entered ≤ t = l.entered in omega arith); fit = l.fit; unjudged = l.unjudged }
 
-ok_same : (a b : Acted) → ◌≡◌ {A = Result Acted Refusal} (Ok a) (Ok b) → a ≡ b
+ok_same : (a b : ModelResult) → ◌≡◌ {A = Result ModelResult Refusal} (Ok a) (Ok b) → a ≡ b
 ok_same a b h = cc h
 
-after : (s : Basis) (t : ℕ) (o : Result Acted Refusal) (a : Acted) → LooseIf s t o → passed_on o t ≡ Ok a → are_fit a.course.stand.bound ≡ true → (is_broken (kept_after a.course) ≡ false) × (a.course.stand.strategy ≡ s.strategy)
+after : (s : Basis) (t : ℕ) (o : Result ModelResult Refusal) (a : ModelResult) → LooseIf s t o → passed_on o t ≡ Ok a → are_fit a.evolution.service.bound ≡ true → (is_broken (stored_after a.evolution) ≡ false) × (a.evolution.service.strategy ≡ s.strategy)
 after s t (Ok x) a l h fit =
-    let is : record x { course = pass x.course t } ≡ a = ok_same (record x { course = pass x.course t }) a h in
-    let own : are_fit x.course.stand.bound ≡ true = ap are_fit (sym (passed_keeps x.course t).1) ∙ ap (λ (y : Acted). are_fit y.course.stand.bound) is ∙ fit in
+    let is : record x { evolution = pass x.evolution t } ≡ a = ok_same (record x { evolution = pass x.evolution t }) a h in
+    let own : are_fit x.evolution.service.bound ≡ true = ap are_fit (sym (passed_keeps x.evolution t).1) ∙ ap (λ (y : ModelResult). are_fit y.evolution.service.bound) is ∙ fit in
     let k = l own in
-    let w = passes k.0 x.course t k.1 (late k.0 t x.course k.3) in
-    subst (λ (y : Acted). (is_broken (kept_after y.course) ≡ false) × (y.course.stand.strategy ≡ s.strategy)) is (w.unbroken, ap (λ (b : Basis). b.strategy) w.loose.same ∙ k.2)
+    let w = passes k.0 x.evolution t k.1 (late k.0 t x.evolution k.3) in
+    subst (λ (y : ModelResult). (is_broken (stored_after y.evolution) ≡ false) × (y.evolution.service.strategy ≡ s.strategy)) is (w.unbroken, ap (λ (b : Basis). b.strategy) w.loose.same ∙ k.2)
 after s t (Err refusal) a l h fit = cc h
 
 pub acting_keeps : ActingKeepsParts
 acting_keeps known command s now a acc bound h e fit =
-    let b : Basis = basis s.stand in
-    let t : ℕ = judged_at s.stand now in
-    let c : Course = pass (kept_course s) now in
+    let b : Basis = basis s.service in
+    let t : ℕ = judged_at s.service now in
+    let c : Evolution = pass (stored_evolution s) now in
     let ok = accepted b acc bound in
-    let w = passes b (kept_course s) now ok (kept_loose s now h) in
+    let w = passes b (stored_evolution s) now ok (kept_loose s now h) in
     after b t (act known command c t) a (acts known command b t c ok w.loose) e fit
 
 pub new_are_unbroken : NewPartsAreUnbroken
 new_are_unbroken spec now =
-    let s : Stand = new_stand spec now in
+    let s : ServiceState = new_service_state spec now in
     let f : Fit s no_runs = record {
       placed = placed_end (length spec.steps) (length spec.steps) true refl refl;
       few = omega arith;
@@ -309,4 +309,4 @@ new_are_unbroken spec now =
       bound = new_unbound spec now;
       same = refl;
     } in
-    unbroken_of (kept_after (new_service spec now)) f refl (omega arith) refl
+    unbroken_of (stored_after (new_service spec now)) f refl (omega arith) refl

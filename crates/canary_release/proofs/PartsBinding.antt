@@ -21,8 +21,8 @@ use Rattle.canary_plan.specs.Fit.{are_metrics_of_run}
 use Rattle.canary_plan.specs.Plans.{Templates, no_templates, has_unknown, metrics_named, revisions_in, revisions_named, binds, analysis_of, bound_step, bound_background, bound_of, unbound}
 use Rattle.canary_plan.specs.PlanRefusals.{names_of_step, names_of_background, analyses_in, repeats_metric, is_endless, is_unfit, bound_refusal}
 use Rattle.canary_plan.specs.Commands.{same_names}
-use Rattle.canary_release.specs.declared.stand.Stand.{Stand}
-use Rattle.canary_release.specs.Desks.{new_stand}
+use Rattle.canary_release.specs.declared.state.ServiceState.{ServiceState}
+use Rattle.canary_release.specs.Desks.{new_service_state}
 use Rattle.canary_release.specs.Parts.{is_bound_to, is_step_bound, is_background_bound, is_bound, is_unbound, repeats_metric_in, has_endless, is_refused, is_misbound}
 use Rattle.canary_release.proofs.OrderingBasics.{row_false, not_false}
 use Rattle.canary_release.proofs.PartsLists.{or_left, or_right, neither}
@@ -90,7 +90,7 @@ behind_bound : (known : Templates) (b : Option Background) → list_any (is_unfi
 behind_bound known None h = refl
 behind_bound known (Some b) h = bound_to known b.templates (or_left (is_unfit known b.templates) false h)
 
-pub bound_where_not_refused : (known : Templates) (s : Stand) → bound_refusal known s.strategy ≡ None → is_bound (record s { bound = bound_of known s.strategy }) ≡ true
+pub bound_where_not_refused : (known : Templates) (s : ServiceState) → bound_refusal known s.strategy ≡ None → is_bound (record s { bound = bound_of known s.strategy }) ≡ true
 bound_where_not_refused known s h =
     let n = not_refused known s.strategy h in
     let steps = filter_map names_of_step s.strategy.steps in
@@ -184,9 +184,9 @@ unbound_not_refused s =
     (none_of_none repeats_metric_in refl b.background (none_behind s.background))
     (none_of_all has_endless refl b.steps (none_bound s.steps)))
 
-pub new_unbound : (spec : ServiceSpec) (now : ℕ) → is_misbound (new_stand spec now) ≡ false
+pub new_unbound : (spec : ServiceSpec) (now : ℕ) → is_misbound (new_service_state spec now) ≡ false
 new_unbound spec now =
-    let s : Stand = new_stand spec now in
+    let s : ServiceState = new_service_state spec now in
     let none : is_unbound s ≡ true = rw (as_many spec.steps, none_bound spec.steps) (none_behind spec.background) in
     neither (not (is_bound s || is_unbound s)) (is_refused s.bound) (either (is_bound s) (is_unbound s) none) (unbound_not_refused s.strategy)
   where

@@ -20,10 +20,10 @@ use Rattle.canary_plan.specs.declared.strategy.CheckedStrategy.{CheckedStrategy}
 use Rattle.canary_plan.specs.declared.analysis_parts.Revision.{Revision}
 use Rattle.canary_plan.specs.Fit.{are_metrics_of_run, is_at_least_one, asks_for_some, have_counts}
 use Rattle.canary_plan.specs.Plans.{analysis_if, analysis_at, analysis_or_none, is_within_limits, is_background_within_limits, is_accepted, is_fit_if, are_fit}
-use Rattle.canary_release.specs.declared.stand.Stand.{Stand}
+use Rattle.canary_release.specs.declared.state.ServiceState.{ServiceState}
 use Rattle.canary_release.specs.declared.runs.OpenRun.{OpenRun}
 use Rattle.canary_release.specs.Watching.{opened_now}
-use Rattle.canary_release.specs.Courses.{run_verdict}
+use Rattle.canary_release.specs.Evolutions.{run_verdict}
 use Rattle.canary_release.specs.Parts.{has_wrong_tallies, same_revision, is_bound_otherwise, is_bound_to, is_step_bound, is_background_bound, is_bound}
 
 -- no measurements
@@ -84,7 +84,7 @@ pub record Basis : Type 0 where
   pub strategy : CheckedStrategy
   pub bound : BoundParts
 
-abbrev pub basis : Stand → Basis
+abbrev pub basis : ServiceState → Basis
 basis s = record { strategy = s.strategy; bound = s.bound }
 
 -- an analysis that is bound, and fit for runs
@@ -153,7 +153,7 @@ found_fit b step names (Some a) is bound fit =
       counted = and_right (are_metrics_of_run a.metrics) (have_counts a.metrics) fit;
     }
 
-pub background_analysis : (s : Stand) (b : Background) → Accepted (basis s) → is_bound s ≡ true → s.strategy.background ≡ Some b → HasAnalysis s.bound None
+pub background_analysis : (s : ServiceState) (b : Background) → Accepted (basis s) → is_bound s ≡ true → s.strategy.background ≡ Some b → HasAnalysis s.bound None
 background_analysis s b acc bound e =
     let behind = and_right (pointwise is_step_bound s.strategy.steps s.bound.steps) (is_background_bound s.strategy.background s.bound.background) bound in
     let fit = and_right (list_all is_fit_if s.bound.steps) (is_fit_if s.bound.background) acc.fit in
@@ -179,7 +179,7 @@ listed (s ∷ ss) (a ∷ rest) zero names f g h =
 listed (s ∷ ss) (a ∷ rest) (suc i) names f g h =
     listed ss rest i names (and_right (is_step_bound s a) (pointwise is_step_bound ss rest) f) (and_right (is_fit_if a) (list_all is_fit_if rest) g) h
 
-pub step_analysis : (s : Stand) (i : ℕ) (names : List (List ℕ)) → Accepted (basis s) → is_bound s ≡ true → slice_get s.strategy.steps i ≡ Some (Analysis names) → HasAnalysis s.bound (Some i)
+pub step_analysis : (s : ServiceState) (i : ℕ) (names : List (List ℕ)) → Accepted (basis s) → is_bound s ≡ true → slice_get s.strategy.steps i ≡ Some (Analysis names) → HasAnalysis s.bound (Some i)
 step_analysis s i names acc bound e =
     let steps = and_left (pointwise is_step_bound s.strategy.steps s.bound.steps) (is_background_bound s.strategy.background s.bound.background) bound in
     let fit = and_left (list_all is_fit_if s.bound.steps) (is_fit_if s.bound.background) acc.fit in

@@ -5,7 +5,7 @@ use Rattle.std.specs.List.{list_any}
 use Rattle.std.proofs.lemmas.Bool.Decides.{nat_tests}
 use Rattle.canary_release.specs.declared.runs.OpenRun.{OpenRun}
 use Rattle.canary_release.specs.Watching.{is_other}
-use Rattle.canary_release.specs.Courses.{has_number}
+use Rattle.canary_release.specs.Evolutions.{has_number}
 use Rattle.canary_release.specs.Parts.{repeats_number}
 
 pub or_left : (a b : Bool) → (a || b) ≡ false → a ≡ false

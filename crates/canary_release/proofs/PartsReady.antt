@@ -6,13 +6,13 @@ use Rattle.std.proofs.lemmas.Bool.Decides.{nat_tests}
 use Rattle.canary_plan.specs.declared.service.Background.{Background}
 use Rattle.canary_plan.specs.declared.bound.BoundParts.{BoundParts}
 use Rattle.canary_plan.specs.Plans.{analysis_at}
-use Rattle.canary_release.specs.declared.stand.State.{State}
-use Rattle.canary_release.specs.declared.stand.State.TheVariants.{InProgress, Aborted, Done}
-use Rattle.canary_release.specs.declared.stand.Stand.{Stand}
+use Rattle.canary_release.specs.declared.state.ReleaseState.{ReleaseState}
+use Rattle.canary_release.specs.declared.state.ReleaseState.TheVariants.{InProgress, Aborted, Done}
+use Rattle.canary_release.specs.declared.state.ServiceState.{ServiceState}
 use Rattle.canary_release.specs.declared.runs.OpenRun.{OpenRun}
 use Rattle.canary_release.specs.declared.runs.Runs.{Runs}
-use Rattle.canary_release.specs.Services.{is_going, is_done, is_held}
-use Rattle.canary_release.specs.Courses.{has_number}
+use Rattle.canary_release.specs.Services.{is_in_progress, is_done, is_held}
+use Rattle.canary_release.specs.Evolutions.{has_number}
 use Rattle.canary_release.specs.Entering.{begins_background}
 use Rattle.canary_release.specs.Parts.{is_background_run, is_step_run, is_misnumbered, repeats_number, has_wrong_tallies, is_bound_otherwise, is_refused, is_bound, is_unbound, is_judged, is_elsewhere, is_astray}
 use Rattle.canary_release.proofs.PartsLists.{any_weaker, any_push, any_push_other, few_push_other, few_push_first, few_none, repeats_push, and_false, or_left, or_right, neither}
@@ -29,8 +29,8 @@ pub record AreRuns (b : BoundParts) (w : Runs) : Type 0 where
   pub unjudged : list_any is_judged w.open_runs ≡ false
 
 -- in progress, not held, with no step run, and with so many run numbers left beside those of the background
-pub record Ready (s : Stand) (w : Runs) (need : ℕ) : Type 0 where
-  pub going : is_going s.state ≡ true
+pub record Ready (s : ServiceState) (w : Runs) (need : ℕ) : Type 0 where
+  pub going : is_in_progress s.state ≡ true
   pub unheld : s.step_hold ≡ false
   pub background_unheld : s.background_hold ≡ false
   pub few : w.count ≤ 1000000
@@ -98,7 +98,7 @@ not_open true true h e = cc e
 not_open true false h e = cc h
 not_open false b h e = refl
 
-pub ready_begun : (s : Stand) (w : Runs) (need at : ℕ) → Accepted (basis s) → Begins s.strategy.background s.background → Ready s w need → Ready (record s { background = true }) (with_new s.bound w None at) need
+pub ready_begun : (s : ServiceState) (w : Runs) (need at : ℕ) → Accepted (basis s) → Begins s.strategy.background s.background → Ready s w need → Ready (record s { background = true }) (with_new s.bound w None at) need
 ready_begun s w need at acc b r =
     let new : OpenRun = new_run s.bound (w.count + 1) None at in
     let there : is_some s.strategy.background ≡ true = ap is_some b.is in
@@ -119,7 +119,7 @@ ready_begun s w need at acc b r =
 
 -- a step before the end is shown
 
-pub going_not_done : (x : State) → is_going x ≡ true → is_done x ≡ false
+pub going_not_done : (x : ReleaseState) → is_in_progress x ≡ true → is_done x ≡ false
 going_not_done InProgress h = refl
 going_not_done Aborted h = refl
 going_not_done Done h = cc h
@@ -136,11 +136,11 @@ placed_end n i d h e =
     let same : (i == n) ≡ true = grind (arith, nat_tests) in
     rw (below, same, e) refl
 
-elsewhere_none : (s : Stand) (step : Option ℕ) → is_some step ≡ false → is_elsewhere s step ≡ false
+elsewhere_none : (s : ServiceState) (step : Option ℕ) → is_some step ≡ false → is_elsewhere s step ≡ false
 elsewhere_none s None h = refl
 elsewhere_none s (Some i) h = cc h
 
-pub none_astray : (s : Stand) (rs : List OpenRun) → list_any is_step_run rs ≡ false → list_any (is_astray s) rs ≡ false
+pub none_astray : (s : ServiceState) (rs : List OpenRun) → list_any is_step_run rs ≡ false → list_any (is_astray s) rs ≡ false
 none_astray s rs h = any_weaker is_step_run (is_astray s) (λ r e. elsewhere_none s r.step e) rs h
 
 unheld_run : (a b h : Bool) → (a && not b) ≡ false → h ≡ false → (a && (not b || h)) ≡ false
@@ -170,10 +170,10 @@ few_opened n i x count e h = omega arith
 pub not_misbound : (bound unbound refused : Bool) → (bound ≡ true) × (refused ≡ false) → (not (bound || unbound) || refused) ≡ false
 not_misbound bound unbound refused h = rw (h.0, h.1) refl
 
-abbrev left : Stand → Runs → Bool → ℕ
+abbrev left : ServiceState → Runs → Bool → ℕ
 left s w held = of_background (is_some s.strategy.background) s.background (has_background w.open_runs) held
 
-pub settled : (s : Stand) (w : Runs) → s.step < length s.strategy.steps → Ready s w (length s.strategy.steps - s.step) → Fit s w
+pub settled : (s : ServiceState) (w : Runs) → s.step < length s.strategy.steps → Ready s w (length s.strategy.steps - s.step) → Fit s w
 settled s w below r =
     record {
       placed = placed_below (length s.strategy.steps) s.step (is_done s.state) below (going_not_done s.state r.going);
@@ -182,12 +182,12 @@ settled s w below r =
       numbered = r.runs.numbered;
       distinct = r.runs.distinct;
       tallied = r.runs.tallied;
-      idle = λ i. contradicts (is_going s.state) r.going i;
+      idle = λ i. contradicts (is_in_progress s.state) r.going i;
       one_background = r.one_background;
       one_step = few_none is_step_run w.open_runs r.no_step;
       home = none_astray s w.open_runs r.no_step;
       background_run = unheld_run (has_background w.open_runs) s.background s.background_hold r.background_run r.background_unheld;
-      held = held_going (is_held s) (is_going s.state) r.going;
+      held = held_going (is_held s) (is_in_progress s.state) r.going;
       known = r.known;
       hold = unheld_hold s.background_hold s.background r.background_unheld;
       bound = not_misbound (is_bound s) (is_done s.state && is_unbound s) (is_refused s.bound) r.bound;
@@ -197,7 +197,7 @@ settled s w below r =
 here : (i : ℕ) (none held : Bool) → none ≡ false → held ≡ false → (not (i == i) || (none || held)) ≡ false
 here i none held e h = let same : (i == i) ≡ true = grind (arith, nat_tests) in rw (same, e, h) refl
 
-pub settled_open : (s : Stand) (w : Runs) (at : ℕ) → s.step < length s.strategy.steps → HasAnalysis s.bound (Some s.step) → Ready s w (length s.strategy.steps - s.step) → Fit s (with_new s.bound w (Some s.step) at) × Unjudged (with_new s.bound w (Some s.step) at)
+pub settled_open : (s : ServiceState) (w : Runs) (at : ℕ) → s.step < length s.strategy.steps → HasAnalysis s.bound (Some s.step) → Ready s w (length s.strategy.steps - s.step) → Fit s (with_new s.bound w (Some s.step) at) × Unjudged (with_new s.bound w (Some s.step) at)
 settled_open s w at below has r =
     let new : OpenRun = new_run s.bound (w.count + 1) (Some s.step) at in
     let runs = more_runs s.bound w (Some s.step) at has r.runs in
@@ -210,12 +210,12 @@ settled_open s w at below has r =
         numbered = runs.numbered;
         distinct = runs.distinct;
         tallied = runs.tallied;
-        idle = λ i. contradicts (is_going s.state) r.going i;
+        idle = λ i. contradicts (is_in_progress s.state) r.going i;
         one_background = subst (λ n. n ≤ 1) (sym (few_push_other is_background_run w.open_runs new refl)) r.one_background;
         one_step = few_push_first is_step_run w.open_runs new r.no_step;
         home = any_push (is_astray s) w.open_runs new (none_astray s w.open_runs r.no_step) (here s.step (is_none (analysis_at s.bound (Some s.step))) (is_held s) (ap is_none has.found) unheld);
         background_run = rw same (unheld_run (has_background w.open_runs) s.background s.background_hold r.background_run r.background_unheld);
-        held = held_going (is_held s) (is_going s.state) r.going;
+        held = held_going (is_held s) (is_in_progress s.state) r.going;
         known = r.known;
         hold = unheld_hold s.background_hold s.background r.background_unheld;
         bound = not_misbound (is_bound s) (is_done s.state && is_unbound s) (is_refused s.bound) r.bound;

@@ -6,13 +6,13 @@ use Rattle.canary_metric.specs.Metrics.{MetricValue}
 use Rattle.canary_plan.specs.declared.report.Entry.{Entry}
 use Rattle.canary_plan.specs.Plans.{analysis_at}
 use Rattle.canary_release.specs.declared.effect.Recorded.{Recorded}
-use Rattle.canary_release.specs.declared.effect.Effect.TheVariants.{Measured}
-use Rattle.canary_release.specs.declared.stand.Stand.{Stand}
+use Rattle.canary_release.specs.declared.effect.Effect.TheVariants.{MeasurementRecorded}
+use Rattle.canary_release.specs.declared.state.ServiceState.{ServiceState}
 use Rattle.canary_release.specs.declared.runs.OpenRun.{OpenRun}
 use Rattle.canary_release.specs.declared.runs.Runs.{Runs}
 use Rattle.canary_release.specs.Pasts.{change_at}
 use Rattle.canary_release.specs.Watching.{counted, counted_in, is_other}
-use Rattle.canary_release.specs.Courses.{Course, happen, runs_now}
+use Rattle.canary_release.specs.Evolutions.{Evolution, apply_effect, runs_now}
 use Rattle.canary_release.specs.Reports.{Place, place_of, recorded_if, brought, record_all}
 use Rattle.canary_release.specs.Parts.{is_background_run, is_step_run, is_misnumbered, has_wrong_tallies, has_other_revisions, is_bound_otherwise, is_elsewhere, is_astray, is_judged}
 use Rattle.canary_release.proofs.PartsLists.{any_weaker, any_filter, any_filtered, any_map, any_map_same, few_map, few_filter, repeats_filter, repeats_map, and_false, of_others, of_other}
@@ -35,13 +35,13 @@ same_place x r =
 wrong_alike : (q r : OpenRun) → q.analysis ≡ r.analysis → length q.tallies ≡ length r.tallies → has_wrong_tallies r ≡ false → has_wrong_tallies q ≡ false
 wrong_alike q r e l h = (λ i. not (length (e i).metrics == l i)) ∙ h
 
-other_alike : (s : Stand) (q r : OpenRun) → q.step ≡ r.step → q.analysis ≡ r.analysis → has_other_revisions s r ≡ false → has_other_revisions s q ≡ false
+other_alike : (s : ServiceState) (q r : OpenRun) → q.step ≡ r.step → q.analysis ≡ r.analysis → has_other_revisions s r ≡ false → has_other_revisions s q ≡ false
 other_alike s q r e l h = (λ i. is_bound_otherwise (analysis_at s.bound (e i)) (l i)) ∙ h
 
 abbrev pub measured : Recorded → Runs → Runs
 measured x w = with_open w (map (counted_in x) w.open_runs)
 
-measured_fits : (s : Stand) (w : Runs) (x : Recorded) → Fit s w → Fit s (measured x w)
+measured_fits : (s : ServiceState) (w : Runs) (x : Recorded) → Fit s w → Fit s (measured x w)
 measured_fits s w x f =
     let change : OpenRun → OpenRun = counted_in x in
     let number = λ (r : OpenRun). (same_place x r).0 in
@@ -94,21 +94,21 @@ brought_of ms r [] = tt
 brought_of ms r (e ∷ es) = one_of r e (place_of ms r e) (brought ms r es) (brought_of ms r es)
 
 -- it stands as before, and is unbroken but for time and that run's verdict
-pub record StillFits (n : ℕ) (s : Stand) (c : Course) : Type 0 where
+pub record StillFits (n : ℕ) (s : ServiceState) (c : Evolution) : Type 0 where
   pub steady : Steady c.watch
-  pub stand : c.stand ≡ s
+  pub service : c.service ≡ s
   pub fit : Fit s (runs_now c)
   pub others : OthersUnjudged n (runs_now c)
 
-recorded : (n : ℕ) (c : Course) (xs : List Recorded) → AreOf n xs → Steady c.watch → Fit c.stand (runs_now c) → OthersUnjudged n (runs_now c) → StillFits n c.stand (record_all c xs)
-recorded n c [] are steady f o = record { steady = steady; stand = refl; fit = f; others = o }
+recorded : (n : ℕ) (c : Evolution) (xs : List Recorded) → AreOf n xs → Steady c.watch → Fit c.service (runs_now c) → OthersUnjudged n (runs_now c) → StillFits n c.service (record_all c xs)
+recorded n c [] are steady f o = record { steady = steady; service = refl; fit = f; others = o }
 recorded n c (x ∷ xs) are steady f o =
-    let runs : runs_now (happen c (Measured x)) ≡ measured x (runs_now c) = happened_runs c (Measured x) steady in
-    recorded n (happen c (Measured x)) xs are.1 steady
-    (subst (λ (w : Runs). Fit c.stand w) (sym runs) (measured_fits c.stand (runs_now c) x f))
+    let runs : runs_now (apply_effect c (MeasurementRecorded x)) ≡ measured x (runs_now c) = happened_runs c (MeasurementRecorded x) steady in
+    recorded n (apply_effect c (MeasurementRecorded x)) xs are.1 steady
+    (subst (λ (w : Runs). Fit c.service w) (sym runs) (measured_fits c.service (runs_now c) x f))
     (subst (λ (w : Runs). OthersUnjudged n w) (sym runs) (measured_others n (runs_now c) x are.0 o))
 
-pub all_recorded : (c : Course) (ms : List MetricValue) (r : OpenRun) (es : List Entry) → Steady c.watch → Fit c.stand (runs_now c) → Unjudged (runs_now c) → StillFits r.number c.stand (record_all c (brought ms r es))
+pub all_recorded : (c : Evolution) (ms : List MetricValue) (r : OpenRun) (es : List Entry) → Steady c.watch → Fit c.service (runs_now c) → Unjudged (runs_now c) → StillFits r.number c.service (record_all c (brought ms r es))
 all_recorded c ms r es steady f u =
     recorded r.number c (brought ms r es) (brought_of ms r es) steady f
     (any_weaker is_judged (of_others r.number is_judged) (λ q h. and_false (is_other r.number q) (is_judged q) h) (runs_now c).open_runs u)
@@ -140,7 +140,7 @@ and_less false true x w h = cc (w refl)
 less : (a b : ℕ) → b ≤ a → a ≤ 1 → b ≤ 1
 less a b g h = omega arith
 
-pub closed_fits : (s : Stand) (w : Runs) (n : ℕ) → Fit s w → Fit s (without n w)
+pub closed_fits : (s : ServiceState) (w : Runs) (n : ℕ) → Fit s w → Fit s (without n w)
 closed_fits s w n f =
     let t : OpenRun → Bool = is_other n in
     let background : has_background w.open_runs ≡ false → has_background (filter t w.open_runs) ≡ false = any_filter t is_background_run w.open_runs in

@@ -21,12 +21,12 @@ use Rattle.canary_plan.specs.declared.refusal.Refusal.{Refusal}
 use Rattle.canary_plan.specs.declared.refusal.Refusal.TheVariants.{RepeatedMetric, MetricClosed, AlreadyRecorded, OutOfTurn, Spent, Future, TooEarly}
 use Rattle.canary_plan.specs.Refusals.{first_that_holds, or_refusal}
 use Rattle.canary_release.specs.declared.effect.Recorded.{Recorded}
-use Rattle.canary_release.specs.declared.effect.Effect.TheVariants.{Measured}
+use Rattle.canary_release.specs.declared.effect.Effect.TheVariants.{MeasurementRecorded}
 use Rattle.canary_release.specs.declared.runs.OpenRun.{OpenRun}
 use Rattle.canary_release.specs.declared.runs.Runs.{Runs}
 use Rattle.canary_release.specs.Pasts.{change_at}
-use Rattle.canary_release.specs.Watching.{counted, counted_in, happens}
-use Rattle.canary_release.specs.Courses.{has_number}
+use Rattle.canary_release.specs.Watching.{counted, counted_in, effect_applied}
+use Rattle.canary_release.specs.Evolutions.{has_number}
 use Rattle.canary_release.specs.Parts.{repeats_number}
 use Rattle.canary_release.specs.Recording.{is_not_full, takes, have_room}
 use Rattle.canary_release.specs.Reports.{Place, place_from, place_of, names_metric, entry_refusal_at, entry_refusal, entries_refusal, recorded_at, recorded_if, brought}
@@ -248,7 +248,7 @@ room_for w [] phases h = refl
 room_for w (x ∷ xs) phases h =
     let phase = both (is_measured x.phase) (list_all (λ (y : Recorded). is_measured y.phase) xs) phases in
     let next = all_next x xs w.open_runs h in
-    λ i. (phase.0 i && next.0 i) && room_for (happens w (Measured x)) xs phase.1 next.1 i
+    λ i. (phase.0 i && next.0 i) && room_for (effect_applied w (MeasurementRecorded x)) xs phase.1 next.1 i
 
 -- runs of other numbers alone
 none_same : (P : OpenRun → Bool) (n : ℕ) (rs : List OpenRun) → list_any (has_number n) rs ≡ false → ((o : OpenRun) → (o.number == n) ≡ false → P o ≡ true) → list_all P rs ≡ true

@@ -13,18 +13,18 @@ use Rattle.canary_plan.specs.declared.command.Command.{Command}
 use Rattle.canary_plan.specs.declared.command.Command.TheVariants.{Start, Promote, Abort}
 use Rattle.canary_plan.specs.declared.line.LineEvent.TheVariants.{Created, Started, WeightEntered, PauseEntered, Promoted, Finished, BackgroundOpened, Ended, Aborted as AbortedLine}
 use Rattle.canary_plan.specs.declared.refusal.Refusal.TheVariants.{AlreadyStable, NotInProgress, NotPaused}
-use Rattle.canary_release.specs.declared.stand.State.TheVariants.{InProgress, Aborted, Done}
-use Rattle.canary_release.specs.declared.stand.Stand.{Stand}
+use Rattle.canary_release.specs.declared.state.ReleaseState.TheVariants.{InProgress, Aborted, Done}
+use Rattle.canary_release.specs.declared.state.ServiceState.{ServiceState}
 use Rattle.canary_release.specs.declared.effect.Opening.{Opening}
 use Rattle.canary_release.specs.declared.effect.Recorded.{Recorded}
-use Rattle.canary_release.specs.declared.effect.Effect.TheVariants.{Opened, Measured, Closed}
-use Rattle.canary_release.specs.Pasts.{no_past, grows_by, watched}
+use Rattle.canary_release.specs.declared.effect.Effect.TheVariants.{RunOpened, MeasurementRecorded, RunClosed}
+use Rattle.canary_release.specs.Pasts.{no_past, past_with_all, tracked}
 use Rattle.canary_release.specs.Watching.{no_runs}
 use Rattle.canary_release.specs.Services.{weight}
-use Rattle.canary_release.specs.Courses.{Course}
+use Rattle.canary_release.specs.Evolutions.{Evolution}
 use Rattle.canary_release.specs.Commands.{start_refusal_at, promote_refusal}
-use Rattle.canary_release.specs.Desks.{machine, no_desk, new_stand}
-use Rattle.canary_release.specs.Shapes.{kept_course}
+use Rattle.canary_release.specs.Desks.{machine, no_desk, new_service_state}
+use Rattle.canary_release.specs.Stored.{stored_evolution}
 use Rattle.canary_release.proofs.Stories.{service_after, b, ok, no, web, v1, v2, v3, m, add, background, background_setup, two_pauses, every, metric, report, result, told}
 use Rattle.canary_release.proofs.Worlds.{replies_from_nothing, service_then}
 
@@ -52,7 +52,7 @@ release_replies = replies_from_nothing to_end _ refl
 -- the service at its second pause, with its whole history
 paused_service : service_after to_second_pause web ≡ Some (record {
   made = record { name = web; version = v1; steps = two_pauses; background = None };
-  stand = record {
+  service = record {
     name = web;
     strategy = record { steps = two_pauses; background = None };
     bound = record { steps = replicate 4 None; background = None };
@@ -86,7 +86,7 @@ falling = (b + 9, add web (SetWeight 20 ∷ Pause None ∷ [])) ∷ (b + 3, Star
 
 falling_service : service_after falling web ≡ Some (record {
   made = record { name = web; version = v1; steps = SetWeight 20 ∷ Pause None ∷ []; background = None };
-  stand = record {
+  service = record {
     name = web;
     strategy = record { steps = SetWeight 20 ∷ Pause None ∷ []; background = None };
     bound = record { steps = replicate 2 None; background = None };
@@ -143,7 +143,7 @@ weights_alone = (b, add web (SetWeight 5 ∷ SetWeight 100 ∷ [])) ∷ (b + 4, 
 
 weights_service : service_after weights_alone web ≡ Some (record {
   made = record { name = web; version = v1; steps = SetWeight 5 ∷ SetWeight 100 ∷ []; background = None };
-  stand = record {
+  service = record {
     name = web;
     strategy = record { steps = SetWeight 5 ∷ SetWeight 100 ∷ []; background = None };
     bound = record { steps = replicate 2 None; background = None };
@@ -180,7 +180,7 @@ refused_late =
 
 refused_late_service : service_after refused_late web ≡ Some (record {
   made = record { name = web; version = v1; steps = Pause None ∷ Pause None ∷ []; background = None };
-  stand = record {
+  service = record {
     name = web;
     strategy = record { steps = Pause None ∷ Pause None ∷ []; background = None };
     bound = record { steps = replicate 2 None; background = None };
@@ -212,7 +212,7 @@ late = (b + 7, add web two_pauses) ∷ []
 
 new_service_of : service_after late web ≡ Some (record {
   made = record { name = web; version = v1; steps = two_pauses; background = None };
-  stand = record {
+  service = record {
     name = web;
     strategy = record { steps = two_pauses; background = None };
     bound = record { steps = replicate 4 None; background = None };
@@ -252,7 +252,7 @@ measured_once = background_setup ++ ((b + 5, report (result m 1 (b + 5) 7 refl))
 
 measured_service : service_after measured_once web ≡ Some (record {
   made = record { name = web; version = v1; steps = SetWeight 20 ∷ Pause None ∷ []; background = background (codes "errs") 0 };
-  stand = record {
+  service = record {
     name = web;
     strategy = record { steps = SetWeight 20 ∷ Pause None ∷ []; background = background (codes "errs") 0 };
     bound = record { steps = replicate 2 None; background = Some (record { revisions = record { template = codes "errs"; number = 1 } ∷ []; metrics = bound_metric [] (every (metric m) 60) ∷ [] }) };
@@ -291,17 +291,17 @@ measured_service = service_then (λ found. found) measured_once web _ refl
 -- The weight is that of step 0 at step 0, and none is set before it.
 
 -- with no runs
-abbrev standing : Stand → Course
-standing s = kept_course (record { stand = s; runs = no_runs })
+abbrev standing : ServiceState → Evolution
+standing s = stored_evolution (record { service = s; runs = no_runs })
 
-of_two_pauses : Stand
-of_two_pauses = new_stand (record { name = web; version = v1; steps = two_pauses; background = None }) b
+of_two_pauses : ServiceState
+of_two_pauses = new_service_state (record { name = web; version = v1; steps = two_pauses; background = None }) b
 
 weight_at_first_step : weight (record of_two_pauses { state = InProgress; step = 0 }) ≡ 20
 unfolding of_two_pauses
 weight_at_first_step = refl
 
-weight_before_any : weight (record (new_stand (record { name = web; version = v1; steps = Pause None ∷ SetWeight 20 ∷ []; background = None }) b) { state = InProgress; step = 0 }) ≡ 0
+weight_before_any : weight (record (new_service_state (record { name = web; version = v1; steps = Pause None ∷ SetWeight 20 ∷ []; background = None }) b) { state = InProgress; step = 0 }) ≡ 0
 weight_before_any = refl
 
 -- A start is refused with the stable version, and not with the version that the service shows.
@@ -316,8 +316,8 @@ start_with_shown = refl
 
 -- A promotion is refused where the release is done, and then where it is not at a pause.
 
-at_weight : Stand
-at_weight = record (new_stand (record { name = web; version = v1; steps = two_pauses; background = None }) b) { state = InProgress; step = 2 }
+at_weight : ServiceState
+at_weight = record (new_service_state (record { name = web; version = v1; steps = two_pauses; background = None }) b) { state = InProgress; step = 2 }
 
 not_paused : promote_refusal at_weight ≡ Some NotPaused
 unfolding at_weight
@@ -327,7 +327,7 @@ not_in_progress : promote_refusal (record at_weight { state = Done }) ≡ Some N
 unfolding at_weight
 not_in_progress = refl
 
--- What is watched of a past: a run is opened, measured and closed.
+-- What is tracked of a past: a run is opened, measured and closed.
 
 -- an analysis of two metrics
 abbrev of_two : AnalysisParts
@@ -339,11 +339,11 @@ run_of_two = record { run = 1; step = Some 1; analysis = of_two; started = b }
 abbrev good : Recorded
 good = record { run = 1; metric = 1; ordinal = 1; taken = b + 5; outcome = Result (Whole (pos 7)); phase = Successful }
 
-one_open : watched (grows_by no_past (Opened run_of_two ∷ Measured good ∷ [])) ≡ record {
+one_open : tracked (past_with_all no_past (RunOpened run_of_two ∷ MeasurementRecorded good ∷ [])) ≡ record {
   count = 1;
   open_runs = record { number = 1; step = Some 1; analysis = of_two; started = b; tallies = counts [] ∷ with_one_more (counts []) Successful (b + 5) ∷ [] } ∷ [];
 }
 one_open = refl
 
-none_open : watched (grows_by no_past (Opened run_of_two ∷ Closed (record { run = 1; at = b + 9; outside = true; verdict = Successful }) [] ∷ [])) ≡ record { count = 1; open_runs = [] }
+none_open : tracked (past_with_all no_past (RunOpened run_of_two ∷ RunClosed (record { run = 1; at = b + 9; outside = true; verdict = Successful }) [] ∷ [])) ≡ record { count = 1; open_runs = [] }
 none_open = refl

@@ -9,10 +9,10 @@ use Rattle.canary_plan.specs.declared.command.Command.{Command}
 use Rattle.canary_plan.specs.declared.command.Command.TheVariants.{Start, Promote, Abort, Retry, Tick}
 use Rattle.canary_plan.specs.Plans.{no_templates}
 use Rattle.canary_release.specs.declared.reply.Reply.{Reply}
-use Rattle.canary_release.specs.declared.stand.State.TheVariants.{Aborted}
+use Rattle.canary_release.specs.declared.state.ReleaseState.TheVariants.{Aborted}
 use Rattle.canary_release.specs.declared.service.ServiceParts.{ServiceParts}
-use Rattle.canary_release.specs.Desks.{machine, no_desk, new_stand, ruling}
-use Rattle.canary_release.specs.Shapes.{kept_course}
+use Rattle.canary_release.specs.Desks.{machine, no_desk, new_service_state, model_decision}
+use Rattle.canary_release.specs.Stored.{stored_evolution}
 use Rattle.canary_release.proofs.Stories.{replies_after, service_after, lines_of, tallies_of, holds_of, b, ok, no, web, v1, v2, m, service, add, background, two_pauses, metric, every, above_ten, template, result, failure, report_on, report, step_setup}
 use Rattle.canary_release.proofs.Worlds.{replies_from_nothing, replies_then, service_then}
 
@@ -385,12 +385,12 @@ spec_of_web = record { name = web; version = v1; steps = two_pauses; background 
 abbrev aborted_after : ℕ → ServiceParts
 aborted_after n =
     record {
-      stand = record (new_stand spec_of_web b) { version = v2; state = Aborted; step = 1; entered = b + 1; last = b + 2 };
+      service = record (new_service_state spec_of_web b) { version = v2; state = Aborted; step = 1; entered = b + 1; last = b + 2 };
       runs = record { count = n; open_runs = [] };
     }
 
 abbrev back_to_stable : ℕ → Reply
-back_to_stable n = (ruling no_templates (Some (kept_course (aborted_after n))) (b + 3) (Start web v1)).reply
+back_to_stable n = (model_decision no_templates (Some (stored_evolution (aborted_after n))) (b + 3) (Start web v1)).reply
 
 stable_is_spent : back_to_stable 999935 ≡ no (codes "{\"code\":\"runs-spent\"}")
 unfolding digits

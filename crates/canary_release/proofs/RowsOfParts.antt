@@ -7,12 +7,12 @@ use Rattle.canary_plan.specs.declared.service.Background.{Background}
 use Rattle.canary_plan.specs.declared.service.ServiceSpec.{ServiceSpec}
 use Rattle.canary_plan.specs.declared.template_spec.MetricSpec.{MetricSpec}
 use Rattle.canary_plan.specs.Plans.{Templates, template_of, strategy_of, bound_of, unbound, revisions_named, metrics_named}
-use Rattle.canary_release.specs.declared.stand.State.{State}
-use Rattle.canary_release.specs.declared.stand.State.TheVariants.{InProgress, Aborted, Done}
-use Rattle.canary_release.specs.declared.stand.Stand.{Stand}
+use Rattle.canary_release.specs.declared.state.ReleaseState.{ReleaseState}
+use Rattle.canary_release.specs.declared.state.ReleaseState.TheVariants.{InProgress, Aborted, Done}
+use Rattle.canary_release.specs.declared.state.ServiceState.{ServiceState}
 use Rattle.canary_release.specs.declared.runs.OpenRun.{OpenRun}
 use Rattle.canary_release.specs.declared.service.ServiceParts.{ServiceParts}
-use Rattle.canary_release.specs.Desks.{new_stand}
+use Rattle.canary_release.specs.Desks.{new_service_state}
 use Rattle.canary_release.specs.Parts.{is_broken}
 use Rattle.canary_release.proofs.Stories.{b, web, v1, v2, m, background, metric, every}
 
@@ -26,30 +26,30 @@ three_times name = Some (template_of (record { name = codes "t"; metrics = recor
 abbrev five_steps : Option Background → ServiceSpec
 five_steps background = record { name = web; version = v1; steps = SetWeight 20 ∷ Analysis (codes "t" ∷ []) ∷ Analysis (codes "t" ∷ []) ∷ Pause None ∷ Pause (Some 300) ∷ []; background = background }
 
-abbrev stands : Option Background → State → ℕ → Stand
-stands background state i = record (new_stand (five_steps background) b) { bound = bound_of three_times (strategy_of (five_steps background)); version = v2; state = state; step = i }
+abbrev stands : Option Background → ReleaseState → ℕ → ServiceState
+stands background state i = record (new_service_state (five_steps background) b) { bound = bound_of three_times (strategy_of (five_steps background)); version = v2; state = state; step = i }
 
 -- it has a background analysis, which wasn't begun
-abbrev unbegun : State → ℕ → Stand
+abbrev unbegun : ReleaseState → ℕ → ServiceState
 unbegun state i = stands (background (codes "t") 0) state i
 
 -- the background analysis was begun
-abbrev at_step : State → ℕ → Stand
+abbrev at_step : ReleaseState → ℕ → ServiceState
 at_step state i = record (unbegun state i) { background = true }
 
-abbrev step_held : Stand → Stand
+abbrev step_held : ServiceState → ServiceState
 step_held s = record s { step_hold = true }
 
-abbrev background_held : Stand → Stand
+abbrev background_held : ServiceState → ServiceState
 background_held s = record s { background_hold = true }
 
 -- it was entered and was judged last so many seconds after the first moment
-abbrev in_time : ℕ → ℕ → Stand → Stand
+abbrev in_time : ℕ → ℕ → ServiceState → ServiceState
 in_time entered last s = record s { entered = b + entered; last = b + last }
 
 -- so many runs were made, and these are open
-abbrev parts : Stand → ℕ → List OpenRun → ServiceParts
-parts s n runs = record { stand = s; runs = record { count = n; open_runs = runs } }
+abbrev parts : ServiceState → ℕ → List OpenRun → ServiceParts
+parts s n runs = record { service = s; runs = record { count = n; open_runs = runs } }
 
 -- so many successful measurements
 abbrev tally : ℕ → Counts
@@ -308,7 +308,7 @@ held_pause_stays = refl
 -- What it is bound to: nothing, in another state than done; another analysis; another revision than
 -- an open run's.
 
-abbrev not_bound : State → ℕ → Stand
+abbrev not_bound : ReleaseState → ℕ → ServiceState
 not_bound state i = record (unbegun state i) { bound = unbound (strategy_of (five_steps (background (codes "t") 0))) }
 
 unbound_when_done : is_broken (parts (not_bound Done 5) 1 []) ≡ false
@@ -336,7 +336,7 @@ run_of_its_revision = refl
 abbrev bound_to : Templates → List (List ℕ) → Option Background → ServiceParts
 bound_to known names background =
     let spec : ServiceSpec = record { name = web; version = v1; steps = Analysis names ∷ []; background = background } in
-    parts (record (new_stand spec b) { bound = bound_of known (strategy_of spec); version = v2; state = Aborted; step = 0 }) 1 []
+    parts (record (new_service_state spec b) { bound = bound_of known (strategy_of spec); version = v2; state = Aborted; step = 0 }) 1 []
 
 abbrev both : List (List ℕ)
 both = codes "t" ∷ codes "u" ∷ []

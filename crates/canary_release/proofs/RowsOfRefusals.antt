@@ -8,12 +8,12 @@ use Rattle.canary_plan.specs.declared.command.Command.{Command}
 use Rattle.canary_plan.specs.declared.command.Command.TheVariants.{Start, Promote, PromoteFull, Abort, Retry, Tick}
 use Rattle.canary_plan.specs.Plans.{Templates, no_templates, template_of, strategy_of, bound_of, revisions_named, metrics_named}
 use Rattle.canary_release.specs.declared.reply.Reply.{Reply}
-use Rattle.canary_release.specs.declared.stand.State.TheVariants.{InProgress, Aborted}
-use Rattle.canary_release.specs.declared.stand.Stand.{Stand}
+use Rattle.canary_release.specs.declared.state.ReleaseState.TheVariants.{InProgress, Aborted}
+use Rattle.canary_release.specs.declared.state.ServiceState.{ServiceState}
 use Rattle.canary_release.specs.declared.service.ServiceParts.{ServiceParts}
-use Rattle.canary_release.specs.Desks.{machine, no_desk, new_stand, ruling}
+use Rattle.canary_release.specs.Desks.{machine, no_desk, new_service_state, model_decision}
 use Rattle.canary_release.specs.Parts.{is_broken}
-use Rattle.canary_release.specs.Shapes.{kept_course}
+use Rattle.canary_release.specs.Stored.{stored_evolution}
 use Rattle.canary_release.proofs.Stories.{replies_after, b, ok, no, web, v1, v2, v3, m, service, add, background, two_pauses, metric, with_success, with_failure, every, above_ten, template, result, report_on, report, step_setup}
 use Rattle.canary_release.proofs.Worlds.{replies_from_nothing, replies_then}
 
@@ -294,49 +294,49 @@ abbrev spec_of_web : ServiceSpec
 spec_of_web = record { name = web; version = v1; steps = two_pauses; background = None }
 
 -- so many runs were made
-abbrev with_runs : ℕ → Stand → ServiceParts
-with_runs n stand = record { stand = stand; runs = record { count = n; open_runs = [] } }
+abbrev with_runs : ℕ → ServiceState → ServiceParts
+with_runs n service = record { service = service; runs = record { count = n; open_runs = [] } }
 
-abbrev done_stand : Stand
-done_stand = new_stand spec_of_web b
+abbrev done_service_state : ServiceState
+done_service_state = new_service_state spec_of_web b
 
-abbrev aborted_stand : Stand
-aborted_stand = record done_stand { version = v2; state = Aborted; step = 1; entered = b + 1; last = b + 2 }
+abbrev aborted_service_state : ServiceState
+aborted_service_state = record done_service_state { version = v2; state = Aborted; step = 1; entered = b + 1; last = b + 2 }
 
-aborted_is_accepted : is_broken (with_runs 999935 aborted_stand) ≡ false
+aborted_is_accepted : is_broken (with_runs 999935 aborted_service_state) ≡ false
 aborted_is_accepted = refl
 
-done_is_accepted : is_broken (with_runs 999935 done_stand) ≡ false
+done_is_accepted : is_broken (with_runs 999935 done_service_state) ≡ false
 done_is_accepted = refl
 
 abbrev reply_to : ServiceParts → Command → Reply
-reply_to parts command = (ruling no_templates (Some (kept_course parts)) (b + 3) command).reply
+reply_to parts command = (model_decision no_templates (Some (stored_evolution parts)) (b + 3) command).reply
 
-retry_is_spent : reply_to (with_runs 999935 aborted_stand) (Retry web) ≡ no (codes "{\"code\":\"runs-spent\"}")
+retry_is_spent : reply_to (with_runs 999935 aborted_service_state) (Retry web) ≡ no (codes "{\"code\":\"runs-spent\"}")
 unfolding digits
 retry_is_spent = refl
 
-retry_begins : reply_to (with_runs 999934 aborted_stand) (Retry web) ≡ ok (codes "{\"code\":\"ok\",\"service\":\"web\",\"status\":\"Paused\",\"step\":1,\"weight\":20}")
+retry_begins : reply_to (with_runs 999934 aborted_service_state) (Retry web) ≡ ok (codes "{\"code\":\"ok\",\"service\":\"web\",\"status\":\"Paused\",\"step\":1,\"weight\":20}")
 unfolding digits
 retry_begins = refl
 
-start_is_spent : reply_to (with_runs 999935 aborted_stand) (Start web v3) ≡ no (codes "{\"code\":\"runs-spent\"}")
+start_is_spent : reply_to (with_runs 999935 aborted_service_state) (Start web v3) ≡ no (codes "{\"code\":\"runs-spent\"}")
 unfolding digits
 start_is_spent = refl
 
-start_begins : reply_to (with_runs 999934 aborted_stand) (Start web v3) ≡ ok (codes "{\"code\":\"ok\",\"service\":\"web\",\"status\":\"Paused\",\"step\":1,\"weight\":20}")
+start_begins : reply_to (with_runs 999934 aborted_service_state) (Start web v3) ≡ ok (codes "{\"code\":\"ok\",\"service\":\"web\",\"status\":\"Paused\",\"step\":1,\"weight\":20}")
 unfolding digits
 start_begins = refl
 
-start_is_spent_when_done : reply_to (with_runs 999935 done_stand) (Start web v2) ≡ no (codes "{\"code\":\"runs-spent\"}")
+start_is_spent_when_done : reply_to (with_runs 999935 done_service_state) (Start web v2) ≡ no (codes "{\"code\":\"runs-spent\"}")
 unfolding digits
 start_is_spent_when_done = refl
 
-stable_before_spent : reply_to (with_runs 999935 done_stand) (Start web v1) ≡ no (codes "{\"code\":\"already-stable\"}")
+stable_before_spent : reply_to (with_runs 999935 done_service_state) (Start web v1) ≡ no (codes "{\"code\":\"already-stable\"}")
 unfolding digits
 stable_before_spent = refl
 
-not_aborted_before_spent : reply_to (with_runs 999935 done_stand) (Retry web) ≡ no (codes "{\"code\":\"not-aborted\"}")
+not_aborted_before_spent : reply_to (with_runs 999935 done_service_state) (Retry web) ≡ no (codes "{\"code\":\"not-aborted\"}")
 unfolding digits
 not_aborted_before_spent = refl
 
@@ -352,7 +352,7 @@ measured_spec = record { name = web; version = v1; steps = SetWeight 20 ∷ Paus
 abbrev measured : ℕ → ServiceParts
 measured n =
     record {
-      stand = record (new_stand measured_spec b) { bound = bound_of errs (strategy_of measured_spec); version = v2; state = InProgress; step = 1; background = true };
+      service = record (new_service_state measured_spec b) { bound = bound_of errs (strategy_of measured_spec); version = v2; state = InProgress; step = 1; background = true };
       runs = record {
         count = 1;
         open_runs = record {
@@ -369,7 +369,7 @@ measured_is_accepted : is_broken (measured 1000000) ≡ false
 measured_is_accepted = refl
 
 abbrev reported_to : ℕ → Command → Reply
-reported_to n command = (ruling errs (Some (kept_course (measured n))) (b + 100) command).reply
+reported_to n command = (model_decision errs (Some (stored_evolution (measured n))) (b + 100) command).reply
 
 measurements_are_spent : reported_to 1000000 (report (result m 1000001 (b + 60) 5 refl)) ≡ no (codes "{\"at\":0,\"code\":\"spent\"}")
 unfolding digits

@@ -11,7 +11,7 @@ use Rattle.canary_plan.specs.declared.step.Step.TheVariants.{Analysis, SetWeight
 use Rattle.canary_plan.specs.declared.command.Command.{Command}
 use Rattle.canary_plan.specs.declared.command.Command.TheVariants.{Template, Start, Retry}
 use Rattle.canary_plan.specs.declared.refusal.Refusal.TheVariants.{RevisionsSpent}
-use Rattle.canary_release.specs.Desks.{machine, no_desk, ModelService, refuses, ruling}
+use Rattle.canary_release.specs.Desks.{machine, no_desk, ModelService, refuses, model_decision}
 use Rattle.canary_release.specs.Pasts.{Run}
 use Rattle.canary_release.proofs.Stories.{service_after, lines_of, b, ok, no, web, v2, v3, m, add, metric, with_success, zero_is_good, every, template, report_on, report, result, background, service}
 use Rattle.canary_release.proofs.Worlds.{replies_from_nothing, service_then}
@@ -117,10 +117,10 @@ of_t = record { name = codes "t"; metrics = metric m ∷ []; dry_run = []; withi
 abbrev known_as : ℕ → Templates
 known_as revision name = Some (template_of of_t revision)
 
-revisions_spent : ruling (known_as 1000000) None b (Template of_t) ≡ refuses RevisionsSpent
+revisions_spent : model_decision (known_as 1000000) None b (Template of_t) ≡ refuses RevisionsSpent
 revisions_spent = refl
 
-last_revision : (ruling (known_as 999999) None b (Template of_t)).reply ≡ ok (codes "{\"code\":\"ok\",\"revision\":1000000,\"template\":\"t\"}")
+last_revision : (model_decision (known_as 999999) None b (Template of_t)).reply ≡ ok (codes "{\"code\":\"ok\",\"revision\":1000000,\"template\":\"t\"}")
 unfolding digits
 last_revision = refl
 

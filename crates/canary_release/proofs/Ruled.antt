@@ -14,14 +14,14 @@ use Rattle.canary_plan.specs.Commands.{template_in, service_in}
 use Rattle.canary_plan.specs.Plans.{is_accepted, are_fit}
 use Rattle.canary_plan.specs.declared.refusal.Refusal.{Refusal}
 use Rattle.canary_release.specs.declared.service.ServiceParts.{ServiceParts}
-use Rattle.canary_release.specs.declared.commands.Led.{Led}
-use Rattle.canary_release.specs.Courses.{Course}
-use Rattle.canary_release.specs.Desks.{refuses, adds_unless, revision_refusal, act_passed, rule_template, rule_service, act_new, ruling}
+use Rattle.canary_release.specs.declared.commands.CommandResult.{CommandResult}
+use Rattle.canary_release.specs.Evolutions.{Evolution}
+use Rattle.canary_release.specs.Desks.{refuses, adds_unless, revision_refusal, act_passed, rule_template, rule_service, act_new, model_decision}
 use Rattle.canary_release.specs.Parts.{is_broken}
 use Rattle.canary_release.specs.PartsLaws.{ActingKeepsParts}
-use Rattle.canary_release.specs.Shapes.{whole, kept_course, kept_after, led_as, acted_as}
+use Rattle.canary_release.specs.Stored.{evolution_of, stored_evolution, stored_after, command_result_of, model_result_of}
 
-pub by_template : (known : Templates) (found : Option Course) (now : ℕ) (c : Command) (spec : TemplateSpec) → template_in c ≡ Some spec → ruling known found now c ≡ rule_template (known spec.name) spec
+pub by_template : (known : Templates) (found : Option Evolution) (now : ℕ) (c : Command) (spec : TemplateSpec) → template_in c ≡ Some spec → model_decision known found now c ≡ rule_template (known spec.name) spec
 by_template known found now (command.Template s) spec h = cc h
 by_template known found now (command.Service s) spec h = cc h
 by_template known found now (command.Start s v) spec h = cc h
@@ -32,7 +32,7 @@ by_template known found now (command.Retry s) spec h = cc h
 by_template known found now (command.Tick s) spec h = cc h
 by_template known found now (command.Report r) spec h = cc h
 
-pub by_service : (known : Templates) (found : Option Course) (now : ℕ) (c : Command) → template_in c ≡ None → ruling known found now c ≡ rule_service known found now c
+pub by_service : (known : Templates) (found : Option Evolution) (now : ℕ) (c : Command) → template_in c ≡ None → model_decision known found now c ≡ rule_service known found now c
 by_service known found now (command.Template s) h = cc h
 by_service known found now (command.Service s) h = refl
 by_service known found now (command.Start s v) h = refl
@@ -66,12 +66,12 @@ new_unknown known now (command.Tick s) h = refl
 new_unknown known now (command.Report r) h = refl
 
 -- where a command leads the code, the parts are unbroken
-pub acting_keeps : ActingKeepsParts → (known : Templates) (command : Command) (s : ServiceParts) (now : ℕ) (acted : Result Led Refusal) → IsTrue (is_accepted s.stand.strategy) → IsTrue (are_fit s.stand.bound) → is_broken s ≡ false → acted_as acted ≡ act_passed known command (kept_course s) now → IfOk acted (λ led. IsTrue (are_fit led.draft.stand.bound)) → IfOk acted (λ led. is_broken (kept_after (whole led.draft)) ≡ false)
-acting_keeps law known command s now (Ok led) accepted bound unbroken e fit = (law known command s now (led_as led) accepted bound unbroken (sym e) fit).0
+pub acting_keeps : ActingKeepsParts → (known : Templates) (command : Command) (s : ServiceParts) (now : ℕ) (acted : Result CommandResult Refusal) → IsTrue (is_accepted s.service.strategy) → IsTrue (are_fit s.service.bound) → is_broken s ≡ false → model_result_of acted ≡ act_passed known command (stored_evolution s) now → IfOk acted (λ command_result. IsTrue (are_fit command_result.transition.service.bound)) → IfOk acted (λ command_result. is_broken (stored_after (evolution_of command_result.transition)) ≡ false)
+acting_keeps law known command s now (Ok command_result) accepted bound unbroken e fit = (law known command s now (command_result_of command_result) accepted bound unbroken (sym e) fit).0
 acting_keeps law known command s now (Err refusal) accepted bound unbroken e fit = tt
 
-pub acting_keeps_all : {E : Type 0} → ActingKeepsParts → (known : Templates) (command : Command) (s : ServiceParts) (now : ℕ) (r : Result (Result Led Refusal) E) → IsTrue (is_accepted s.stand.strategy) → IsTrue (are_fit s.stand.bound) → is_broken s ≡ false
-    → IfOk r (λ acted. acted_as acted ≡ act_passed known command (kept_course s) now) → IfOk r (λ acted. IfOk acted (λ led. IsTrue (are_fit led.draft.stand.bound))) → IfOk r (λ acted. IfOk acted (λ led. is_broken (kept_after (whole led.draft)) ≡ false))
+pub acting_keeps_all : {E : Type 0} → ActingKeepsParts → (known : Templates) (command : Command) (s : ServiceParts) (now : ℕ) (r : Result (Result CommandResult Refusal) E) → IsTrue (is_accepted s.service.strategy) → IsTrue (are_fit s.service.bound) → is_broken s ≡ false
+    → IfOk r (λ acted. model_result_of acted ≡ act_passed known command (stored_evolution s) now) → IfOk r (λ acted. IfOk acted (λ command_result. IsTrue (are_fit command_result.transition.service.bound))) → IfOk r (λ acted. IfOk acted (λ command_result. is_broken (stored_after (evolution_of command_result.transition)) ≡ false))
 acting_keeps_all law known command s now (Ok acted) accepted bound unbroken e fit = acting_keeps law known command s now acted accepted bound unbroken e fit
 acting_keeps_all law known command s now (Err fault) accepted bound unbroken e fit = tt
 

@@ -17,45 +17,45 @@ use Rattle.canary_plan.specs.PlanRefusals.{strategy_refusal}
 use Rattle.canary_plan.specs.Commands.{subject_of}
 use Rattle.canary_release.specs.declared.service.ServiceParts.{ServiceParts}
 use Rattle.canary_release.specs.Pasts.{no_past}
-use Rattle.canary_release.specs.Courses.{Course, Watch}
-use Rattle.canary_release.specs.Commands.{Acted, unless, leads}
-use Rattle.canary_release.specs.Desks.{ModelService, Desk, Change, rules, after, desk_after, course_of, act_new, act_passed, new_service, adds_unless, newest_number, revision_refusal, newest, rule_template, rule_service, ruling, ruling_on, watch_of}
+use Rattle.canary_release.specs.Evolutions.{Evolution, RunView}
+use Rattle.canary_release.specs.Commands.{ModelResult, unless, succeeds_with}
+use Rattle.canary_release.specs.Desks.{ModelService, Desk, Change, rules, after, desk_after, model_evolution, act_new, act_passed, new_service, adds_unless, newest_number, revision_refusal, newest, rule_template, rule_service, model_decision, ruling_on, watch_of}
 use Rattle.canary_release.specs.Desks.Change.{Nothing, Adds, Becomes}
-use Rattle.canary_release.specs.Shapes.{shape, kept_after, said, kept_by, seen, KeepsWhatIsSeen}
+use Rattle.canary_release.specs.Stored.{stored_form, stored_after, change_of, stored_by, stored_service, KeepsWhatIsSeen}
 use Rattle.canary_release.proofs.Watches.{KeepsIf, acted_passed}
 
--- a course with the watch of a service's past ends with what is kept of it afterwards
-pub kept_is_seen : (m : ModelService) (command : Command) (c : Course) → c.watch ≡ watch_of m.past → shape (after (Some m) c.stand c.effects) ≡ kept_after c
-kept_is_seen m command c same = λ i. record { stand = c.stand; runs = sym same i c.effects }
+-- an evolution with the view of runs of a service's past ends with what is kept of it afterwards
+pub kept_is_seen : (m : ModelService) (command : Command) (c : Evolution) → c.watch ≡ watch_of m.past → stored_form (after (Some m) c.service c.effects) ≡ stored_after c
+kept_is_seen m command c same = λ i. record { service = c.service; runs = sym same i c.effects }
 
 -- a change of the service as it was found brings what is kept of it afterwards
 abbrev Fits : Option ModelService → Change → Type 0
 Fits found Nothing = Unit {0}
 Fits found (Adds t) = Unit {0}
-Fits found (Becomes c) = shape (after found c.stand c.effects) ≡ kept_after c
+Fits found (Becomes c) = stored_form (after found c.service c.effects) ≡ stored_after c
 
-abbrev HasWatch : Watch → Result Acted Refusal → Type 0
-HasWatch w (Ok a) = a.course.watch ≡ w
+abbrev HasWatch : RunView → Result ModelResult Refusal → Type 0
+HasWatch w (Ok a) = a.evolution.watch ≡ w
 HasWatch w (Err refusal) = Unit {0}
 
-fits_old : (m : ModelService) (command : Command) (r : Result Acted Refusal) → HasWatch (watch_of m.past) r → Fits (Some m) (rules r).change
-fits_old m command (Ok a) same = kept_is_seen m command a.course same
+fits_old : (m : ModelService) (command : Command) (r : Result ModelResult Refusal) → HasWatch (watch_of m.past) r → Fits (Some m) (rules r).change
+fits_old m command (Ok a) same = kept_is_seen m command a.evolution same
 fits_old m command (Err refusal) same = tt
 
-fits_new : (command : Command) (r : Result Acted Refusal) → HasWatch (watch_of no_past) r → Fits None (rules r).change
-fits_new command (Ok a) same = λ i. record { stand = a.course.stand; runs = sym same i a.course.effects }
+fits_new : (command : Command) (r : Result ModelResult Refusal) → HasWatch (watch_of no_past) r → Fits None (rules r).change
+fits_new command (Ok a) same = λ i. record { service = a.evolution.service; runs = sym same i a.evolution.effects }
 fits_new command (Err refusal) same = tt
 
-kept_watch_of : (c : Course) (r : Result Acted Refusal) → KeepsIf c r → HasWatch c.watch r
+kept_watch_of : (c : Evolution) (r : Result ModelResult Refusal) → KeepsIf c r → HasWatch c.watch r
 kept_watch_of c (Ok a) k = k
 kept_watch_of c (Err refusal) k = tt
 
-unless_new : (r : Option Refusal) (a : Acted) → a.course.watch ≡ watch_of no_past → HasWatch (watch_of no_past) (unless r a)
+unless_new : (r : Option Refusal) (a : ModelResult) → a.evolution.watch ≡ watch_of no_past → HasWatch (watch_of no_past) (unless r a)
 unless_new None a k = k
 unless_new (Some refusal) a k = tt
 
 new_watch : (known : Templates) (command : Command) (now : ℕ) → HasWatch (watch_of no_past) (act_new known command now)
-new_watch known (Service spec) now = unless_new (strategy_refusal known spec) (leads (new_service spec now)) refl
+new_watch known (Service spec) now = unless_new (strategy_refusal known spec) (succeeds_with (new_service spec now)) refl
 new_watch known (Template spec) now = tt
 new_watch known (Start name version) now = tt
 new_watch known (Promote name) now = tt
@@ -65,9 +65,9 @@ new_watch known (Retry name) now = tt
 new_watch known (Tick name) now = tt
 new_watch known (Report report) now = tt
 
-fits_service : (known : Templates) (found : Option ModelService) (now : ℕ) (command : Command) → Fits found (rule_service known (option_map course_of found) now command).change
+fits_service : (known : Templates) (found : Option ModelService) (now : ℕ) (command : Command) → Fits found (rule_service known (option_map model_evolution found) now command).change
 fits_service known None now command = fits_new command (act_new known command now) (new_watch known command now)
-fits_service known (Some m) now command = fits_old m command (act_passed known command (course_of m) now) (kept_watch_of (course_of m) (act_passed known command (course_of m) now) (acted_passed known command (course_of m) now))
+fits_service known (Some m) now command = fits_old m command (act_passed known command (model_evolution m) now) (kept_watch_of (model_evolution m) (act_passed known command (model_evolution m) now) (acted_passed known command (model_evolution m) now))
 
 fits_adds : (found : Option ModelService) (command : Command) (refusal : Option Refusal) (t : Known) → Fits found (adds_unless refusal t).change
 fits_adds found command None t = tt
@@ -76,7 +76,7 @@ fits_adds found command (Some refusal) t = tt
 fits_template : (found : Option ModelService) (command : Command) (there : Option Known) (spec : TemplateSpec) → Fits found (rule_template there spec).change
 fits_template found command there spec = fits_adds found command (revision_refusal (newest_number there) spec) (template_of spec (newest_number there + 1))
 
-pub fits : (known : Templates) (found : Option ModelService) (now : ℕ) (command : Command) → Fits found (ruling known (option_map course_of found) now command).change
+pub fits : (known : Templates) (found : Option ModelService) (now : ℕ) (command : Command) → Fits found (model_decision known (option_map model_evolution found) now command).change
 fits known found now (Template spec) = fits_template found (Template spec) (known spec.name) spec
 fits known found now (Service spec) = fits_service known found now (Service spec)
 fits known found now (Start name version) = fits_service known found now (Start name version)
@@ -96,11 +96,11 @@ same_name name = is_eq-slice_cmp name name ∙ bytes_same name
 found_there : (desk : Desk) (command : Command) (m : ModelService) → get (insert desk.services (subject_of command) m) (subject_of command) ≡ Some m
 found_there desk command m = get-insert nat_list_cmp_total desk.services (subject_of command) m (subject_of command) ∙ ap (λ b. cond b (Some m) (get desk.services (subject_of command))) (same_name (subject_of command))
 
-seen_after : (desk : Desk) (command : Command) (x : Change) (s : ServiceParts) → Fits (get desk.services (subject_of command)) x → kept_by (said x) ≡ Some s → seen (desk_after desk command x) (subject_of command) ≡ Some s
+seen_after : (desk : Desk) (command : Command) (x : Change) (s : ServiceParts) → Fits (get desk.services (subject_of command)) x → stored_by (change_of x) ≡ Some s → stored_service (desk_after desk command x) (subject_of command) ≡ Some s
 seen_after desk command Nothing s fit brings = cc brings
 seen_after desk command (Adds t) s fit brings = cc brings
 seen_after desk command (Becomes c) s fit brings =
-    ap (option_map shape) (found_there desk command (after (get desk.services (subject_of command)) c.stand c.effects)) ∙ ap (λ (k : ServiceParts). Some k) fit ∙ brings
+    ap (option_map stored_form) (found_there desk command (after (get desk.services (subject_of command)) c.service c.effects)) ∙ ap (λ (k : ServiceParts). Some k) fit ∙ brings
 
 pub keeps_what_is_seen : KeepsWhatIsSeen
 keeps_what_is_seen desk now command s brings = seen_after desk command (ruling_on desk now command).change s (fits (newest desk.templates) (get desk.services (subject_of command)) now command) brings

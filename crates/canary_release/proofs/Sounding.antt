@@ -18,14 +18,14 @@ use Rattle.canary_plan.specs.Commands.{subject_of}
 use Rattle.canary_release.specs.declared.effect.Recorded.{Recorded}
 use Rattle.canary_release.specs.declared.effect.Closing.{Closing}
 use Rattle.canary_release.specs.declared.effect.Effect.{Effect}
-use Rattle.canary_release.specs.declared.effect.Effect.TheVariants.{Told, Opened, Measured, Closed}
+use Rattle.canary_release.specs.declared.effect.Effect.TheVariants.{LineAdded, RunOpened, MeasurementRecorded, RunClosed}
 use Rattle.canary_release.specs.declared.runs.OpenRun.{OpenRun}
 use Rattle.canary_release.specs.declared.runs.Runs.{Runs}
-use Rattle.canary_release.specs.Pasts.{Run, Past, change_at, opened_run, with_recorded, measured_in, closed_in, grows, grows_by, is_open, measurement_of, counts_of, tallied, watched}
-use Rattle.canary_release.specs.Courses.{Course, run_verdict}
+use Rattle.canary_release.specs.Pasts.{Run, Past, change_at, opened_run, with_recorded, measured_in, closed_in, past_with, past_with_all, is_open, measurement_of, counts_of, tallied, tracked}
+use Rattle.canary_release.specs.Evolutions.{Evolution, run_verdict}
 use Rattle.canary_release.specs.Desks.{ModelService, RevisionMap, Desk, no_desk, Change, after, desk_after, ruling_on, apply}
 use Rattle.canary_release.specs.Desks.Change.{Nothing, Adds, Becomes}
-use Rattle.canary_release.specs.Shapes.{shape}
+use Rattle.canary_release.specs.Stored.{stored_form}
 use Rattle.canary_release.specs.Parts.{is_judged}
 use Rattle.canary_release.specs.PartsLaws.{PassingKeepsParts, ActingKeepsParts, NewPartsAreUnbroken}
 use Rattle.canary_release.specs.Laws.{WatchesAlike}
@@ -104,22 +104,22 @@ sound_closed x w is_verdict completed r h that =
       | false ↦ λ e. h
     ] refl
 
-sound_after : (ts : RevisionMap) (st : CheckedStrategy) (p : Past) (x : Effect) → Allowed ts st (watched p) x → IsOrdered ts st p → AllByRecursion IsSoundSoFar p.runs → AllByRecursion IsSoundSoFar (grows p x).runs
-sound_after ts st p (Told line) a o h = h
-sound_after ts st p (Opened x) a o h = each_and_more IsSoundSoFar p.runs (opened_run x) h (none_judged x.analysis.metrics (length x.analysis.metrics), tt)
-sound_after ts st p (Measured x) a o h =
+sound_after : (ts : RevisionMap) (st : CheckedStrategy) (p : Past) (x : Effect) → Allowed ts st (tracked p) x → IsOrdered ts st p → AllByRecursion IsSoundSoFar p.runs → AllByRecursion IsSoundSoFar (past_with p x).runs
+sound_after ts st p (LineAdded line) a o h = h
+sound_after ts st p (RunOpened x) a o h = each_and_more IsSoundSoFar p.runs (opened_run x) h (none_judged x.analysis.metrics (length x.analysis.metrics), tt)
+sound_after ts st p (MeasurementRecorded x) a o h =
     let that = that_run x.run 1 p.runs a.run o.numbered a.found in
     each_mapped (λ (r : Run). IsSoundSoFar (measured_in x r)) IsSoundSoFar (measured_in x) (λ r k. k) p.runs
     (each_both IsSoundSoFar (IsThatRun x.run a.run) (λ (r : Run). IsSoundSoFar (measured_in x r)) (sound_measured x a.run a.metric a.is_metric a.judged) p.runs h that)
-sound_after ts st p (Closed x tallies) a o h =
+sound_after ts st p (RunClosed x tallies) a o h =
     let that = that_run x.run 1 p.runs a.run o.numbered a.found in
     each_mapped (λ (r : Run). IsSoundSoFar (closed_in x r)) IsSoundSoFar (closed_in x) (λ r k. k) p.runs
     (each_both IsSoundSoFar (IsThatRun x.run a.run) (λ (r : Run). IsSoundSoFar (closed_in x r)) (sound_closed x a.run a.verdict a.completed) p.runs h that)
 
-sound_after_all : WatchesAlike → (ts : RevisionMap) (st : CheckedStrategy) (p : Past) (xs : List Effect) → AreAllowed ts st (watched p) xs → IsOrdered ts st p → AllByRecursion IsSoundSoFar p.runs → AllByRecursion IsSoundSoFar (grows_by p xs).runs
+sound_after_all : WatchesAlike → (ts : RevisionMap) (st : CheckedStrategy) (p : Past) (xs : List Effect) → AreAllowed ts st (tracked p) xs → IsOrdered ts st p → AllByRecursion IsSoundSoFar p.runs → AllByRecursion IsSoundSoFar (past_with_all p xs).runs
 sound_after_all alike ts st p [] a o h = h
 sound_after_all alike ts st p (x ∷ xs) a o h =
-    sound_after_all alike ts st (grows p x) xs (subst (λ (w : Runs). AreAllowed ts st w xs) (sym (watched_then alike p x)) a.1) (ordered_after ts st p x a.0 o) (sound_after ts st p x a.0 o h)
+    sound_after_all alike ts st (past_with p x) xs (subst (λ (w : Runs). AreAllowed ts st w xs) (sym (watched_then alike p x)) a.1) (ordered_after ts st p x a.0 o) (sound_after ts st p x a.0 o h)
 
 -- A service whose open runs aren't judged.
 
@@ -161,14 +161,14 @@ abbrev SoundIf : Option ModelService → Type 0
 SoundIf None = Unit {0}
 SoundIf (Some s) = AllByRecursion IsSoundRun s.past.runs
 
-sound_becomes : WatchesAlike → (ts : RevisionMap) (found : Option ModelService) (command : Command) (c : Course) → OrderIf ts (subject_of command) found → SoundIf found → HasCome ts found command (Becomes c) → AllByRecursion IsSoundRun (after found c.stand c.effects).past.runs
+sound_becomes : WatchesAlike → (ts : RevisionMap) (found : Option ModelService) (command : Command) (c : Evolution) → OrderIf ts (subject_of command) found → SoundIf found → HasCome ts found command (Becomes c) → AllByRecursion IsSoundRun (after found c.service c.effects).past.runs
 sound_becomes alike ts None command c o h came = subst (AllByRecursion IsSoundRun) (sym came.no_runs) tt
 sound_becomes alike ts (Some m) command c o h came =
-    let s : ModelService = after (Some m) c.stand c.effects in
+    let s : ModelService = after (Some m) c.service c.effects in
     let f = came.following in
     let so_far = each IsSoundRun IsSoundSoFar to_so_far m.past.runs h in
-    let grown = sound_after_all alike ts m.stand.strategy m.past c.effects f.allowed (past_ordered ts (subject_of command) m o) so_far in
-    each_both IsSoundSoFar IsUnjudged IsSoundRun from_so_far s.past.runs grown (unjudged s.past.runs (parts_say (shape s) came.order.parts).unjudged)
+    let grown = sound_after_all alike ts m.service.strategy m.past c.effects f.allowed (past_ordered ts (subject_of command) m o) so_far in
+    each_both IsSoundSoFar IsUnjudged IsSoundRun from_so_far s.past.runs grown (unjudged s.past.runs (parts_say (stored_form s) came.order.parts).unjudged)
 
 sound_of : (desk : Desk) → AreSound desk → (name : List ℕ) → SoundIf (get desk.services name)
 sound_of desk h name = by (get desk.services name) refl
@@ -183,7 +183,7 @@ sound_on alike desk command (Adds t) o h came = h
 sound_on alike desk command (Becomes c) o h came =
     let name = subject_of command in
     let found = get desk.services name in
-    found_inserted AreSoundRuns desk.services name (after found c.stand c.effects) (sound_becomes alike desk.templates found command c (order_of desk o name) (sound_of desk h name) came) h
+    found_inserted AreSoundRuns desk.services name (after found c.service c.effects) (sound_becomes alike desk.templates found command c (order_of desk o name) (sound_of desk h name) came) h
 
 pub stay_sound : WatchesAlike → PassingKeepsParts → ActingKeepsParts → NewPartsAreUnbroken → StaySound
 stay_sound alike passing acting adding desk [] o h = h

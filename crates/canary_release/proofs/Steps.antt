@@ -9,69 +9,69 @@ use Rattle.canary_plan.specs.Plans.{Templates, Agree}
 use Rattle.canary_plan.specs.Commands.{subject_of, names_looked_up}
 use Rattle.canary_release.specs.declared.service.ServiceParts.{ServiceParts}
 use Rattle.canary_release.specs.declared.service.Passed.{Passed}
-use Rattle.canary_release.specs.declared.stand.Stand.{Stand}
+use Rattle.canary_release.specs.declared.state.ServiceState.{ServiceState}
 use Rattle.canary_release.specs.declared.runs.Runs.{Runs}
 use Rattle.canary_release.specs.declared.effect.Effect.{Effect}
-use Rattle.canary_release.specs.declared.draft.Draft.{Draft}
+use Rattle.canary_release.specs.declared.transition.Transition.{Transition}
 use Rattle.canary_release.specs.declared.decide.Decision.{Decision}
-use Rattle.canary_release.specs.Pasts.{no_past, watched}
+use Rattle.canary_release.specs.Pasts.{no_past, tracked}
 use Rattle.canary_release.specs.Watching.{no_runs}
-use Rattle.canary_release.specs.Courses.{Course, Watch, course_from, tell}
-use Rattle.canary_release.specs.Desks.{ModelService, course_of, new_stand, new_service, Change, Ruling, Desk, newest, ruling, ruling_on, desk_after}
+use Rattle.canary_release.specs.Evolutions.{Evolution, RunView, evolution_from, tell}
+use Rattle.canary_release.specs.Desks.{ModelService, model_evolution, new_service_state, new_service, Change, ModelDecision, Desk, newest, model_decision, ruling_on, desk_after}
 use Rattle.canary_release.specs.Desks.Change.{Nothing, Adds, Becomes}
-use Rattle.canary_release.specs.Shapes.{kept_course, strategy_kept, whole, kept_after, shape, said, decided, changed, seen, IsStep}
+use Rattle.canary_release.specs.Stored.{stored_evolution, strategy_kept, evolution_of, stored_after, stored_form, change_of, decision_of, desk_with, stored_service, IsStep}
 use Rattle.canary_release.specs.Laws.{WatchesAlike}
 use Rattle.canary_release.proofs.Alike.{one_watch, rules_alike}
 use Rattle.canary_release.proofs.Looking.{looks_only_at}
 
 -- what the code says of a change means that change
-changed_said : (desk : Desk) (command : Command) (x : Change) → changed desk command (said x) ≡ desk_after desk command x
+changed_said : (desk : Desk) (command : Command) (x : Change) → desk_with desk command (change_of x) ≡ desk_after desk command x
 changed_said desk command Nothing = refl
 changed_said desk command (Adds t) = refl
 changed_said desk command (Becomes c) = refl
 
 -- a service of the model is, to every rule, what is kept of it
-one_course : WatchesAlike → (found : Option ModelService) → option_map course_of found ≡ option_map kept_course (option_map shape found)
-one_course alike None = refl
-one_course alike (Some m) = rules_alike alike (λ (c : Course). Some c) m.stand m.past (watched m.past) refl
+one_evolution : WatchesAlike → (found : Option ModelService) → option_map model_evolution found ≡ option_map stored_evolution (option_map stored_form found)
+one_evolution alike None = refl
+one_evolution alike (Some m) = rules_alike alike (λ (c : Evolution). Some c) m.service m.past (tracked m.past) refl
 
-step_is : (desk : Desk) (now : ℕ) (command : Command) → IsStep desk now command (decided (ruling_on desk now command))
+step_is : (desk : Desk) (now : ℕ) (command : Command) → IsStep desk now command (decision_of (ruling_on desk now command))
 step_is desk now command = record { change = refl; desk_after = changed_said desk command (ruling_on desk now command).change; reply = refl }
 
--- the strategy of a course is that of what is kept
-same_strategy : (o : Option ServiceParts) → option_map (λ (c : Course). c.stand.strategy) (option_map kept_course o) ≡ option_map strategy_kept o
+-- the strategy of an evolution is that of what is kept
+same_strategy : (o : Option ServiceParts) → option_map (λ (c : Evolution). c.service.strategy) (option_map stored_evolution o) ≡ option_map strategy_kept o
 same_strategy None = refl
 same_strategy (Some s) = refl
 
 -- what is ruled on what is kept, with the templates that are looked up, is what the machine rules
-same_ruling : WatchesAlike → (desk : Desk) (known : Templates) (o : Option ServiceParts) (now : ℕ) (command : Command) → Agree known (newest desk.templates) (names_looked_up (option_map strategy_kept o) command) → o ≡ seen desk (subject_of command)
-    → ruling known (option_map kept_course o) now command ≡ ruling_on desk now command
+same_ruling : WatchesAlike → (desk : Desk) (known : Templates) (o : Option ServiceParts) (now : ℕ) (command : Command) → Agree known (newest desk.templates) (names_looked_up (option_map strategy_kept o) command) → o ≡ stored_service desk (subject_of command)
+    → model_decision known (option_map stored_evolution o) now command ≡ ruling_on desk now command
 same_ruling alike desk known o now command agree there =
     let found = get desk.services (subject_of command) in
-    looks_only_at known (newest desk.templates) (option_map kept_course o) now command (subst (λ s. Agree known (newest desk.templates) (names_looked_up s command)) (sym (same_strategy o)) agree)
-    ∙ ap (λ (p : Option ServiceParts). ruling (newest desk.templates) (option_map kept_course p) now command) there
-    ∙ sym (ap (λ (c : Option Course). ruling (newest desk.templates) c now command) (one_course alike found))
+    looks_only_at known (newest desk.templates) (option_map stored_evolution o) now command (subst (λ s. Agree known (newest desk.templates) (names_looked_up s command)) (sym (same_strategy o)) agree)
+    ∙ ap (λ (p : Option ServiceParts). model_decision (newest desk.templates) (option_map stored_evolution p) now command) there
+    ∙ sym (ap (λ (c : Option Evolution). model_decision (newest desk.templates) c now command) (one_evolution alike found))
 
 -- what is decided from what is kept is the machine's step, where the templates that the command looks up are the desk's
-pub told_step : WatchesAlike → (desk : Desk) (known : Templates) (o : Option ServiceParts) (now : ℕ) (command : Command) (r : Ruling) (d : Decision) → d ≡ decided r → r ≡ ruling known (option_map kept_course o) now command
-    → Agree known (newest desk.templates) (names_looked_up (option_map strategy_kept o) command) → o ≡ seen desk (subject_of command) → IsStep desk now command d
+pub told_step : WatchesAlike → (desk : Desk) (known : Templates) (o : Option ServiceParts) (now : ℕ) (command : Command) (r : ModelDecision) (d : Decision) → d ≡ decision_of r → r ≡ model_decision known (option_map stored_evolution o) now command
+    → Agree known (newest desk.templates) (names_looked_up (option_map strategy_kept o) command) → o ≡ stored_service desk (subject_of command) → IsStep desk now command d
 told_step alike desk known o now command r d says is agree there =
-    subst (IsStep desk now command) (sym (says ∙ ap decided (is ∙ same_ruling alike desk known o now command agree there))) (step_is desk now command)
+    subst (IsStep desk now command) (sym (says ∙ ap decision_of (is ∙ same_ruling alike desk known o now command agree there))) (step_is desk now command)
 
-pub told_rule : WatchesAlike → (desk : Desk) (known : Templates) (o : Option ServiceParts) (now : ℕ) (command : Command) (d : Decision) → d ≡ decided (ruling known (option_map kept_course o) now command)
-    → Agree known (newest desk.templates) (names_looked_up (option_map strategy_kept o) command) → o ≡ seen desk (subject_of command) → IsStep desk now command d
-told_rule alike desk known o now command d says agree there = told_step alike desk known o now command (ruling known (option_map kept_course o) now command) d says refl agree there
+pub told_rule : WatchesAlike → (desk : Desk) (known : Templates) (o : Option ServiceParts) (now : ℕ) (command : Command) (d : Decision) → d ≡ decision_of (model_decision known (option_map stored_evolution o) now command)
+    → Agree known (newest desk.templates) (names_looked_up (option_map strategy_kept o) command) → o ≡ stored_service desk (subject_of command) → IsStep desk now command d
+told_rule alike desk known o now command d says agree there = told_step alike desk known o now command (model_decision known (option_map stored_evolution o) now command) d says refl agree there
 
 -- a new service of the code is that of the model
-new_is : WatchesAlike → (spec : ServiceSpec) (now : ℕ) → tell (kept_course (record { stand = new_stand spec now; runs = no_runs })) now (Created spec.version) ≡ new_service spec now
-new_is alike spec now = ap (λ (w : Watch). tell (course_from (new_stand spec now) w) now (Created spec.version)) (sym (one_watch alike no_past no_runs refl))
+new_is : WatchesAlike → (spec : ServiceSpec) (now : ℕ) → tell (stored_evolution (record { service = new_service_state spec now; runs = no_runs })) now (Created spec.version) ≡ new_service spec now
+new_is alike spec now = ap (λ (w : RunView). tell (evolution_from (new_service_state spec now) w) now (Created spec.version)) (sym (one_watch alike no_past no_runs refl))
 
-pub new_told : WatchesAlike → (spec : ServiceSpec) (now : ℕ) (s : Stand) (w : Runs) (c d : Course) → s ≡ new_stand spec now → w ≡ no_runs → c ≡ kept_course (record { stand = s; runs = w }) → d ≡ tell c now (Created spec.version) → d ≡ new_service spec now
+pub new_told : WatchesAlike → (spec : ServiceSpec) (now : ℕ) (s : ServiceState) (w : Runs) (c d : Evolution) → s ≡ new_service_state spec now → w ≡ no_runs → c ≡ stored_evolution (record { service = s; runs = w }) → d ≡ tell c now (Created spec.version) → d ≡ new_service spec now
 new_told alike spec now s w c d stands none is told =
     told
-    ∙ ap (λ (x : Course). tell x now (Created spec.version)) (is ∙ (λ i. kept_course (record { stand = stands i; runs = none i })))
+    ∙ ap (λ (x : Evolution). tell x now (Created spec.version)) (is ∙ (λ i. stored_evolution (record { service = stands i; runs = none i })))
     ∙ new_is alike spec now
 
--- what a draft ends with is what its course ends with
-pub ends_as : (d : Draft) (c : Course) (r : ServiceParts × List Effect) → r ≡ (kept_after (whole d), (whole d).effects) → whole d ≡ c → ◌≡◌ {A = Passed} (record { service = r.0; effects = r.1 }) (record { service = kept_after c; effects = c.effects })
-ends_as d c r ends is = (λ i. record { service = (ends i).0; effects = (ends i).1 }) ∙ (λ i. record { service = kept_after (is i); effects = (is i).effects })
+-- what a transition ends with is what its evolution ends with
+pub ends_as : (d : Transition) (c : Evolution) (r : ServiceParts × List Effect) → r ≡ (stored_after (evolution_of d), (evolution_of d).effects) → evolution_of d ≡ c → ◌≡◌ {A = Passed} (record { service = r.0; effects = r.1 }) (record { service = stored_after c; effects = c.effects })
+ends_as d c r ends is = (λ i. record { service = (ends i).0; effects = (ends i).1 }) ∙ (λ i. record { service = stored_after (is i); effects = (is i).effects })

@@ -18,7 +18,7 @@ use Rattle.canary_plan.specs.Lines.{line_text}
 use Rattle.canary_release.specs.declared.reply.Reply.{Reply}
 use Rattle.canary_release.specs.declared.reply.ReplyStatus.TheVariants.{Accepted, Refused}
 use Rattle.canary_release.specs.declared.runs.OpenRun.{OpenRun}
-use Rattle.canary_release.specs.Pasts.{Past, no_past, watched}
+use Rattle.canary_release.specs.Pasts.{Past, no_past, tracked}
 use Rattle.canary_release.specs.Desks.{ModelService, machine, no_desk}
 
 -- What a row says.
@@ -39,12 +39,12 @@ lines_of (Some m) = map line_text m.past.history
 -- the tallies of the open runs
 abbrev pub tallies_of : Option ModelService → List (List Counts)
 tallies_of None = []
-tallies_of (Some m) = map (λ (r : OpenRun). r.tallies) (watched m.past).open_runs
+tallies_of (Some m) = map (λ (r : OpenRun). r.tallies) (tracked m.past).open_runs
 
 -- the step hold and the background hold
 abbrev pub holds_of : Option ModelService → List (Bool × Bool)
 holds_of None = []
-holds_of (Some m) = (m.stand.step_hold, m.stand.background_hold) ∷ []
+holds_of (Some m) = (m.service.step_hold, m.service.background_hold) ∷ []
 
 abbrev pub ok : List ℕ → Reply
 ok body = record { status = Accepted; body = body }

@@ -13,13 +13,13 @@ use Rattle.canary_plan.specs.Plans.{Templates}
 use Rattle.canary_plan.specs.Commands.{subject_of}
 use Rattle.canary_release.specs.declared.effect.Effect.{Effect}
 use Rattle.canary_release.specs.declared.reply.Reply.{Reply}
-use Rattle.canary_release.specs.declared.stand.Stand.{Stand}
-use Rattle.canary_release.specs.Pasts.{Past, grows, grows_by, watched}
-use Rattle.canary_release.specs.Courses.{Course, Watch}
+use Rattle.canary_release.specs.declared.state.ServiceState.{ServiceState}
+use Rattle.canary_release.specs.Pasts.{Past, past_with, past_with_all, tracked}
+use Rattle.canary_release.specs.Evolutions.{Evolution, RunView}
 use Rattle.canary_release.specs.Passing.{with_last, followed, judged_at, pass}
-use Rattle.canary_release.specs.Commands.{Acted, act}
+use Rattle.canary_release.specs.Commands.{ModelResult, act}
 use Rattle.canary_release.specs.Replies.{accepted}
-use Rattle.canary_release.specs.Desks.{ModelService, Desk, Change, Ruling, watch_of, course_of, passed_on, act_passed, newest, after, rules, rule_template, rule_service, ruling_on, desk_after, apply, machine}
+use Rattle.canary_release.specs.Desks.{ModelService, Desk, Change, ModelDecision, watch_of, model_evolution, passed_on, act_passed, newest, after, rules, rule_template, rule_service, ruling_on, desk_after, apply, machine}
 use Rattle.canary_release.specs.Desks.Change.{Nothing, Adds, Becomes}
 use Rattle.canary_release.specs.Laws.{is_on, passed_to, AreFrom, AgreeFrom, TicksOnlyPassTime}
 use Rattle.canary_release.proofs.Watches.{passed, acted_passed, KeepsIf}
@@ -27,42 +27,42 @@ use Rattle.canary_release.proofs.InSteps.{passes_in_steps, later_of}
 use Rattle.canary_release.proofs.Behind.{behind, once_seen, result_behind, pass_behind, act_passed_behind}
 use Rattle.canary_release.proofs.Apart.{ChangesNoService, ChangesNoTemplate, template_changes, changes_on, put_at, templates_alike, newest_alike}
 
--- A course with several effects before its own.
+-- An evolution with several effects before its own.
 
-abbrev behind_all : Watch → List Effect → Course → Course
+abbrev behind_all : RunView → List Effect → Evolution → Evolution
 behind_all w [] c = record c { watch = w }
 behind_all w (x ∷ xs) c = behind w x (behind_all (once_seen w x) xs c)
 
--- a watch after these effects
-abbrev all_seen : Watch → List Effect → Watch
+-- a view of runs after these effects
+abbrev all_seen : RunView → List Effect → RunView
 all_seen w es xs = w (es ++ xs)
 
-abbrev result_behind_all : Watch → List Effect → Result Acted Refusal → Result Acted Refusal
-result_behind_all w es (Ok a) = Ok (record a { course = behind_all w es a.course })
+abbrev result_behind_all : RunView → List Effect → Result ModelResult Refusal → Result ModelResult Refusal
+result_behind_all w es (Ok a) = Ok (record a { evolution = behind_all w es a.evolution })
 result_behind_all w es (Err refusal) = Err refusal
 
-watch_behind : (w : Watch) (es : List Effect) (c : Course) → (behind_all w es c).watch ≡ w
+watch_behind : (w : RunView) (es : List Effect) (c : Evolution) → (behind_all w es c).watch ≡ w
 watch_behind w [] c = refl
 watch_behind w (x ∷ es) c = refl
 
--- it stands as the course does, and the effects come before its own
-shape_behind : (w : Watch) (es : List Effect) (c : Course) → behind_all w es c ≡ record { stand = c.stand; effects = es ++ c.effects; watch = w }
+-- it stands as the evolution does, and the effects come before its own
+shape_behind : (w : RunView) (es : List Effect) (c : Evolution) → behind_all w es c ≡ record { service = c.service; effects = es ++ c.effects; watch = w }
 shape_behind w [] c = refl
 shape_behind w (x ∷ es) c = ap (behind w x) (shape_behind (once_seen w x) es c)
 
-result_more : (w : Watch) (x : Effect) (es : List Effect) (r : Result Acted Refusal) → result_behind w x (result_behind_all (once_seen w x) es r) ≡ result_behind_all w (x ∷ es) r
+result_more : (w : RunView) (x : Effect) (es : List Effect) (r : Result ModelResult Refusal) → result_behind w x (result_behind_all (once_seen w x) es r) ≡ result_behind_all w (x ∷ es) r
 result_more w x es (Ok a) = refl
 result_more w x es (Err refusal) = refl
 
-same_watch : (w : Watch) (r : Result Acted Refusal) (c : Course) → c.watch ≡ w → KeepsIf c r → r ≡ result_behind_all w [] r
-same_watch w (Ok a) c p k = λ i. Ok (record a { course = record a.course { watch = (k ∙ p) i } })
+same_watch : (w : RunView) (r : Result ModelResult Refusal) (c : Evolution) → c.watch ≡ w → KeepsIf c r → r ≡ result_behind_all w [] r
+same_watch w (Ok a) c p k = λ i. Ok (record a { evolution = record a.evolution { watch = (k ∙ p) i } })
 same_watch w (Err refusal) c p k = refl
 
-pass_behind_all : (w : Watch) (es : List Effect) (c : Course) (t : ℕ) → c.watch ≡ all_seen w es → pass (behind_all w es c) t ≡ behind_all w es (pass c t)
+pass_behind_all : (w : RunView) (es : List Effect) (c : Evolution) (t : ℕ) → c.watch ≡ all_seen w es → pass (behind_all w es c) t ≡ behind_all w es (pass c t)
 pass_behind_all w [] c t p = (λ i. pass (record c { watch = sym p i }) t) ∙ (λ i. record (pass c t) { watch = (passed c t ∙ p) i })
 pass_behind_all w (x ∷ es) c t p = pass_behind w x (behind_all (once_seen w x) es c) t (watch_behind (once_seen w x) es c) ∙ ap (behind w x) (pass_behind_all (once_seen w x) es c t p)
 
-act_behind_all : (known : Templates) (w : Watch) (es : List Effect) (command : Command) (c : Course) (now : ℕ) → c.watch ≡ all_seen w es → act_passed known command (behind_all w es c) now ≡ result_behind_all w es (act_passed known command c now)
+act_behind_all : (known : Templates) (w : RunView) (es : List Effect) (command : Command) (c : Evolution) (now : ℕ) → c.watch ≡ all_seen w es → act_passed known command (behind_all w es c) now ≡ result_behind_all w es (act_passed known command c now)
 act_behind_all known w [] command c now p = (λ i. act_passed known command (record c { watch = sym p i }) now) ∙ same_watch w (act_passed known command c now) c p (acted_passed known command c now)
 act_behind_all known w (x ∷ es) command c now p =
     act_passed_behind known w x command (behind_all (once_seen w x) es c) now (watch_behind (once_seen w x) es c)
@@ -71,51 +71,51 @@ act_behind_all known w (x ∷ es) command c now p =
 
 -- A service that was passed to a moment.
 
-grows_on : (p : Past) (es xs : List Effect) → grows_by (grows_by p es) xs ≡ grows_by p (es ++ xs)
+grows_on : (p : Past) (es xs : List Effect) → past_with_all (past_with_all p es) xs ≡ past_with_all p (es ++ xs)
 grows_on p [] xs = refl
-grows_on p (x ∷ es) xs = grows_on (grows p x) es xs
+grows_on p (x ∷ es) xs = grows_on (past_with p x) es xs
 
 -- what happens to it up to a moment
 abbrev effects_to : ℕ → ModelService → List Effect
-effects_to t m = (pass (course_of m) t).effects
+effects_to t m = (pass (model_evolution m) t).effects
 
-seen_on : (t : ℕ) (m : ModelService) → (course_of (passed_to t m)).watch ≡ all_seen (watch_of m.past) (effects_to t m)
-seen_on t m = λ i xs. watched (grows_on m.past (effects_to t m) xs i)
+seen_on : (t : ℕ) (m : ModelService) → (model_evolution (passed_to t m)).watch ≡ all_seen (watch_of m.past) (effects_to t m)
+seen_on t m = λ i xs. tracked (grows_on m.past (effects_to t m) xs i)
 
--- the course that passed is that of the service that was passed, with what happened on the way before it
-is_behind : (t : ℕ) (m : ModelService) → pass (course_of m) t ≡ behind_all (watch_of m.past) (effects_to t m) (course_of (passed_to t m))
+-- the evolution that passed is that of the service that was passed, with what happened on the way before it
+is_behind : (t : ℕ) (m : ModelService) → pass (model_evolution m) t ≡ behind_all (watch_of m.past) (effects_to t m) (model_evolution (passed_to t m))
 is_behind t m =
-    let c : Course = pass (course_of m) t in
-    (λ i. record { stand = c.stand; effects = sym (append-nil c.effects) i; watch = passed (course_of m) t i })
-    ∙ sym (shape_behind (watch_of m.past) (effects_to t m) (course_of (passed_to t m)))
+    let c : Evolution = pass (model_evolution m) t in
+    (λ i. record { service = c.service; effects = sym (append-nil c.effects) i; watch = passed (model_evolution m) t i })
+    ∙ sym (shape_behind (watch_of m.past) (effects_to t m) (model_evolution (passed_to t m)))
 
 -- passing it further is passing the service there
-passed_further : (t u : ℕ) (m : ModelService) → t ≤ u → pass (course_of m) u ≡ behind_all (watch_of m.past) (effects_to t m) (pass (course_of (passed_to t m)) u)
+passed_further : (t u : ℕ) (m : ModelService) → t ≤ u → pass (model_evolution m) u ≡ behind_all (watch_of m.past) (effects_to t m) (pass (model_evolution (passed_to t m)) u)
 passed_further t u m le =
-    sym (passes_in_steps (course_of m) t u le)
-    ∙ ap (λ (c : Course). pass c u) (is_behind t m)
-    ∙ pass_behind_all (watch_of m.past) (effects_to t m) (course_of (passed_to t m)) u (seen_on t m)
+    sym (passes_in_steps (model_evolution m) t u le)
+    ∙ ap (λ (c : Evolution). pass c u) (is_behind t m)
+    ∙ pass_behind_all (watch_of m.past) (effects_to t m) (model_evolution (passed_to t m)) u (seen_on t m)
 
 -- a service that stands so, with these effects
-abbrev grown : ModelService → Stand → List Effect → ModelService
-grown m s es = record m { stand = s; past = grows_by m.past es }
+abbrev grown : ModelService → ServiceState → List Effect → ModelService
+grown m s es = record m { service = s; past = past_with_all m.past es }
 
-grown_behind : (t : ℕ) (m : ModelService) (c : Course) → (let d : Course = behind_all (watch_of m.past) (effects_to t m) c in grown m d.stand d.effects) ≡ grown (passed_to t m) c.stand c.effects
+grown_behind : (t : ℕ) (m : ModelService) (c : Evolution) → (let d : Evolution = behind_all (watch_of m.past) (effects_to t m) c in grown m d.service d.effects) ≡ grown (passed_to t m) c.service c.effects
 grown_behind t m c =
-    ap (λ (d : Course). grown m d.stand d.effects) (shape_behind (watch_of m.past) (effects_to t m) c)
-    ∙ (λ i. record m { stand = c.stand; past = sym (grows_on m.past (effects_to t m) c.effects) i })
+    ap (λ (d : Evolution). grown m d.service d.effects) (shape_behind (watch_of m.past) (effects_to t m) c)
+    ∙ (λ i. record m { service = c.service; past = sym (grows_on m.past (effects_to t m) c.effects) i })
 
 passed_twice : (t u : ℕ) (m : ModelService) → t ≤ u → passed_to u (passed_to t m) ≡ passed_to u m
 passed_twice t u m le =
-    sym (ap (λ (d : Course). grown m d.stand d.effects) (passed_further t u m le) ∙ grown_behind t m (pass (course_of (passed_to t m)) u))
+    sym (ap (λ (d : Evolution). grown m d.service d.effects) (passed_further t u m le) ∙ grown_behind t m (pass (model_evolution (passed_to t m)) u))
 
 -- a command on the service does what it does on the one that was passed, with what happened on the way before it
-acts_further : (known : Templates) (t u : ℕ) (m : ModelService) (command : Command) → t ≤ u → act_passed known command (course_of m) u ≡ result_behind_all (watch_of m.past) (effects_to t m) (act_passed known command (course_of (passed_to t m)) u)
+acts_further : (known : Templates) (t u : ℕ) (m : ModelService) (command : Command) → t ≤ u → act_passed known command (model_evolution m) u ≡ result_behind_all (watch_of m.past) (effects_to t m) (act_passed known command (model_evolution (passed_to t m)) u)
 acts_further known t u m command le =
-    let at : judged_at (pass (course_of m) t).stand u ≡ judged_at m.stand u = later_of t u m.stand.last le in
-    sym (λ i. passed_on (act known command (passes_in_steps (course_of m) t u le i) (at i)) (at i))
-    ∙ ap (λ (c : Course). act_passed known command c u) (is_behind t m)
-    ∙ act_behind_all known (watch_of m.past) (effects_to t m) command (course_of (passed_to t m)) u (seen_on t m)
+    let at : judged_at (pass (model_evolution m) t).service u ≡ judged_at m.service u = later_of t u m.service.last le in
+    sym (λ i. passed_on (act known command (passes_in_steps (model_evolution m) t u le i) (at i)) (at i))
+    ∙ ap (λ (c : Evolution). act_passed known command c u) (is_behind t m)
+    ∙ act_behind_all known (watch_of m.past) (effects_to t m) command (model_evolution (passed_to t m)) u (seen_on t m)
 
 -- Desks, with a Tick and without.
 
@@ -134,7 +134,7 @@ is_other a b apart = elim (bytes_eq a b) as (λ x. bytes_eq a b ≡ x → x ≡ 
 is_apart : (a b : List ℕ) → bytes_eq a b ≡ false → b ≢ a
 is_apart a b e same = true≢false (sym ((bytes_eq-Decides a b).1 (sym same)) ∙ e)
 
-abbrev DoAlike : ℕ → List ℕ → Desk → Desk → Command → Ruling → Ruling → Type 0
+abbrev DoAlike : ℕ → List ℕ → Desk → Desk → Command → ModelDecision → ModelDecision → Type 0
 DoAlike t name ticked plain command r s = (r.reply ≡ s.reply) × AreApart t name (desk_after ticked command r.change) (desk_after plain command s.change)
 
 -- the service of that name, as it is or passed to t
@@ -151,12 +151,12 @@ put_same t true m n ticked plain same h = inl (ap (λ (k : ModelService). Some k
 put_same t false m n ticked plain same h = h
 
 -- the same service is put on both desks
-put_both : (t : ℕ) (name : List ℕ) (ticked plain : Desk) (command : Command) (c d : Course) → AreApart t name ticked plain
-    → ◌≡◌ {A = ModelService} (after (get ticked.services (subject_of command)) c.stand c.effects) (after (get plain.services (subject_of command)) d.stand d.effects)
+put_both : (t : ℕ) (name : List ℕ) (ticked plain : Desk) (command : Command) (c d : Evolution) → AreApart t name ticked plain
+    → ◌≡◌ {A = ModelService} (after (get ticked.services (subject_of command)) c.service c.effects) (after (get plain.services (subject_of command)) d.service d.effects)
     → AreApart t name (desk_after ticked command (Becomes c)) (desk_after plain command (Becomes d))
 put_both t name ticked plain command c d h same =
-    let m : ModelService = after (get ticked.services (subject_of command)) c.stand c.effects in
-    let n : ModelService = after (get plain.services (subject_of command)) d.stand d.effects in
+    let m : ModelService = after (get ticked.services (subject_of command)) c.service c.effects in
+    let n : ModelService = after (get plain.services (subject_of command)) d.service d.effects in
     let b = bytes_eq name (subject_of command) in
     record {
       templates = h.templates;
@@ -172,7 +172,7 @@ same_change : (t : ℕ) (name : List ℕ) (ticked plain : Desk) (command : Comma
     → AreApart t name (desk_after ticked command x) (desk_after plain command x)
 same_change t name ticked plain command Nothing none there h = h
 same_change t name ticked plain command (Adds k) none there h = absurd none
-same_change t name ticked plain command (Becomes c) none there h = put_both t name ticked plain command c c h (λ i. after (there i) c.stand c.effects)
+same_change t name ticked plain command (Becomes c) none there h = put_both t name ticked plain command c c h (λ i. after (there i) c.service c.effects)
 
 -- the same change, where no service is changed
 same_added : (t : ℕ) (name : List ℕ) (ticked plain : Desk) (command : Command) (x : Change) → ChangesNoService x → AreApart t name ticked plain → AreApart t name (desk_after ticked command x) (desk_after plain command x)
@@ -185,28 +185,28 @@ same_added t name ticked plain command (Adds k) none h =
     }
 same_added t name ticked plain command (Becomes c) none h = absurd none
 
--- the ruling on a command that is no Template
-abbrev ruled : Desk → ℕ → Command → Ruling
-ruled desk now command = rule_service (newest desk.templates) (option_map course_of (get desk.services (subject_of command))) now command
+-- the decision on a command that is no Template
+abbrev ruled : Desk → ℕ → Command → ModelDecision
+ruled desk now command = rule_service (newest desk.templates) (option_map model_evolution (get desk.services (subject_of command))) now command
 
 on_same : (t : ℕ) (name : List ℕ) (ticked plain : Desk) (now : ℕ) (command : Command) → get ticked.services (subject_of command) ≡ get plain.services (subject_of command) → AreApart t name ticked plain
     → DoAlike t name ticked plain command (ruled ticked now command) (ruled plain now command)
 on_same t name ticked plain now command there h =
-    let same : ruled ticked now command ≡ ruled plain now command = λ i. rule_service (newest_alike ticked plain h.templates i) (option_map course_of (there i)) now command in (
-      ap (λ (r : Ruling). r.reply) same,
-      subst (λ (r : Ruling). AreApart t name (desk_after ticked command (ruled ticked now command).change) (desk_after plain command r.change)) same
+    let same : ruled ticked now command ≡ ruled plain now command = λ i. rule_service (newest_alike ticked plain h.templates i) (option_map model_evolution (there i)) now command in (
+      ap (λ (r : ModelDecision). r.reply) same,
+      subst (λ (r : ModelDecision). AreApart t name (desk_after ticked command (ruled ticked now command).change) (desk_after plain command r.change)) same
           (same_change t name ticked plain command (ruled ticked now command).change (changes_on ticked now command) there h),
     )
 
 -- what a command leads to from the service that was passed, and from the one that was not
-on_results : (t : ℕ) (name : List ℕ) (ticked plain : Desk) (command : Command) (m : ModelService) (r : Result Acted Refusal) → AreApart t name ticked plain
+on_results : (t : ℕ) (name : List ℕ) (ticked plain : Desk) (command : Command) (m : ModelService) (r : Result ModelResult Refusal) → AreApart t name ticked plain
     → get ticked.services (subject_of command) ≡ Some (passed_to t m) → get plain.services (subject_of command) ≡ Some m
     → DoAlike t name ticked plain command (rules r) (rules (result_behind_all (watch_of m.past) (effects_to t m) r))
 on_results t name ticked plain command m (Err refusal) h ticked_is plain_is = (refl, h)
 on_results t name ticked plain command m (Ok a) h ticked_is plain_is =
-    let d : Course = behind_all (watch_of m.past) (effects_to t m) a.course in (
-      ap (λ (c : Course). accepted (a.shows c.stand)) (sym (shape_behind (watch_of m.past) (effects_to t m) a.course)),
-      put_both t name ticked plain command a.course d h ((λ i. after (ticked_is i) a.course.stand a.course.effects) ∙ sym (grown_behind t m a.course) ∙ (λ i. after (sym plain_is i) d.stand d.effects)),
+    let d : Evolution = behind_all (watch_of m.past) (effects_to t m) a.evolution in (
+      ap (λ (c : Evolution). accepted (a.shows c.service)) (sym (shape_behind (watch_of m.past) (effects_to t m) a.evolution)),
+      put_both t name ticked plain command a.evolution d h ((λ i. after (ticked_is i) a.evolution.service a.evolution.effects) ∙ sym (grown_behind t m a.evolution) ∙ (λ i. after (sym plain_is i) d.service d.effects)),
     )
 
 on_passed : (t : ℕ) (name : List ℕ) (ticked plain : Desk) (now : ℕ) (command : Command) → t ≤ now → AreApart t name ticked plain
@@ -215,12 +215,12 @@ on_passed : (t : ℕ) (name : List ℕ) (ticked plain : Desk) (now : ℕ) (comma
 on_passed t name ticked plain now command le h None ticked_is plain_is = on_same t name ticked plain now command (ticked_is ∙ sym plain_is) h
 on_passed t name ticked plain now command le h (Some m) ticked_is plain_is =
     let known = newest ticked.templates in
-    let r = act_passed known command (course_of (passed_to t m)) now in
-    let first : ruled ticked now command ≡ rules r = ap (λ o. rule_service (newest ticked.templates) (option_map course_of o) now command) ticked_is in
+    let r = act_passed known command (model_evolution (passed_to t m)) now in
+    let first : ruled ticked now command ≡ rules r = ap (λ o. rule_service (newest ticked.templates) (option_map model_evolution o) now command) ticked_is in
     let second : ruled plain now command ≡ rules (result_behind_all (watch_of m.past) (effects_to t m) r) =
-    (λ i. rule_service (newest_alike plain ticked (λ n. sym (h.templates n)) i) (option_map course_of (plain_is i)) now command) ∙ ap rules (acts_further known t now m command le) in
-    subst (λ (x : Ruling). DoAlike t name ticked plain command x (ruled plain now command)) (sym first)
-    (subst (λ (x : Ruling). DoAlike t name ticked plain command (rules r) x) (sym second) (on_results t name ticked plain command m r h ticked_is plain_is))
+    (λ i. rule_service (newest_alike plain ticked (λ n. sym (h.templates n)) i) (option_map model_evolution (plain_is i)) now command) ∙ ap rules (acts_further known t now m command le) in
+    subst (λ (x : ModelDecision). DoAlike t name ticked plain command x (ruled plain now command)) (sym first)
+    (subst (λ (x : ModelDecision). DoAlike t name ticked plain command (rules r) x) (sym second) (on_results t name ticked plain command m r h ticked_is plain_is))
 
 on_either : (t : ℕ) (name : List ℕ) (ticked plain : Desk) (now : ℕ) (command : Command) → t ≤ now → AreApart t name ticked plain
     → IsPassed t (get ticked.services (subject_of command)) (get plain.services (subject_of command))
@@ -241,8 +241,8 @@ on_template : (t : ℕ) (name : List ℕ) (ticked plain : Desk) (now : ℕ) (spe
     → DoAlike t name ticked plain (Template spec) (ruling_on ticked now (Template spec)) (ruling_on plain now (Template spec))
 on_template t name ticked plain now spec h =
     let same : rule_template (newest ticked.templates spec.name) spec ≡ rule_template (newest plain.templates spec.name) spec = (λ i. rule_template (newest_alike ticked plain h.templates i spec.name) spec) in (
-      ap (λ (r : Ruling). r.reply) same,
-      subst (λ (r : Ruling). AreApart t name (desk_after ticked (Template spec) (rule_template (newest ticked.templates spec.name) spec).change) (desk_after plain (Template spec) r.change)) same
+      ap (λ (r : ModelDecision). r.reply) same,
+      subst (λ (r : ModelDecision). AreApart t name (desk_after ticked (Template spec) (rule_template (newest ticked.templates spec.name) spec).change) (desk_after plain (Template spec) r.change)) same
           (same_added t name ticked plain (Template spec) (rule_template (newest ticked.templates spec.name) spec).change (template_changes (newest ticked.templates spec.name) spec) h),
     )
 
@@ -271,16 +271,16 @@ all_alike t name ticked plain (y ∷ ys) h from =
 -- The Tick itself.
 
 -- a Tick passes the service twice, which is once
-tick_passes : (t : ℕ) (c : Course) → pass (pass c t) (judged_at c.stand t) ≡ pass c t
+tick_passes : (t : ℕ) (c : Evolution) → pass (pass c t) (judged_at c.service t) ≡ pass c t
 tick_passes t c =
-    let k = c.stand.last in
+    let k = c.service.last in
     let again : max (max t k) k ≡ max t k = omega arith in
     passes_in_steps c t (max t k) (omega arith) ∙ ap (λ a. with_last (followed c a) a) again
 
-ticked_there : (t : ℕ) (name : List ℕ) (desk : Desk) (m : ModelService) (c : Course) → get desk.services name ≡ Some m → c ≡ pass (course_of m) t → AreApart t name (desk_after desk (Tick name) (Becomes c)) desk
+ticked_there : (t : ℕ) (name : List ℕ) (desk : Desk) (m : ModelService) (c : Evolution) → get desk.services name ≡ Some m → c ≡ pass (model_evolution m) t → AreApart t name (desk_after desk (Tick name) (Becomes c)) desk
 ticked_there t name desk m c there is =
-    let k : ModelService = after (get desk.services name) c.stand c.effects in
-    let grew : k ≡ passed_to t m = (λ i. after (there i) c.stand c.effects) ∙ ap (λ (d : Course). grown m d.stand d.effects) is in
+    let k : ModelService = after (get desk.services name) c.service c.effects in
+    let grew : k ≡ passed_to t m = (λ i. after (there i) c.service c.effects) ∙ ap (λ (d : Evolution). grown m d.service d.effects) is in
     record {
       templates = λ n. refl;
       others = λ q apart. put_at desk (Tick name) k q ∙ ap (λ b. cond b (Some k) (get desk.services q)) (is_other q name apart);
@@ -289,12 +289,12 @@ ticked_there t name desk m c there is =
 
 tick_of : (t : ℕ) (name : List ℕ) (desk : Desk) (o : Option ModelService) → get desk.services name ≡ o → AreApart t name (apply desk t (Tick name)).desk desk
 tick_of t name desk None there =
-    let none : ruled desk t (Tick name) ≡ rules (Err UnknownService) = ap (λ o. rule_service (newest desk.templates) (option_map course_of o) t (Tick name)) there in
-    subst (λ (r : Ruling). AreApart t name (desk_after desk (Tick name) r.change) desk) (sym none) (record { templates = λ n. refl; others = λ q apart. refl; service = inl refl })
+    let none : ruled desk t (Tick name) ≡ rules (Err UnknownService) = ap (λ o. rule_service (newest desk.templates) (option_map model_evolution o) t (Tick name)) there in
+    subst (λ (r : ModelDecision). AreApart t name (desk_after desk (Tick name) r.change) desk) (sym none) (record { templates = λ n. refl; others = λ q apart. refl; service = inl refl })
 tick_of t name desk (Some m) there =
-    let some : ruled desk t (Tick name) ≡ rules (act_passed (newest desk.templates) (Tick name) (course_of m) t) = ap (λ o. rule_service (newest desk.templates) (option_map course_of o) t (Tick name)) there in
-    subst (λ (r : Ruling). AreApart t name (desk_after desk (Tick name) r.change) desk) (sym some)
-    (ticked_there t name desk m (pass (pass (course_of m) t) (judged_at m.stand t)) there (tick_passes t (course_of m)))
+    let some : ruled desk t (Tick name) ≡ rules (act_passed (newest desk.templates) (Tick name) (model_evolution m) t) = ap (λ o. rule_service (newest desk.templates) (option_map model_evolution o) t (Tick name)) there in
+    subst (λ (r : ModelDecision). AreApart t name (desk_after desk (Tick name) r.change) desk) (sym some)
+    (ticked_there t name desk m (pass (pass (model_evolution m) t) (judged_at m.service t)) there (tick_passes t (model_evolution m)))
 
 -- The law.
 

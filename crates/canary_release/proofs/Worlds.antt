@@ -11,7 +11,7 @@ use Rattle.canary_plan.specs.Commands.{subject_of}
 use Rattle.canary_release.specs.declared.reply.Reply.{Reply}
 use Rattle.canary_plan.specs.declared.template.Template.{Template}
 use Rattle.canary_plan.specs.Plans.{Templates}
-use Rattle.canary_release.specs.Desks.{ModelService, course_of, Change, Ruling, ruling, RevisionMap, revisions_of, newest, with_revision, Desk, no_desk, after, desk_after, apply, machine}
+use Rattle.canary_release.specs.Desks.{ModelService, model_evolution, Change, ModelDecision, model_decision, RevisionMap, revisions_of, newest, with_revision, Desk, no_desk, after, desk_after, apply, machine}
 use Rattle.canary_release.specs.Desks.Change.{Nothing, Adds, Becomes}
 use Rattle.canary_release.proofs.OrderingBasics.{last_pushed}
 use Rattle.canary_release.proofs.Stories.{replies_after, service_after}
@@ -30,10 +30,10 @@ changed_at f name a x = cond (eq_by_cmp (slice_cmp nat_cmp) x name) (Some a) (f 
 abbrev pub with_change : World → Command → Change → World
 with_change w command Nothing = w
 with_change w command (Adds t) = record w { known = changed_at w.known (subject_of command) t }
-with_change w command (Becomes c) = let s = after (w.services (subject_of command)) c.stand c.effects in record w { services = changed_at w.services (subject_of command) s }
+with_change w command (Becomes c) = let s = after (w.services (subject_of command)) c.service c.effects in record w { services = changed_at w.services (subject_of command) s }
 
-abbrev pub ruling_in : World → ℕ → Command → Ruling
-ruling_in w now command = ruling w.known (option_map course_of (w.services (subject_of command))) now command
+abbrev pub ruling_in : World → ℕ → Command → ModelDecision
+ruling_in w now command = model_decision w.known (option_map model_evolution (w.services (subject_of command))) now command
 
 abbrev pub world_after : World → ℕ → Command → World
 world_after w now command = with_change w command (ruling_in w now command).change
@@ -65,7 +65,7 @@ change_lem desk command Nothing = refl
 change_lem desk command (Adds t) = λ i. record { known = λ q. newest_after desk.templates (subject_of command) t q i; services = get desk.services }
 change_lem desk command (Becomes c) =
     let name = subject_of command in
-    λ i. record { known = newest desk.templates; services = λ q. get-insert nat_list_cmp_total desk.services name (after (get desk.services name) c.stand c.effects) q i }
+    λ i. record { known = newest desk.templates; services = λ q. get-insert nat_list_cmp_total desk.services name (after (get desk.services name) c.service c.effects) q i }
 
 pub world-apply : (desk : Desk) (now : ℕ) (command : Command) → world_of (apply desk now command).desk ≡ world_after (world_of desk) now command
 world-apply desk now command = change_lem desk command (ruling_in (world_of desk) now command).change

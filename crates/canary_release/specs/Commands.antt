@@ -11,14 +11,14 @@ use Rattle.canary_plan.specs.declared.refusal.Refusal.TheVariants.{ServiceExists
 use Rattle.canary_plan.specs.Plans.{Templates, bound_of}
 use Rattle.canary_plan.specs.PlanRefusals.{bound_refusal}
 use Rattle.canary_plan.specs.Refusals.{first_that_holds, or_refusal}
-use Rattle.canary_release.specs.declared.stand.State.TheVariants.{InProgress}
-use Rattle.canary_release.specs.declared.stand.Status.{Status}
-use Rattle.canary_release.specs.declared.stand.Status.TheVariants.{Healthy, Degraded, Paused, Progressing}
-use Rattle.canary_release.specs.declared.stand.Stand.{Stand}
+use Rattle.canary_release.specs.declared.state.ReleaseState.TheVariants.{InProgress}
+use Rattle.canary_release.specs.declared.state.Status.{Status}
+use Rattle.canary_release.specs.declared.state.Status.TheVariants.{Healthy, Degraded, Paused, Progressing}
+use Rattle.canary_release.specs.declared.state.ServiceState.{ServiceState}
 use Rattle.canary_release.specs.declared.runs.OpenRun.{OpenRun}
 use Rattle.canary_release.specs.declared.runs.Runs.{Runs}
-use Rattle.canary_release.specs.Services.{is_going, is_aborted, is_done, status}
-use Rattle.canary_release.specs.Courses.{Course, with_stand, tell, runs_now, open_run_now}
+use Rattle.canary_release.specs.Services.{is_in_progress, is_aborted, is_done, status}
+use Rattle.canary_release.specs.Evolutions.{Evolution, with_service_state, tell, runs_now, open_run_now}
 use Rattle.canary_release.specs.Entering.{enter, abort, without_holds}
 use Rattle.canary_release.specs.Replies.{service_text, report_text}
 use Rattle.canary_release.specs.Reports.{report_refusal, report_on, reported_on}
@@ -35,117 +35,119 @@ is_progressing Healthy = false
 is_progressing Degraded = false
 is_progressing Paused = false
 
-abbrev pub start_refusal_at : Course → List ℕ → Option Refusal
+abbrev pub start_refusal_at : Evolution → List ℕ → Option Refusal
 start_refusal_at c version =
-    let s = c.stand in
+    let s = c.service in
     first_that_holds (
-    (is_going s.state, GoesOn)
+    (is_in_progress s.state, GoesOn)
     ∷ (is_done s.state && bytes_eq version s.stable, AlreadyStable)
     ∷ (is_spent (runs_now c), RunsSpent)
     ∷ []
     )
 
-abbrev pub retry_refusal_at : Course → Option Refusal
+abbrev pub retry_refusal_at : Evolution → Option Refusal
 retry_refusal_at c =
     first_that_holds
-    ((not (is_aborted c.stand.state), NotAborted) ∷ (is_spent (runs_now c), RunsSpent) ∷ [])
+    ((not (is_aborted c.service.state), NotAborted) ∷ (is_spent (runs_now c), RunsSpent) ∷ [])
 
 -- that the strategy can't be bound to the newest revisions comes first
 
-abbrev pub start_refusal : Templates → Course → List ℕ → Option Refusal
+abbrev pub start_refusal : Templates → Evolution → List ℕ → Option Refusal
 start_refusal known c version =
-    or_refusal (bound_refusal known c.stand.strategy) (start_refusal_at c version)
+    or_refusal (bound_refusal known c.service.strategy) (start_refusal_at c version)
 
-abbrev pub retry_refusal : Templates → Course → Option Refusal
-retry_refusal known c = or_refusal (bound_refusal known c.stand.strategy) (retry_refusal_at c)
+abbrev pub retry_refusal : Templates → Evolution → Option Refusal
+retry_refusal known c = or_refusal (bound_refusal known c.service.strategy) (retry_refusal_at c)
 
-abbrev pub promote_refusal : Stand → Option Refusal
+abbrev pub promote_refusal : ServiceState → Option Refusal
 promote_refusal s =
     first_that_holds
-    ((not (is_going s.state), NotInProgress) ∷ (is_progressing (status s), NotPaused) ∷ [])
+    ((not (is_in_progress s.state), NotInProgress) ∷ (is_progressing (status s), NotPaused) ∷ [])
 
 -- of PromoteFull and Abort
-abbrev pub progress_refusal : Stand → Option Refusal
-progress_refusal s = first_that_holds ((not (is_going s.state), NotInProgress) ∷ [])
+abbrev pub progress_refusal : ServiceState → Option Refusal
+progress_refusal s = first_that_holds ((not (is_in_progress s.state), NotInProgress) ∷ [])
 
 -- What it does.
 
 -- an attempt with that version is in progress, bound to these templates, with no holds and no
 -- background run yet
-abbrev pub begun : Templates → Course → List ℕ → Course
+abbrev pub begun : Templates → Evolution → List ℕ → Evolution
 begun known c version =
-    with_stand c
-    (record (without_holds c.stand) {
-      bound = bound_of known c.stand.strategy;
+    with_service_state c
+    (record (without_holds c.service) {
+      bound = bound_of known c.service.strategy;
       version = version;
       state = InProgress;
       background = false;
     })
 
 -- an attempt with that version, from that step
-abbrev pub begin : Templates → Course → ℕ → List ℕ → LineEvent → ℕ → Course
+abbrev pub begin : Templates → Evolution → ℕ → List ℕ → LineEvent → ℕ → Evolution
 begin known c t version event i = enter (tell (begun known c version) t event) i t
 
 -- a start is at step 0, or for the stable version after an abort at the end
-abbrev pub started_at : Stand → List ℕ → ℕ
+abbrev pub started_at : ServiceState → List ℕ → ℕ
 started_at s version =
     if is_aborted s.state && bytes_eq version s.stable then length s.strategy.steps else 0
 
-abbrev pub start : Templates → Course → ℕ → List ℕ → Course
-start known c t version = begin known c t version (Started version) (started_at c.stand version)
+abbrev pub start : Templates → Evolution → ℕ → List ℕ → Evolution
+start known c t version = begin known c t version (Started version) (started_at c.service version)
 
-abbrev pub retry : Templates → Course → ℕ → Course
-retry known c t = begin known c t c.stand.version (Retried c.stand.version) 0
+abbrev pub retry : Templates → Evolution → ℕ → Evolution
+retry known c t = begin known c t c.service.version (Retried c.service.version) 0
 
 -- a promotion leads with the step hold to the next step, else with the background hold to the same
 -- anew, else from a pause to the next
-abbrev pub promoted_to : Stand → ℕ
+abbrev pub promoted_to : ServiceState → ℕ
 promoted_to s =
     if s.step_hold then s.step + 1 else (if s.background_hold then s.step else s.step + 1)
 
-abbrev pub promote : Course → ℕ → Course
-promote c t = enter (tell (with_stand c (without_holds c.stand)) t Promoted) (promoted_to c.stand) t
+abbrev pub promote : Evolution → ℕ → Evolution
+promote c t = enter (tell (with_service_state c (without_holds c.service)) t Promoted) (promoted_to c.service) t
 
-abbrev pub promote_full : Course → ℕ → Course
-promote_full c t = enter (tell c t PromotedFull) (length c.stand.strategy.steps) t
+abbrev pub promote_full : Evolution → ℕ → Evolution
+promote_full c t = enter (tell c t PromotedFull) (length c.service.strategy.steps) t
 
-abbrev pub abort_by_command : Course → ℕ → Course
+abbrev pub abort_by_command : Evolution → ℕ → Evolution
 abort_by_command c t = abort (tell c t AbortLine) t
 
 -- The table.
 
 -- where a command leads, and the text that shows how the service stands then
-pub record Acted : Type 0 where
-  pub course : Course
-  pub shows : Stand → List ℕ
+pub record ModelResult : Type 0 where
+  pub evolution : Evolution
+  pub shows : ServiceState → List ℕ
 
-abbrev pub leads : Course → Acted
-leads c = record { course = c; shows = service_text }
+abbrev pub succeeds_with : Evolution → ModelResult
+succeeds_with c = record { evolution = c; shows = service_text }
 
 -- the refusal, or else where it leads
-abbrev pub unless : Option Refusal → Acted → Result Acted Refusal
+abbrev pub unless : Option Refusal → ModelResult → Result ModelResult Refusal
 unless None a = Ok a
 unless (Some refusal) a = Err refusal
 
 -- a report shows its entries' phases and the run's verdict, too
-abbrev pub reports : Course → OpenRun → List Entry → ℕ → Acted
+abbrev pub reports : Evolution → OpenRun → List Entry → ℕ → ModelResult
 reports c r entries t =
-    record { course = report_on c r entries t; shows = report_text (reported_on c r entries) }
+    record { evolution = report_on c r entries t; shows = report_text (reported_on c r entries) }
 
-abbrev pub reports_if : Course → Option OpenRun → List Entry → ℕ → Acted
-reports_if c None entries t = leads c
+abbrev pub reports_if : Evolution → Option OpenRun → List Entry → ℕ → ModelResult
+reports_if c None entries t = succeeds_with c
 reports_if c (Some r) entries t = reports c r entries t
 
 -- where a command leads a service that was passed to t, or why it is refused, from the templates
 -- that are known; a Template names no service, and never comes here
-abbrev pub act : Templates → Command → Course → ℕ → Result Acted Refusal
+abbrev pub act : Templates → Command → Evolution → ℕ → Result ModelResult Refusal
 act known (Start name version) c t =
-    unless (start_refusal known c version) (leads (start known c t version))
-act known (Promote name) c t = unless (promote_refusal c.stand) (leads (promote c t))
-act known (PromoteFull name) c t = unless (progress_refusal c.stand) (leads (promote_full c t))
-act known (Abort name) c t = unless (progress_refusal c.stand) (leads (abort_by_command c t))
-act known (Retry name) c t = unless (retry_refusal known c) (leads (retry known c t))
-act known (Tick name) c t = Ok (leads c)
+    unless (start_refusal known c version) (succeeds_with (start known c t version))
+act known (Promote name) c t = unless (promote_refusal c.service) (succeeds_with (promote c t))
+act known (PromoteFull name) c t =
+    unless (progress_refusal c.service) (succeeds_with (promote_full c t))
+act known (Abort name) c t =
+    unless (progress_refusal c.service) (succeeds_with (abort_by_command c t))
+act known (Retry name) c t = unless (retry_refusal known c) (succeeds_with (retry known c t))
+act known (Tick name) c t = Ok (succeeds_with c)
 act known (Report report) c t =
     let r = open_run_now c report.run in unless (report_refusal c t report.run report.entries r)
     (reports_if c r report.entries t)

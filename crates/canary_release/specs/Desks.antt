@@ -18,63 +18,63 @@ use Rattle.canary_plan.specs.Refusals.{first_that_holds, or_refusal}
 use Rattle.canary_plan.specs.Commands.{subject_of}
 use Rattle.canary_release.specs.declared.effect.Effect.{Effect}
 use Rattle.canary_release.specs.declared.reply.Reply.{Reply}
-use Rattle.canary_release.specs.declared.stand.State.TheVariants.{Done}
-use Rattle.canary_release.specs.declared.stand.Stand.{Stand}
-use Rattle.canary_release.specs.Pasts.{Past, no_past, grows_by, watched}
-use Rattle.canary_release.specs.Courses.{Course, Watch, course_from, tell}
+use Rattle.canary_release.specs.declared.state.ReleaseState.TheVariants.{Done}
+use Rattle.canary_release.specs.declared.state.ServiceState.{ServiceState}
+use Rattle.canary_release.specs.Pasts.{Past, no_past, past_with_all, tracked}
+use Rattle.canary_release.specs.Evolutions.{Evolution, RunView, evolution_from, tell}
 use Rattle.canary_release.specs.Passing.{pass, judged_at}
-use Rattle.canary_release.specs.Commands.{Acted, leads, unless, act}
+use Rattle.canary_release.specs.Commands.{ModelResult, succeeds_with, unless, act}
 use Rattle.canary_release.specs.Replies.{template_text, accepted, refused}
 
 -- a service of the model: the command that made it, how it stands, and its whole past
 pub record ModelService : Type 0 where
   pub made : ServiceSpec
-  pub stand : Stand
+  pub service : ServiceState
   pub past : Past
 
--- what is watched of whole lists
-abbrev pub watch_of : Past → Watch
-watch_of p xs = watched (grows_by p xs)
+-- what is tracked of whole lists
+abbrev pub watch_of : Past → RunView
+watch_of p xs = tracked (past_with_all p xs)
 
 -- a service of the model, with nothing changed
-abbrev pub course_of : ModelService → Course
-course_of m = course_from m.stand (watch_of m.past)
+abbrev pub model_evolution : ModelService → Evolution
+model_evolution m = evolution_from m.service (watch_of m.past)
 
 -- what a command does to the desk
 pub data Change : Type 0 where
   Nothing : Change
   Adds : (t : Template) → Change
-  Becomes : (c : Course) → Change
+  Becomes : (c : Evolution) → Change
 
 -- what a command does and answers
-pub record Ruling : Type 0 where
+pub record ModelDecision : Type 0 where
   pub change : Change
   pub reply : Reply
 
-abbrev pub refuses : Refusal → Ruling
+abbrev pub refuses : Refusal → ModelDecision
 refuses refusal = record { change = Nothing; reply = refused refusal }
 
 -- a refusal changes nothing; else the service becomes what the command leads to, and is shown
-abbrev pub rules : Result Acted Refusal → Ruling
-rules (Ok a) = record { change = Becomes a.course; reply = accepted (a.shows a.course.stand) }
+abbrev pub rules : Result ModelResult Refusal → ModelDecision
+rules (Ok a) = record { change = Becomes a.evolution; reply = accepted (a.shows a.evolution.service) }
 rules (Err refusal) = refuses refusal
 
 -- passed to t, where it is not refused
-abbrev pub passed_on : Result Acted Refusal → ℕ → Result Acted Refusal
-passed_on (Ok a) t = Ok (record a { course = pass a.course t })
+abbrev pub passed_on : Result ModelResult Refusal → ℕ → Result ModelResult Refusal
+passed_on (Ok a) t = Ok (record a { evolution = pass a.evolution t })
 passed_on (Err refusal) t = Err refusal
 
 -- a command on a service, which is passed to t before and after; t is the later of the moment and
 -- the service's last
-abbrev pub act_passed : Templates → Command → Course → ℕ → Result Acted Refusal
+abbrev pub act_passed : Templates → Command → Evolution → ℕ → Result ModelResult Refusal
 act_passed known command c now =
-    let t = judged_at c.stand now in
+    let t = judged_at c.service now in
     passed_on (act known command (pass c now) t) t
 
 -- a new service is done and bound to no templates: its version is the stable one, and it stands
 -- after its last step
-abbrev pub new_stand : ServiceSpec → ℕ → Stand
-new_stand spec now =
+abbrev pub new_service_state : ServiceSpec → ℕ → ServiceState
+new_service_state spec now =
     record {
       name = spec.name;
       strategy = strategy_of spec;
@@ -90,17 +90,17 @@ new_stand spec now =
       last = now;
     }
 
-abbrev pub new_service : ServiceSpec → ℕ → Course
+abbrev pub new_service : ServiceSpec → ℕ → Evolution
 new_service spec now =
-    tell (course_from (new_stand spec now) (watch_of no_past)) now (Created spec.version)
+    tell (evolution_from (new_service_state spec now) (watch_of no_past)) now (Created spec.version)
 
 -- a command where no service of its name is there
-abbrev pub act_new : Templates → Command → ℕ → Result Acted Refusal
+abbrev pub act_new : Templates → Command → ℕ → Result ModelResult Refusal
 act_new known (AddService spec) now =
-    unless (strategy_refusal known spec) (leads (new_service spec now))
+    unless (strategy_refusal known spec) (succeeds_with (new_service spec now))
 act_new known command now = Err UnknownService
 
-abbrev pub adds_unless : Option Refusal → Template → Ruling
+abbrev pub adds_unless : Option Refusal → Template → ModelDecision
 adds_unless None t =
     record { change = Adds t; reply = accepted (template_text t.spec.name t.revision) }
 adds_unless (Some refusal) t = refuses refusal
@@ -117,20 +117,20 @@ revision_refusal number spec =
     (first_that_holds ((nat_le 1000000 number, RevisionsSpent) ∷ []))
 
 -- the next revision of a template is added, if this is its newest
-abbrev pub rule_template : Option Template → TemplateSpec → Ruling
+abbrev pub rule_template : Option Template → TemplateSpec → ModelDecision
 rule_template newest spec =
     let number = newest_number newest in adds_unless (revision_refusal number spec)
     (template_of spec (number + 1))
 
 -- a command on a service, which may be there
-abbrev pub rule_service : Templates → Option Course → ℕ → Command → Ruling
+abbrev pub rule_service : Templates → Option Evolution → ℕ → Command → ModelDecision
 rule_service known None now command = rules (act_new known command now)
 rule_service known (Some c) now command = rules (act_passed known command c now)
 
 -- what a command does and answers, from the templates that are known and the service that it names
-abbrev pub ruling : Templates → Option Course → ℕ → Command → Ruling
-ruling known found now (AddTemplate spec) = rule_template (known spec.name) spec
-ruling known found now command = rule_service known found now command
+abbrev pub model_decision : Templates → Option Evolution → ℕ → Command → ModelDecision
+model_decision known found now (AddTemplate spec) = rule_template (known spec.name) spec
+model_decision known found now command = rule_service known found now command
 
 -- the revisions of each template, from 1 on, by name
 abbrev pub RevisionMap : Type 0
@@ -156,7 +156,7 @@ abbrev pub no_desk : Desk
 no_desk = record { templates = empty; services = empty }
 
 -- the command that made a service that is new, by how it stands
-abbrev pub made_as : Stand → ServiceSpec
+abbrev pub made_as : ServiceState → ServiceSpec
 made_as s =
     record {
       name = s.name;
@@ -166,18 +166,18 @@ made_as s =
     }
 
 -- a service before a change: as it is, or a new one with no past
-abbrev pub before : Option ModelService → Stand → ModelService
+abbrev pub before : Option ModelService → ServiceState → ModelService
 before (Some m) s = m
-before None s = record { made = made_as s; stand = s; past = no_past }
+before None s = record { made = made_as s; service = s; past = no_past }
 
 -- after a change it stands so, and its past has grown by the effects
-abbrev pub after : Option ModelService → Stand → List Effect → ModelService
+abbrev pub after : Option ModelService → ServiceState → List Effect → ModelService
 after found s effects =
     let m = before found s in
-    record m { stand = s; past = grows_by m.past effects }
+    record m { service = s; past = past_with_all m.past effects }
 
 -- the desk with the service of that name changed
-abbrev pub with_service : Desk → List ℕ → Stand → List Effect → Desk
+abbrev pub with_service : Desk → List ℕ → ServiceState → List Effect → Desk
 with_service desk name s effects =
     record desk { services = insert desk.services name (after (get desk.services name) s effects) }
 
@@ -186,16 +186,16 @@ abbrev pub desk_after : Desk → Command → Change → Desk
 desk_after desk command Nothing = desk
 desk_after desk command (Adds t) =
     record desk { templates = with_revision desk.templates (subject_of command) t }
-desk_after desk command (Becomes c) = with_service desk (subject_of command) c.stand c.effects
+desk_after desk command (Becomes c) = with_service desk (subject_of command) c.service c.effects
 
 pub record Applied : Type 0 where
   pub desk : Desk
   pub reply : Reply
 
-abbrev pub ruling_on : Desk → ℕ → Command → Ruling
+abbrev pub ruling_on : Desk → ℕ → Command → ModelDecision
 ruling_on desk now command =
-    ruling (newest desk.templates)
-    (option_map course_of (get desk.services (subject_of command))) now command
+    model_decision (newest desk.templates)
+    (option_map model_evolution (get desk.services (subject_of command))) now command
 
 -- one command at its moment
 abbrev pub apply : Desk → ℕ → Command → Applied

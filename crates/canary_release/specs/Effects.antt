@@ -17,19 +17,19 @@ use Rattle.canary_release.specs.declared.effect.Opening.{Opening}
 use Rattle.canary_release.specs.declared.effect.Recorded.{Recorded}
 use Rattle.canary_release.specs.declared.effect.Closing.{Closing}
 use Rattle.canary_release.specs.declared.effect.Effect.{Effect}
-use Rattle.canary_release.specs.declared.effect.Effect.TheVariants.{Told, Opened, Measured, Closed}
+use Rattle.canary_release.specs.declared.effect.Effect.TheVariants.{LineAdded, RunOpened, MeasurementRecorded, RunClosed}
 use Rattle.canary_release.specs.declared.runs.OpenRun.{OpenRun}
 use Rattle.canary_release.specs.declared.runs.Runs.{Runs}
 use Rattle.canary_release.specs.declared.service.ServiceParts.{ServiceParts}
 use Rattle.canary_release.specs.declared.decide.DeskChange.{DeskChange}
 use Rattle.canary_release.specs.declared.decide.DeskChange.TheVariants as change
-use Rattle.canary_release.specs.Pasts.{watched}
-use Rattle.canary_release.specs.Watching.{happens}
-use Rattle.canary_release.specs.Courses.{has_number, run_verdict}
+use Rattle.canary_release.specs.Pasts.{tracked}
+use Rattle.canary_release.specs.Watching.{effect_applied}
+use Rattle.canary_release.specs.Evolutions.{has_number, run_verdict}
 use Rattle.canary_release.specs.Passing.{pass}
-use Rattle.canary_release.specs.Desks.{ModelService, RevisionMap, Desk, revisions_of, newest, before, course_of, ruling_on}
+use Rattle.canary_release.specs.Desks.{ModelService, RevisionMap, Desk, revisions_of, newest, before, model_evolution, ruling_on}
 use Rattle.canary_release.specs.Order.{known_by, AreInOrder}
-use Rattle.canary_release.specs.Shapes.{said}
+use Rattle.canary_release.specs.Stored.{change_of}
 
 -- a run that is opened has the next number, and is of an analysis of the strategy, bound to
 -- revisions that there are
@@ -60,25 +60,25 @@ pub record Closes (w : Runs) (x : Closing) (tallies : List Counts) : Type 0 wher
   pub completed : is_completed x.verdict ≡ true
   pub last : tallies ≡ run.tallies
 
--- an effect may happen to a service of this strategy, of which this is watched, if these are the
+-- an effect may happen to a service of this strategy, of which this is tracked, if these are the
 -- templates; one command may end an attempt and begin another, so its effects are not all of one
 -- binding
 abbrev pub Allowed : RevisionMap → CheckedStrategy → Runs → Effect → Type 0
-Allowed templates st w (Told line) = Unit {0}
-Allowed templates st w (Opened x) = Opens templates st w x
-Allowed templates st w (Measured x) = Measures w x
-Allowed templates st w (Closed x tallies) = Closes w x tallies
+Allowed templates st w (LineAdded line) = Unit {0}
+Allowed templates st w (RunOpened x) = Opens templates st w x
+Allowed templates st w (MeasurementRecorded x) = Measures w x
+Allowed templates st w (RunClosed x tallies) = Closes w x tallies
 
 -- each of them may, one after another
 abbrev pub AreAllowed : RevisionMap → CheckedStrategy → Runs → List Effect → Type 0
 AreAllowed templates st w [] = Unit {0}
 AreAllowed templates st w (x ∷ xs) =
-    Allowed templates st w x × AreAllowed templates st (happens w x) xs
+    Allowed templates st w x × AreAllowed templates st (effect_applied w x) xs
 
 -- what a service with this strategy was bound to; a new one was bound to nothing
 abbrev pub bound_before : Option ModelService → CheckedStrategy → BoundParts
 bound_before None st = unbound st
-bound_before (Some m) st = m.stand.bound
+bound_before (Some m) st = m.service.bound
 
 -- what it is bound to after a command: a Start and a Retry bind it to the templates that are known,
 -- and no other command binds it
@@ -92,10 +92,10 @@ bound_after known other found st = bound_before found st
 -- happen
 pub record Changes (templates : RevisionMap) (found : Option ModelService) (by : Command)
     (s : ServiceParts) (effects : List Effect) : Type 0 where
-  pub named : s.stand.name ≡ subject_of by
-  pub strategy : s.stand.strategy ≡ (before found s.stand).stand.strategy
-  pub bound : s.stand.bound ≡ bound_after (newest templates) by found s.stand.strategy
-  pub allowed : AreAllowed templates s.stand.strategy (watched (before found s.stand).past) effects
+  pub named : s.service.name ≡ subject_of by
+  pub strategy : s.service.strategy ≡ (before found s.service).service.strategy
+  pub bound : s.service.bound ≡ bound_after (newest templates) by found s.service.strategy
+  pub allowed : AreAllowed templates s.service.strategy (tracked (before found s.service).past) effects
 
 -- a change by a command: a template has the name that the command has, and is its next revision; a
 -- service becomes another by it
@@ -111,16 +111,16 @@ IsChange desk by (change.Service s effects) =
 abbrev pub CommandsChange : Type 0
 CommandsChange =
     (desk : Desk) (now : ℕ) (command : Command) → AreInOrder desk
-    → IsChange desk command (said (ruling_on desk now command).change)
+    → IsChange desk command (change_of (ruling_on desk now command).change)
 
 -- no measurement is recorded
 abbrev pub IsQuiet : Effect → Type 0
-IsQuiet (Measured x) = ⊥
-IsQuiet (Told line) = Unit {0}
-IsQuiet (Opened x) = Unit {0}
-IsQuiet (Closed x tallies) = Unit {0}
+IsQuiet (MeasurementRecorded x) = ⊥
+IsQuiet (LineAdded line) = Unit {0}
+IsQuiet (RunOpened x) = Unit {0}
+IsQuiet (RunClosed x tallies) = Unit {0}
 
 -- the law: as time passes no measurement is recorded
 abbrev pub TimeMeasuresNothing : Type 0
 TimeMeasuresNothing =
-    (m : ModelService) (t : ℕ) → AllByRecursion IsQuiet (pass (course_of m) t).effects
+    (m : ModelService) (t : ℕ) → AllByRecursion IsQuiet (pass (model_evolution m) t).effects

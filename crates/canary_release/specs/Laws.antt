@@ -10,15 +10,16 @@ use Rattle.canary_plan.specs.Commands.{subject_of, names_looked_up}
 use Rattle.canary_release.specs.declared.effect.Effect.{Effect}
 use Rattle.canary_release.specs.declared.reply.Reply.{Reply}
 use Rattle.canary_release.specs.declared.reply.ReplyStatus.TheVariants.{Accepted, Refused}
-use Rattle.canary_release.specs.Pasts.{Past, grows_by, watched}
+use Rattle.canary_release.specs.Pasts.{Past, past_with_all, tracked}
 use Rattle.canary_release.specs.Watching.{after_all}
-use Rattle.canary_release.specs.Courses.{Course}
+use Rattle.canary_release.specs.Evolutions.{Evolution}
 use Rattle.canary_release.specs.Passing.{pass}
-use Rattle.canary_release.specs.Desks.{ModelService, course_of, Desk, ruling, apply, machine}
+use Rattle.canary_release.specs.Desks.{ModelService, model_evolution, Desk, model_decision, apply, machine}
 
--- what is watched after all that happened is seen in the whole lists as in the tallies
+-- what is tracked after all that happened is seen in the whole lists as in the tallies
 abbrev pub WatchesAlike : Type 0
-WatchesAlike = (p : Past) (xs : List Effect) → watched (grows_by p xs) ≡ after_all (watched p) xs
+WatchesAlike = (p : Past) (xs : List Effect) → tracked (past_with_all p xs)
+    ≡ after_all (tracked p) xs
 
 -- a command is accepted, or refused and the desk as it was
 abbrev pub RefusalsLeaveTheDesk : Type 0
@@ -27,13 +28,13 @@ RefusalsLeaveTheDesk =
     → let a = apply desk now command in (a.reply.status ≡ Accepted)
     ⊎ ((a.reply.status ≡ Refused) × (a.desk ≡ desk))
 
--- a ruling looks only at the templates that its command looks up
+-- a decision looks only at the templates that its command looks up
 abbrev pub LooksOnlyAt : Type 0
 LooksOnlyAt =
-    (known other : Templates) (found : Option Course) (now : ℕ) (command : Command)
+    (known other : Templates) (found : Option Evolution) (now : ℕ) (command : Command)
     → Agree known other
-    (names_looked_up (option_map (λ (c : Course). c.stand.strategy) found) command)
-    → ruling known found now command ≡ ruling other found now command
+    (names_looked_up (option_map (λ (c : Evolution). c.service.strategy) found) command)
+    → model_decision known found now command ≡ model_decision other found now command
 
 -- Services apart from one another.
 
@@ -81,8 +82,8 @@ AreIndependent =
 -- a service passed to a moment, with what happened on the way
 abbrev pub passed_to : ℕ → ModelService → ModelService
 passed_to t m =
-    let c = pass (course_of m) t in
-    record m { stand = c.stand; past = grows_by m.past c.effects }
+    let c = pass (model_evolution m) t in
+    record m { service = c.service; past = past_with_all m.past c.effects }
 
 -- no command on that service has an earlier moment
 abbrev pub AreFrom : ℕ → List ℕ → List (ℕ × Command) → Type 0

@@ -1,14 +1,14 @@
 pub mod Pasts
 pub mod Watching
 pub mod Services
-pub mod Courses
+pub mod Evolutions
 pub mod Entering
 pub mod Passing
 pub mod Reports
 pub mod Replies
 pub mod Commands
 pub mod Desks
-pub mod Shapes
+pub mod Stored
 pub mod Parts
 pub mod Laws
 pub mod Order

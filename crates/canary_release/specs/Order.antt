@@ -9,9 +9,9 @@ use Rattle.canary_plan.specs.PlanRefusals.{template_refusal, strategy_refusal}
 use Rattle.canary_release.specs.declared.effect.Recorded.{Recorded}
 use Rattle.canary_release.specs.Pasts.{Run}
 use Rattle.canary_release.specs.Parts.{is_broken}
-use Rattle.canary_release.specs.declared.stand.Stand.{Stand}
+use Rattle.canary_release.specs.declared.state.ServiceState.{ServiceState}
 use Rattle.canary_release.specs.Desks.{ModelService, RevisionMap, revisions_of, newest, Desk, machine}
-use Rattle.canary_release.specs.Shapes.{shape}
+use Rattle.canary_release.specs.Stored.{stored_form}
 
 -- runs are numbered from 1 on, the first of these having this number
 abbrev pub AreNumbered : ℕ → List Run → Type 0
@@ -48,7 +48,7 @@ abbrev pub known_by : RevisionMap → (List ℕ → Option ℕ) → Templates
 known_by templates binding name = at_revision (revisions_of templates name) (binding name)
 
 -- a service is bound to revisions that there are
-pub record IsBoundIn (templates : RevisionMap) (s : Stand) : Type 0 where
+pub record IsBoundIn (templates : RevisionMap) (s : ServiceState) : Type 0 where
   pub binding : List ℕ → Option ℕ
   pub bound : s.bound ≡ bound_of (known_by templates binding) s.strategy
 
@@ -56,7 +56,7 @@ pub record IsBoundIn (templates : RevisionMap) (s : Stand) : Type 0 where
 -- list for each of its metrics
 pub record IsRun (templates : RevisionMap) (s : ModelService) (r : Run) : Type 0 where
   pub binding : List ℕ → Option ℕ
-  pub analysis : analysis_at (bound_of (known_by templates binding) s.stand.strategy) r.step
+  pub analysis : analysis_at (bound_of (known_by templates binding) s.service.strategy) r.step
       ≡ Some r.analysis
   pub one_each : length r.lists ≡ length r.analysis.metrics
   pub lists : AreLists s.past.measurements r.number 0 r.lists
@@ -74,14 +74,14 @@ is_of_some runs x = list_any (is_measured_by x) runs
 -- accepted
 pub record IsInOrder (templates : RevisionMap) (name : List ℕ) (s : ModelService) : Type 0 where
   pub named : s.made.name ≡ name
-  pub shown : s.stand.name ≡ name
-  pub strategy : s.stand.strategy ≡ strategy_of s.made
+  pub shown : s.service.name ≡ name
+  pub strategy : s.service.strategy ≡ strategy_of s.made
   pub accepted : strategy_refusal (newest templates) s.made ≡ None
-  pub bound : IsBoundIn templates s.stand
+  pub bound : IsBoundIn templates s.service
   pub numbered : AreNumbered 1 s.past.runs
   pub runs : AllByRecursion (IsRun templates s) s.past.runs
   pub measured : IsTrue (list_all (is_of_some s.past.runs) s.past.measurements)
-  pub parts : is_broken (shape s) ≡ false
+  pub parts : is_broken (stored_form s) ≡ false
 
 -- a revision of a template under a name: it is its command's, which is accepted
 pub record IsTemplate (name : List ℕ) (revision : ℕ) (t : Template) : Type 0 where

@@ -14,13 +14,13 @@ use Rattle.canary_plan.specs.declared.bound.BoundParts.{BoundParts}
 use Rattle.canary_plan.specs.Plans.{analysis_at}
 use Rattle.canary_plan.specs.PlanRefusals.{has_duplicate, is_without_end}
 use Rattle.canary_plan.specs.Commands.{same_names}
-use Rattle.canary_release.specs.declared.stand.Stand.{Stand}
+use Rattle.canary_release.specs.declared.state.ServiceState.{ServiceState}
 use Rattle.canary_release.specs.declared.runs.OpenRun.{OpenRun}
 use Rattle.canary_release.specs.declared.service.ServiceParts.{ServiceParts}
 use Rattle.canary_release.specs.declared.parts.PartsFault.{PartsFault}
 use Rattle.canary_release.specs.declared.parts.PartsFault.TheVariants.{Broken}
-use Rattle.canary_release.specs.Services.{is_going, is_done, is_held}
-use Rattle.canary_release.specs.Courses.{has_number, run_verdict}
+use Rattle.canary_release.specs.Services.{is_in_progress, is_done, is_held}
+use Rattle.canary_release.specs.Evolutions.{has_number, run_verdict}
 use Rattle.canary_release.specs.Passing.{next_move, is_by}
 
 abbrev pub one_if : Bool → ℕ
@@ -39,18 +39,18 @@ has_background_run s = list_any is_background_run s.runs.open_runs
 -- or is held
 abbrev pub background_wanted : ServiceParts → ℕ
 background_wanted s =
-    one_if (not s.stand.background)
-    + one_if (not s.stand.background || (has_background_run s || s.stand.background_hold))
+    one_if (not s.service.background)
+    + one_if (not s.service.background || (has_background_run s || s.service.background_hold))
 
 -- the run numbers that the present attempt may still take: one for each step after the present one,
 -- and those of the background
 abbrev pub runs_wanted : ServiceParts → ℕ
 runs_wanted s =
-    (length s.stand.strategy.steps - (s.stand.step + 1))
-    + (if is_some s.stand.strategy.background then background_wanted s else 0)
+    (length s.service.strategy.steps - (s.service.step + 1))
+    + (if is_some s.service.strategy.background then background_wanted s else 0)
 
 -- the step is above the end, or at the end in another state than done, or below it in done
-abbrev pub is_misplaced : Stand → Bool
+abbrev pub is_misplaced : ServiceState → Bool
 is_misplaced s =
     let n = length s.strategy.steps in nat_lt n s.step
     || (if s.step == n then not (is_done s.state) else is_done s.state)
@@ -76,7 +76,7 @@ is_bound_otherwise None a = true
 is_bound_otherwise (Some b) a = not (pointwise same_revision b.revisions a.revisions)
 
 -- its revisions aren't those to which the present attempt is bound
-abbrev pub has_other_revisions : Stand → OpenRun → Bool
+abbrev pub has_other_revisions : ServiceState → OpenRun → Bool
 has_other_revisions s r = is_bound_otherwise (analysis_at s.bound r.step) r.analysis
 
 abbrev pub names_of_revisions : AnalysisParts → List (List ℕ)
@@ -97,13 +97,13 @@ is_background_bound None a = is_none a
 is_background_bound (Some b) a = is_bound_to b.templates a
 
 -- each analysis of the strategy is bound, to its own templates
-abbrev pub is_bound : Stand → Bool
+abbrev pub is_bound : ServiceState → Bool
 is_bound s =
     pointwise is_step_bound s.strategy.steps s.bound.steps
     && is_background_bound s.strategy.background s.bound.background
 
 -- no analysis is
-abbrev pub is_unbound : Stand → Bool
+abbrev pub is_unbound : ServiceState → Bool
 is_unbound s =
     length s.bound.steps == length s.strategy.steps
     && (list_all (λ (a : Option AnalysisParts). is_none a) s.bound.steps
@@ -128,16 +128,16 @@ is_refused b =
 
 -- it is bound to other templates than its strategy's, or to none once a release was begun, or to
 -- what no strategy is bound to
-abbrev pub is_misbound : Stand → Bool
+abbrev pub is_misbound : ServiceState → Bool
 is_misbound s = not (is_bound s || (is_done s.state && is_unbound s)) || is_refused s.bound
 
-abbrev pub is_elsewhere : Stand → Option ℕ → Bool
+abbrev pub is_elsewhere : ServiceState → Option ℕ → Bool
 is_elsewhere s None = false
 is_elsewhere s (Some i) =
     not (i == s.step) || (is_none (analysis_at s.bound (Some i)) || is_held s)
 
 -- a step run elsewhere than at its own analysis step, or while held
-abbrev pub is_astray : Stand → OpenRun → Bool
+abbrev pub is_astray : ServiceState → OpenRun → Bool
 is_astray s r = is_elsewhere s r.step
 
 -- its verdict isn't Running
@@ -147,12 +147,12 @@ is_judged r = is_completed (run_verdict false r)
 -- the parts make no service: some cause holds
 abbrev pub is_broken : ServiceParts → Bool
 is_broken s =
-    let stand = s.stand in
-    let going = is_going stand.state in
+    let service = s.service in
+    let going = is_in_progress service.state in
     let runs = s.runs.open_runs in
     list_any (λ (b : Bool). b) (
-    is_misplaced stand
-    ∷ nat_lt stand.last stand.entered
+    is_misplaced service
+    ∷ nat_lt service.last service.entered
     ∷ nat_lt 1000000 s.runs.count
     ∷ (going && nat_lt (1000000 - s.runs.count) (runs_wanted s))
     ∷ list_any (is_misnumbered s.runs.count) runs
@@ -161,15 +161,15 @@ is_broken s =
     ∷ (not going && nat_lt 0 (length runs))
     ∷ nat_lt 1 (length (filter is_background_run runs))
     ∷ nat_lt 1 (length (filter is_step_run runs))
-    ∷ list_any (is_astray stand) runs
-    ∷ (has_background_run s && (not stand.background || stand.background_hold))
-    ∷ (is_held stand && not going)
-    ∷ (stand.background && is_none stand.strategy.background)
-    ∷ (stand.background_hold && not stand.background)
+    ∷ list_any (is_astray service) runs
+    ∷ (has_background_run s && (not service.background || service.background_hold))
+    ∷ (is_held service && not going)
+    ∷ (service.background && is_none service.strategy.background)
+    ∷ (service.background_hold && not service.background)
     ∷ list_any is_judged runs
-    ∷ is_by stand.last (next_move stand)
-    ∷ is_misbound stand
-    ∷ list_any (has_other_revisions stand) runs
+    ∷ is_by service.last (next_move service)
+    ∷ is_misbound service
+    ∷ list_any (has_other_revisions service) runs
     ∷ []
     )
 

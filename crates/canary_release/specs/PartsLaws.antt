@@ -5,29 +5,30 @@ use Rattle.canary_plan.specs.declared.command.Command.{Command}
 use Rattle.canary_plan.specs.Plans.{Templates, is_accepted, are_fit}
 use Rattle.canary_release.specs.declared.service.ServiceParts.{ServiceParts}
 use Rattle.canary_release.specs.Passing.{pass}
-use Rattle.canary_release.specs.Commands.{Acted}
+use Rattle.canary_release.specs.Commands.{ModelResult}
 use Rattle.canary_release.specs.Desks.{act_passed, new_service}
-use Rattle.canary_release.specs.Shapes.{kept_course, kept_after}
+use Rattle.canary_release.specs.Stored.{stored_evolution, stored_after}
 use Rattle.canary_release.specs.Parts.{is_broken}
 
 -- parts stay unbroken as time passes
 abbrev pub PassingKeepsParts : Type 0
 PassingKeepsParts =
-    (s : ServiceParts) (t : ℕ) → IsTrue (is_accepted s.stand.strategy)
-    → IsTrue (are_fit s.stand.bound) → is_broken s ≡ false
-    → is_broken (kept_after (pass (kept_course s) t)) ≡ false
+    (s : ServiceParts) (t : ℕ) → IsTrue (is_accepted s.service.strategy)
+    → IsTrue (are_fit s.service.bound) → is_broken s ≡ false
+    → is_broken (stored_after (pass (stored_evolution s) t)) ≡ false
 
 -- a command that is accepted leads unbroken parts to unbroken parts, with the same strategy, if
 -- what it is then bound to is fit for runs
 abbrev pub ActingKeepsParts : Type 0
 ActingKeepsParts =
-    (known : Templates) (command : Command) (s : ServiceParts) (now : ℕ) (a : Acted)
-    → IsTrue (is_accepted s.stand.strategy) → IsTrue (are_fit s.stand.bound)
-    → is_broken s ≡ false → act_passed known command (kept_course s) now ≡ Ok a
-    → IsTrue (are_fit a.course.stand.bound)
-    → (is_broken (kept_after a.course) ≡ false) × (a.course.stand.strategy ≡ s.stand.strategy)
+    (known : Templates) (command : Command) (s : ServiceParts) (now : ℕ) (a : ModelResult)
+    → IsTrue (is_accepted s.service.strategy) → IsTrue (are_fit s.service.bound)
+    → is_broken s ≡ false → act_passed known command (stored_evolution s) now ≡ Ok a
+    → IsTrue (are_fit a.evolution.service.bound)
+    → (is_broken (stored_after a.evolution) ≡ false)
+    × (a.evolution.service.strategy ≡ s.service.strategy)
 
 -- a new service's parts are unbroken
 abbrev pub NewPartsAreUnbroken : Type 0
 NewPartsAreUnbroken =
-    (spec : ServiceSpec) (now : ℕ) → is_broken (kept_after (new_service spec now)) ≡ false
+    (spec : ServiceSpec) (now : ℕ) → is_broken (stored_after (new_service spec now)) ≡ false

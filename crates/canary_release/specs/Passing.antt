@@ -2,14 +2,14 @@
 use Rattle.std.specs.Prelude.{◌≡◌, ℕ, zero, suc, ◌+◌, ◌-◌, ◌≤◌, nat_le, ◌&&◌, not, Bool, true, false, IsTrue, if◌then◌else◌, length, Option, Some, None, max}
 use Rattle.canary_plan.specs.declared.step.Step.{Step}
 use Rattle.canary_plan.specs.declared.step.Step.TheVariants.{SetWeight, Pause, Analysis}
-use Rattle.canary_release.specs.declared.stand.Stand.{Stand}
-use Rattle.canary_release.specs.Services.{is_going, is_held, step_of}
-use Rattle.canary_release.specs.Courses.{Course, with_stand}
+use Rattle.canary_release.specs.declared.state.ServiceState.{ServiceState}
+use Rattle.canary_release.specs.Services.{is_in_progress, is_held, step_of}
+use Rattle.canary_release.specs.Evolutions.{Evolution, with_service_state}
 use Rattle.canary_release.specs.Entering.{enter}
 
 -- in progress and not held: only then a release moves
-abbrev pub is_free : Stand → Bool
-is_free s = is_going s.state && not (is_held s)
+abbrev pub is_free : ServiceState → Bool
+is_free s = is_in_progress s.state && not (is_held s)
 
 -- the moment at which a step that was entered at one moves by time, or none
 abbrev pub leaves_at : Option Step → ℕ → Option ℕ
@@ -20,37 +20,39 @@ leaves_at (Some (Analysis names)) entered = None
 leaves_at None entered = None
 
 -- a move at moment e: the next step is entered when the present one leaves
-abbrev pub Moves : Course → ℕ → Course → Type 0
+abbrev pub Moves : Evolution → ℕ → Evolution → Type 0
 Moves c e next =
-    IsTrue (is_free c.stand) × (leaves_at (step_of c.stand) c.stand.entered ≡ Some e)
-    × (next ≡ enter c (c.stand.step + 1) e)
+    IsTrue (is_free c.service) × (leaves_at (step_of c.service) c.service.entered ≡ Some e)
+    × (next ≡ enter c (c.service.step + 1) e)
 
 -- so many moves with moments at most t lead from one to the other
-abbrev pub Chain : ℕ → ℕ → Course → Course → Type 0
+abbrev pub Chain : ℕ → ℕ → Evolution → Evolution → Type 0
 Chain zero t c end' = end' ≡ c
-Chain (suc n) t c end' = (e : ℕ) × (next : Course) × Moves c e next × (e ≤ t) × Chain n t next end'
+Chain (suc n) t c end' =
+    (e : ℕ) × (next : Evolution) × Moves c e next × (e ≤ t) × Chain n t next end'
 
 -- no chain of moves with moments at most t has more than n of them
-abbrev pub IsLongest : ℕ → Course → ℕ → Type 0
-IsLongest t c n = (m : ℕ) (d : Course) → Chain m t c d → m ≤ n
+abbrev pub IsLongest : ℕ → Evolution → ℕ → Type 0
+IsLongest t c n = (m : ℕ) (d : Evolution) → Chain m t c d → m ≤ n
 
-abbrev pub with_last : Course → ℕ → Course
-with_last c t = with_stand c (record c.stand { last = t })
+abbrev pub with_last : Evolution → ℕ → Evolution
+with_last c t = with_service_state c (record c.service { last = t })
 
 -- the later of the moment and the service's last
-abbrev pub judged_at : Stand → ℕ → ℕ
+abbrev pub judged_at : ServiceState → ℕ → ℕ
 judged_at s t = max t s.last
 
 -- passed to t: the end of the longest chain of moves up to the later of t and the last moment
-abbrev pub Passes : Course → ℕ → Course → Type 0
+abbrev pub Passes : Evolution → ℕ → Evolution → Type 0
 Passes c t passed =
-    let at = judged_at c.stand t in
-    (n : ℕ) × (end' : Course) × Chain n at c end' × IsLongest at c n × (passed ≡ with_last end' at)
+    let at = judged_at c.service t in
+    (n : ℕ) × (end' : Evolution) × Chain n at c end' × IsLongest at c n
+    × (passed ≡ with_last end' at)
 
 -- The same, computed.
 
 -- the moment of the next move, or none
-abbrev pub next_move : Stand → Option ℕ
+abbrev pub next_move : ServiceState → Option ℕ
 next_move s = if is_free s then leaves_at (step_of s) s.entered else None
 
 abbrev pub is_by : ℕ → Option ℕ → Bool
@@ -62,34 +64,35 @@ abbrev pub move_by : ℕ → Option ℕ → Option ℕ
 move_by t None = None
 move_by t (Some e) = if nat_le e t then Some e else None
 
-abbrev pub move_at : Course → Option ℕ → Course
+abbrev pub move_at : Evolution → Option ℕ → Evolution
 move_at c None = c
-move_at c (Some e) = enter c (c.stand.step + 1) e
+move_at c (Some e) = enter c (c.service.step + 1) e
 
 -- at most so many moves with moments at most t
-abbrev pub chain_end : ℕ → ℕ → Course → Course
+abbrev pub chain_end : ℕ → ℕ → Evolution → Evolution
 chain_end zero t c = c
 chain_end (suc n) t c =
-    elim (is_by t (next_move c.stand))
-    [ true ↦ chain_end n t (move_at c (next_move c.stand)) | false ↦ c ]
+    elim (is_by t (next_move c.service))
+    [ true ↦ chain_end n t (move_at c (next_move c.service)) | false ↦ c ]
 
 -- the end of the chain of moves up to t; each move raises the step, so there are no more moves than
 -- steps
-abbrev pub followed : Course → ℕ → Course
-followed c t = chain_end (length c.stand.strategy.steps - c.stand.step) t c
+abbrev pub followed : Evolution → ℕ → Evolution
+followed c t = chain_end (length c.service.strategy.steps - c.service.step) t c
 
 -- passed to t
-abbrev pub pass : Course → ℕ → Course
+abbrev pub pass : Evolution → ℕ → Evolution
 pass c t =
-    let at = judged_at c.stand t in
+    let at = judged_at c.service t in
     with_last (followed c at) at
 
 -- the law that joins them: there is a longest chain, its end is the computed one, and no other
 -- passes
 abbrev pub PassesAsComputed : Type 0
 PassesAsComputed =
-    (c : Course) (t : ℕ) → Passes c t (pass c t) × ((p : Course) → Passes c t p → p ≡ pass c t)
+    (c : Evolution) (t : ℕ) → Passes c t (pass c t)
+    × ((p : Evolution) → Passes c t p → p ≡ pass c t)
 
 -- the law of time: passing in two steps is passing in one, effects and all
 abbrev pub PassesInSteps : Type 0
-PassesInSteps = (c : Course) (t u : ℕ) → t ≤ u → pass (pass c t) u ≡ pass c u
+PassesInSteps = (c : Evolution) (t u : ℕ) → t ≤ u → pass (pass c t) u ≡ pass c u

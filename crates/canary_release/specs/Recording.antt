@@ -4,10 +4,10 @@ use Rattle.std.specs.List.{list_all}
 use Rattle.canary_metric.specs.Counts.{Counts, size}
 use Rattle.canary_metric.specs.Measurements.{is_measured}
 use Rattle.canary_release.specs.declared.effect.Recorded.{Recorded}
-use Rattle.canary_release.specs.declared.effect.Effect.TheVariants.{Measured}
+use Rattle.canary_release.specs.declared.effect.Effect.TheVariants.{MeasurementRecorded}
 use Rattle.canary_release.specs.declared.runs.OpenRun.{OpenRun}
 use Rattle.canary_release.specs.declared.runs.Runs.{Runs}
-use Rattle.canary_release.specs.Watching.{happens}
+use Rattle.canary_release.specs.Watching.{effect_applied}
 
 -- a tally, if it is there, takes one more measurement
 abbrev pub is_not_full : Option Counts → Bool
@@ -25,4 +25,4 @@ has_room w x = is_measured x.phase && list_all (takes x) w.open_runs
 -- each in turn, after those before it
 abbrev pub have_room : Runs → List Recorded → Bool
 have_room w [] = true
-have_room w (x ∷ xs) = has_room w x && have_room (happens w (Measured x)) xs
+have_room w (x ∷ xs) = has_room w x && have_room (effect_applied w (MeasurementRecorded x)) xs

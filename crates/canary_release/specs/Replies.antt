@@ -10,9 +10,9 @@ use Rattle.canary_release.specs.declared.reply.Reply.{Reply}
 use Rattle.canary_release.specs.declared.reply.ReplyStatus.{ReplyStatus}
 use Rattle.canary_release.specs.declared.reply.ReplyStatus.TheVariants as reply_status
 use Rattle.canary_release.specs.declared.reply.Reported.{Reported}
-use Rattle.canary_release.specs.declared.stand.Status.{Status}
-use Rattle.canary_release.specs.declared.stand.Status.TheVariants.{Healthy, Degraded, Paused, Progressing}
-use Rattle.canary_release.specs.declared.stand.Stand.{Stand}
+use Rattle.canary_release.specs.declared.state.Status.{Status}
+use Rattle.canary_release.specs.declared.state.Status.TheVariants.{Healthy, Degraded, Paused, Progressing}
+use Rattle.canary_release.specs.declared.state.ServiceState.{ServiceState}
 use Rattle.canary_release.specs.Services.{status, weight}
 
 abbrev pub status_text : Status → List ℕ
@@ -46,7 +46,7 @@ template_text name revision =
     ++ (decimal revision ++ (codes ",\"template\":\"" ++ (name ++ codes "\"}")))
 
 -- "service":NAME,"status":STATUS,"step":STEP
-abbrev pub place_text : Stand → List ℕ
+abbrev pub place_text : ServiceState → List ℕ
 place_text s =
     codes "\"service\":"
     ++ (quoted s.name
@@ -54,11 +54,11 @@ place_text s =
     ++ (quoted (status_text (status s)) ++ (codes ",\"step\":" ++ decimal s.step))))
 
 -- ,"weight":WEIGHT}
-abbrev pub weight_text : Stand → List ℕ
+abbrev pub weight_text : ServiceState → List ℕ
 weight_text s = codes ",\"weight\":" ++ (decimal (weight s) ++ codes "}")
 
 -- {"code":"ok","service":NAME,"status":STATUS,"step":STEP,"weight":WEIGHT}
-abbrev pub service_text : Stand → List ℕ
+abbrev pub service_text : ServiceState → List ℕ
 service_text s =
     codes "{\"code\":\"ok\",\"service\":\""
     ++ (s.name
@@ -73,7 +73,7 @@ quoted_phase p = quoted (phase_text p)
 --
 -- {"code":"ok","phases":[..],"run":RUN,"service":NAME,"status":STATUS,"step":STEP,
 -- "verdict":PHASE,"weight":WEIGHT}
-abbrev pub report_text : Reported → Stand → List ℕ
+abbrev pub report_text : Reported → ServiceState → List ℕ
 report_text r s =
     codes "{\"code\":\"ok\",\"phases\":"
     ++ (bracketed (map quoted_phase r.phases) ++ (codes ",\"run\":" ++ (decimal r.run
@@ -82,7 +82,7 @@ report_text r s =
     ++ (codes ",\"verdict\":" ++ (quoted_phase r.verdict ++ weight_text s)))))))
 
 -- the text that shows a service, with what a report adds
-abbrev pub shown_by : Option Reported → Stand → List ℕ
+abbrev pub shown_by : Option Reported → ServiceState → List ℕ
 shown_by None = service_text
 shown_by (Some r) = report_text r
 

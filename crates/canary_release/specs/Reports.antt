@@ -14,11 +14,11 @@ use Rattle.canary_plan.specs.declared.refusal.Refusal.{Refusal}
 use Rattle.canary_plan.specs.declared.refusal.Refusal.TheVariants.{UnknownRun, RunClosed, UnknownMetric, RepeatedMetric, MetricClosed, AlreadyRecorded, OutOfTurn, Spent, Future, TooEarly}
 use Rattle.canary_plan.specs.Refusals.{first_that_holds, or_refusal}
 use Rattle.canary_release.specs.declared.effect.Recorded.{Recorded}
-use Rattle.canary_release.specs.declared.effect.Effect.TheVariants.{Measured}
+use Rattle.canary_release.specs.declared.effect.Effect.TheVariants.{MeasurementRecorded}
 use Rattle.canary_release.specs.declared.runs.OpenRun.{OpenRun}
 use Rattle.canary_release.specs.declared.runs.Runs.{Runs}
 use Rattle.canary_release.specs.declared.reply.Reported.{Reported}
-use Rattle.canary_release.specs.Courses.{Course, with_stand, happen, tell, runs_now, open_run_now, run_verdict, close_run, end_open_runs}
+use Rattle.canary_release.specs.Evolutions.{Evolution, with_service_state, apply_effect, tell, runs_now, open_run_now, run_verdict, close_run, end_open_runs}
 use Rattle.canary_release.specs.Entering.{enter, abort}
 
 -- a metric of an open run: its place there, from 0, and its tally
@@ -76,7 +76,7 @@ abbrev pub is_no_run : Runs → ℕ → Bool
 is_no_run w run = run == 0 || nat_lt w.count run
 
 -- why a report on a run is refused: there is no such run, or it isn't open, or an entry is bad
-abbrev pub report_refusal : Course → ℕ → ℕ → List Entry → Option OpenRun → Option Refusal
+abbrev pub report_refusal : Evolution → ℕ → ℕ → List Entry → Option OpenRun → Option Refusal
 report_refusal c t run es None = Some (if is_no_run (runs_now c) run then UnknownRun else RunClosed)
 report_refusal c t run es (Some r) = entries_refusal r.analysis.metrics r t [] es
 
@@ -102,59 +102,59 @@ brought ms r [] = []
 brought ms r (e ∷ es) = recorded_if r e (place_of ms r e) ++ brought ms r es
 
 -- measurements are recorded, one after another
-abbrev pub record_all : Course → List Recorded → Course
+abbrev pub record_all : Evolution → List Recorded → Evolution
 record_all c [] = c
-record_all c (x ∷ xs) = record_all (happen c (Measured x)) xs
+record_all c (x ∷ xs) = record_all (apply_effect c (MeasurementRecorded x)) xs
 
 -- the release is aborted by a run
-abbrev pub abort_by_run : Course → ℕ → ℕ → Course
+abbrev pub abort_by_run : Evolution → ℕ → ℕ → Evolution
 abort_by_run c run t = abort (tell c t (AbortedBy run)) t
 
-abbrev pub hold_step : Course → ℕ → Course
-hold_step c t = tell (with_stand c (record c.stand { step_hold = true })) t (StepHeld c.stand.step)
+abbrev pub hold_step : Evolution → ℕ → Evolution
+hold_step c t = tell (with_service_state c (record c.service { step_hold = true })) t (StepHeld c.service.step)
 
 -- an open step run is ended from outside
-abbrev pub hold_background : Course → ℕ → Course
+abbrev pub hold_background : Evolution → ℕ → Evolution
 hold_background c t =
     end_open_runs
-    (tell (with_stand c (record c.stand { background_hold = true })) t BackgroundHeld) t
+    (tell (with_service_state c (record c.service { background_hold = true })) t BackgroundHeld) t
 
 -- what the verdict of a step run, or of a background run, brings once it is closed
-abbrev pub consequence : Course → ℕ → Option ℕ → Phase → ℕ → Course
+abbrev pub consequence : Evolution → ℕ → Option ℕ → Phase → ℕ → Evolution
 consequence c run step Failed t = abort_by_run c run t
 consequence c run step Error t = abort_by_run c run t
 consequence c run (Some i) Inconclusive t = hold_step c t
 consequence c run None Inconclusive t = hold_background c t
-consequence c run (Some i) Successful t = enter c (c.stand.step + 1) t
+consequence c run (Some i) Successful t = enter c (c.service.step + 1) t
 consequence c run None Successful t = c
 consequence c run step Pending t = c
 consequence c run step Running t = c
 
-abbrev pub complete : Course → OpenRun → Phase → ℕ → Course
+abbrev pub complete : Evolution → OpenRun → Phase → ℕ → Evolution
 complete c r v t =
     consequence (tell (close_run c r t false) t (Completed r.number v)) r.number r.step v t
 
 -- an open run that is no longer Running is closed, with what follows
-abbrev pub assess_run : Course → OpenRun → ℕ → Course
+abbrev pub assess_run : Evolution → OpenRun → ℕ → Evolution
 assess_run c r t =
     let v = run_verdict false r in if is_completed v then complete c r v t else c
 
-abbrev pub assess : Course → Option OpenRun → ℕ → Course
+abbrev pub assess : Evolution → Option OpenRun → ℕ → Evolution
 assess c None t = c
 assess c (Some r) t = assess_run c r t
 
 -- the entries are recorded, and then the run is assessed once
-abbrev pub report_on : Course → OpenRun → List Entry → ℕ → Course
+abbrev pub report_on : Evolution → OpenRun → List Entry → ℕ → Evolution
 report_on c r es t =
     let all = record_all c (brought r.analysis.metrics r es) in
     assess all (open_run_now all r.number) t
 
-abbrev pub verdict_if : Course → Option OpenRun → Phase
+abbrev pub verdict_if : Evolution → Option OpenRun → Phase
 verdict_if c None = Running
 verdict_if c (Some r) = run_verdict false r
 
 -- what a report adds to its reply: the phases of its entries, its run, and the verdict with them
-abbrev pub reported_on : Course → OpenRun → List Entry → Reported
+abbrev pub reported_on : Evolution → OpenRun → List Entry → Reported
 reported_on c r es =
     let xs = brought r.analysis.metrics r es in
     let all = record_all c xs in

@@ -3,36 +3,36 @@ use Rattle.std.specs.Prelude.{ℕ, suc, ◌≤◌, ◌||◌, Bool, true, false, 
 use Rattle.std.specs.List.{filter_map, last_or}
 use Rattle.canary_plan.specs.declared.step.Step.{Step}
 use Rattle.canary_plan.specs.declared.step.Step.TheVariants.{SetWeight, Pause, Analysis}
-use Rattle.canary_release.specs.declared.stand.Stand.{Stand}
-use Rattle.canary_release.specs.declared.stand.State.{State}
-use Rattle.canary_release.specs.declared.stand.State.TheVariants.{InProgress, Aborted, Done}
-use Rattle.canary_release.specs.declared.stand.Status.{Status}
-use Rattle.canary_release.specs.declared.stand.Status.TheVariants.{Healthy, Degraded, Paused, Progressing}
+use Rattle.canary_release.specs.declared.state.ServiceState.{ServiceState}
+use Rattle.canary_release.specs.declared.state.ReleaseState.{ReleaseState}
+use Rattle.canary_release.specs.declared.state.ReleaseState.TheVariants.{InProgress, Aborted, Done}
+use Rattle.canary_release.specs.declared.state.Status.{Status}
+use Rattle.canary_release.specs.declared.state.Status.TheVariants.{Healthy, Degraded, Paused, Progressing}
 
-abbrev pub is_going : State → Bool
-is_going InProgress = true
-is_going Aborted = false
-is_going Done = false
+abbrev pub is_in_progress : ReleaseState → Bool
+is_in_progress InProgress = true
+is_in_progress Aborted = false
+is_in_progress Done = false
 
-abbrev pub is_aborted : State → Bool
+abbrev pub is_aborted : ReleaseState → Bool
 is_aborted Aborted = true
 is_aborted InProgress = false
 is_aborted Done = false
 
-abbrev pub is_done : State → Bool
+abbrev pub is_done : ReleaseState → Bool
 is_done Done = true
 is_done InProgress = false
 is_done Aborted = false
 
-abbrev pub is_held : Stand → Bool
+abbrev pub is_held : ServiceState → Bool
 is_held s = s.step_hold || s.background_hold
 
 -- the present step, or none after the last
-abbrev pub step_of : Stand → Option Step
+abbrev pub step_of : ServiceState → Option Step
 step_of s = slice_get s.strategy.steps s.step
 
 -- it stands on a step, or after the last
-abbrev pub IsOnSteps : Stand → Type 0
+abbrev pub IsOnSteps : ServiceState → Type 0
 IsOnSteps s = s.step ≤ length s.strategy.steps
 
 abbrev pub is_pause : Option Step → Bool
@@ -42,12 +42,12 @@ is_pause (Some (Analysis names)) = false
 is_pause None = false
 
 -- what a release shows, from its state, its holds and its step
-abbrev pub status_as : State → Bool → Option Step → Status
+abbrev pub status_as : ReleaseState → Bool → Option Step → Status
 status_as Done held step = Healthy
 status_as Aborted held step = Degraded
 status_as InProgress held step = if held || is_pause step then Paused else Progressing
 
-abbrev pub status : Stand → Status
+abbrev pub status : ServiceState → Status
 status s = status_as s.state (is_held s) (step_of s)
 
 -- the weight that a step sets
@@ -57,11 +57,11 @@ weight_set (Pause seconds) = None
 weight_set (Analysis names) = None
 
 -- 0 when aborted; 100 when done; else the last weight set at or before the present step, or 0
-abbrev pub weight_as : State → ℕ → List Step → ℕ
+abbrev pub weight_as : ReleaseState → ℕ → List Step → ℕ
 weight_as Aborted step steps = 0
 weight_as Done step steps = 100
 weight_as InProgress step steps =
     unwrap_or (last_or None (filter_map weight_set (take (suc step) steps))) 0
 
-abbrev pub weight : Stand → ℕ
+abbrev pub weight : ServiceState → ℕ
 weight s = weight_as s.state s.step s.strategy.steps

@@ -7,22 +7,22 @@ ghost use Rattle.canary_plan.specs.declared.refusal.Refusal.TheVariants as refus
 ghost use Rattle.canary_plan.specs.Plans.{Agree, strategy_of, unbound, are_fit};
 ghost use Rattle.canary_plan.specs.Refusals.{first_that_holds};
 ghost use Rattle.canary_plan.specs.Commands.{subject_of, names_looked_up};
-ghost use Rattle.canary_release.specs.Desks.{Desk, rules, refuses, new_stand, new_service};
+ghost use Rattle.canary_release.specs.Desks.{Desk, rules, refuses, new_service_state, new_service};
 ghost use Rattle.canary_release.specs.Desks.{act_new, act_passed, rule_template, rule_service};
-ghost use Rattle.canary_release.specs.Desks.{adds_unless, newest_number, newest, ruling};
+ghost use Rattle.canary_release.specs.Desks.{adds_unless, newest_number, newest, model_decision};
 ghost use Rattle.canary_release.specs.Parts.{is_broken};
 ghost use Rattle.canary_release.specs.Replies.{accepted, template_text};
-ghost use Rattle.canary_release.specs.Shapes.{seen, strategy_kept, whole, kept_course, kept_after};
-ghost use Rattle.canary_release.specs.Shapes.{led_as, acted_as, decided, IsStep};
+ghost use Rattle.canary_release.specs.Stored.{stored_service, strategy_kept, evolution_of, stored_evolution, stored_after};
+ghost use Rattle.canary_release.specs.Stored.{command_result_of, model_result_of, decision_of, IsStep};
 
-use crate::commands::{self, Led};
-use crate::draft::Draft;
+use crate::commands::{self, CommandResult};
 use crate::effect::{Effect, copy_effects};
 use crate::laws;
 use crate::reply::Reply;
 use crate::runs::Runs;
 use crate::service::{Service, ServiceParts};
-use crate::stand::{Stand, State};
+use crate::state::{ReleaseState, ServiceState};
+use crate::transition::Transition;
 use canary_base::error::Memory;
 use canary_base::lists::Listed;
 use canary_base::moments::Moment;
@@ -40,7 +40,7 @@ use canary_plan::templates::Templates;
 use std::alloc::Global;
 
 /// The greatest number of a template's revision.
-pub const MOST_REVISIONS: u32 = 1_000_000;
+pub const MAX_REVISIONS: u32 = 1_000_000;
 
 /// What a command does to the desk.
 #[derive(Drop)]
@@ -109,7 +109,7 @@ pub fn decide(
     ensures { IfOk result (λ d. (desk : Desk)
         → Agree (get templates.now) (newest desk.templates)
         (names_looked_up (option_map strategy_kept (option_copied service.entry)) command.now)
-        → option_copied service.entry ≡ seen desk (subject_of command.now)
+        → option_copied service.entry ≡ stored_service desk (subject_of command.now)
         → IsStep desk now command.now d) }
 {
     laws::watching();
@@ -125,9 +125,9 @@ fn rule(
     command: &Command,
 ) -> Result<Decision, Memory>
     ensures { IfOk result (λ d. d
-        ≡ decided
-        (ruling (get templates.now)
-        (option_map kept_course (option_copied service.entry)) now command.now)) }
+        ≡ decision_of
+        (model_decision (get templates.now)
+        (option_map stored_evolution (option_copied service.entry)) now command.now)) }
 {
     match command.template() {
         Some(spec) => rule_template(alloc, templates, spec),
@@ -142,7 +142,7 @@ fn rule_template(
     spec: &TemplateSpec,
 ) -> Result<Decision, Memory>
     ensures { IfOk result (λ d. d
-        ≡ decided (rule_template (get templates.now spec.now.name) spec.now)) }
+        ≡ decision_of (rule_template (get templates.now spec.now.name) spec.now)) }
 {
     let newest = newest_revision(templates, spec.name);
     match Template::bind(alloc, spec, newest.saturating_add(1)) {
@@ -165,10 +165,10 @@ fn newest_revision(templates: &Templates, name: Name) -> u32
 // The template is added, unless its name has as many revisions as it may have.
 fn add_revision(alloc: Global, newest: u32, template: Template) -> Result<Decision, Memory>
     ensures { IfOk result (λ d. d
-        ≡ decided (adds_unless
+        ≡ decision_of (adds_unless
         (first_that_holds ((nat_le 1000000 newest, refusal_of.RevisionsSpent) ∷ [])) template)) }
 {
-    if newest >= MOST_REVISIONS {
+    if newest >= MAX_REVISIONS {
         return refuse(alloc, Refusal::RevisionsSpent);
     }
     let reply = names(alloc, &template)?;
@@ -195,9 +195,9 @@ fn rule_service(
     command: &Command,
 ) -> Result<Decision, Memory>
     ensures { IfOk result (λ d. d
-        ≡ decided
+        ≡ decision_of
         (rule_service (get templates.now)
-        (option_map kept_course (option_copied service.entry)) now command.now)) }
+        (option_map stored_evolution (option_copied service.entry)) now command.now)) }
 {
     let acted = act_on(alloc, templates, service, now, command)?;
     say(alloc, acted)
@@ -210,12 +210,12 @@ fn act_on(
     service: Option<&Service>,
     now: Moment,
     command: &Command,
-) -> Result<Result<Led, Refusal>, Memory>
-    ensures acted { IfOk result (λ acted. rules (acted_as acted)
+) -> Result<Result<CommandResult, Refusal>, Memory>
+    ensures acted { IfOk result (λ acted. rules (model_result_of acted)
         ≡ rule_service (get templates.now)
-        (option_map kept_course (option_copied service.entry)) now command.now) }
+        (option_map stored_evolution (option_copied service.entry)) now command.now) }
     ensures unbroken { IfOk result
-        (λ acted. IfOk acted (λ led. is_broken (kept_after (whole led.draft)) ≡ false)) }
+        (λ acted. IfOk acted (λ r. is_broken (stored_after (evolution_of r.transition)) ≡ false)) }
 {
     match service {
         Some(service) => act_passed(alloc, templates, service, now, command),
@@ -224,19 +224,19 @@ fn act_on(
 }
 
 // A refusal changes nothing; else the service becomes what the command leads to, and is shown.
-fn say(alloc: Global, acted: Result<Led, Refusal>) -> Result<Decision, Memory>
-    requires { IfOk acted (λ led. is_broken (kept_after (whole led.draft)) ≡ false) }
-    ensures { IfOk result (λ d. d ≡ decided (rules (acted_as acted))) }
+fn say(alloc: Global, acted: Result<CommandResult, Refusal>) -> Result<Decision, Memory>
+    requires { IfOk acted (λ r. is_broken (stored_after (evolution_of r.transition)) ≡ false) }
+    ensures { IfOk result (λ d. d ≡ decision_of (rules (model_result_of acted))) }
 {
     match acted {
-        Ok(led) => show(alloc, led),
+        Ok(command_result) => show(alloc, command_result),
         Err(refusal) => refuse(alloc, refusal),
     }
 }
 
 // The decision that refuses a command: it changes nothing.
 fn refuse(alloc: Global, refusal: Refusal) -> Result<Decision, Memory>
-    ensures { IfOk result (λ d. d ≡ decided (refuses refusal)) }
+    ensures { IfOk result (λ d. d ≡ decision_of (refuses refusal)) }
 {
     Ok(Decision {
         reply: Reply::refuses(alloc, refusal)?,
@@ -245,12 +245,12 @@ fn refuse(alloc: Global, refusal: Refusal) -> Result<Decision, Memory>
 }
 
 // The decision that accepts a command: the service becomes what it leads to, with its effects.
-fn show(alloc: Global, led: Led) -> Result<Decision, Memory>
-    requires { is_broken (kept_after (whole led.draft)) ≡ false }
-    ensures { IfOk result (λ d. d ≡ decided (rules (Ok (led_as led)))) }
+fn show(alloc: Global, command_result: CommandResult) -> Result<Decision, Memory>
+    requires { is_broken (stored_after (evolution_of command_result.transition)) ≡ false }
+    ensures { IfOk result (λ d. d ≡ decision_of (rules (Ok (command_result_of command_result)))) }
 {
-    let reply = led.reply(alloc)?;
-    let (parts, effects) = led.draft.end();
+    let reply = command_result.reply(alloc)?;
+    let (parts, effects) = command_result.transition.end();
     Ok(Decision {
         reply,
         change: DeskChange::Service {
@@ -267,14 +267,14 @@ fn act_passed(
     service: &Service,
     now: Moment,
     command: &Command,
-) -> Result<Result<Led, Refusal>, Memory>
-    ensures acted { IfOk result (λ acted. acted_as acted
-        ≡ act_passed (get templates.now) command.now (kept_course service.now) now) }
+) -> Result<Result<CommandResult, Refusal>, Memory>
+    ensures acted { IfOk result (λ acted. model_result_of acted
+        ≡ act_passed (get templates.now) command.now (stored_evolution service.now) now) }
     ensures unbroken { IfOk result
-        (λ acted. IfOk acted (λ led. is_broken (kept_after (whole led.draft)) ≡ false)) }
+        (λ acted. IfOk acted (λ r. is_broken (stored_after (evolution_of r.transition)) ≡ false)) }
 {
     laws::parts();
-    service.has_checked_strategy();
+    service.recall_checked_strategy();
     act_within(alloc, templates, service, now, command)
 }
 
@@ -285,16 +285,16 @@ fn act_within(
     service: &Service,
     now: Moment,
     command: &Command,
-) -> Result<Result<Led, Refusal>, Memory>
-    ensures acted { IfOk result (λ acted. acted_as acted
-        ≡ act_passed (get templates.now) command.now (kept_course service.now) now) }
+) -> Result<Result<CommandResult, Refusal>, Memory>
+    ensures acted { IfOk result (λ acted. model_result_of acted
+        ≡ act_passed (get templates.now) command.now (stored_evolution service.now) now) }
     ensures fit { IfOk result
-        (λ acted. IfOk acted (λ led. IsTrue (are_fit led.draft.stand.bound))) }
+        (λ acted. IfOk acted (λ r. IsTrue (are_fit r.transition.service.bound))) }
 {
-    let at = service.parts().stand.judged_at(now);
-    let passed = service.passed_draft(alloc, now)?;
+    let at = service.parts().service.judged_at(now);
+    let passed = service.passed_transition(alloc, now)?;
     match commands::act(alloc, templates, passed, at, command)? {
-        Ok(led) => Ok(Ok(led.pass(alloc, at)?.with_fit_bound())),
+        Ok(command_result) => Ok(Ok(command_result.pass(alloc, at)?.recalling_fit_bound())),
         Err(refusal) => Ok(Err(refusal)),
     }
 }
@@ -305,11 +305,11 @@ fn act_new(
     templates: &Templates,
     now: Moment,
     command: &Command,
-) -> Result<Result<Led, Refusal>, Memory>
-    ensures acted { IfOk result (λ acted. acted_as acted
+) -> Result<Result<CommandResult, Refusal>, Memory>
+    ensures acted { IfOk result (λ acted. model_result_of acted
         ≡ act_new (get templates.now) command.now now) }
     ensures unbroken { IfOk result
-        (λ acted. IfOk acted (λ led. is_broken (kept_after (whole led.draft)) ≡ false)) }
+        (λ acted. IfOk acted (λ r. is_broken (stored_after (evolution_of r.transition)) ≡ false)) }
 {
     match command.service() {
         Some(spec) => add(alloc, templates, spec, now),
@@ -323,14 +323,14 @@ fn add(
     templates: &Templates,
     spec: &ServiceSpec,
     now: Moment,
-) -> Result<Result<Led, Refusal>, Memory>
-    ensures acted { IfOk result (λ acted. acted_as acted
+) -> Result<Result<CommandResult, Refusal>, Memory>
+    ensures acted { IfOk result (λ acted. model_result_of acted
         ≡ act_new (get templates.now) (command_of.Service spec.now) now) }
     ensures unbroken { IfOk result
-        (λ acted. IfOk acted (λ led. is_broken (kept_after (whole led.draft)) ≡ false)) }
+        (λ acted. IfOk acted (λ r. is_broken (stored_after (evolution_of r.transition)) ≡ false)) }
 {
     match Strategy::check(alloc, spec, templates) {
-        Ok(strategy) => Ok(Ok(Led::to(new_service(alloc, spec, strategy, now)?))),
+        Ok(strategy) => Ok(Ok(CommandResult::to(new_service(alloc, spec, strategy, now)?))),
         Err(CheckFault::Refused(refusal)) => Ok(Err(refusal)),
         Err(CheckFault::Memory) => Err(Memory),
     }
@@ -342,49 +342,54 @@ fn new_service(
     spec: &ServiceSpec,
     strategy: Strategy,
     now: Moment,
-) -> Result<Draft, Memory>
+) -> Result<Transition, Memory>
     requires { strategy ≡ strategy_of spec.now }
-    ensures new { IfOk result (λ draft. whole draft ≡ new_service spec.now now) }
-    ensures unbroken { IfOk result (λ draft. is_broken (kept_after (whole draft)) ≡ false) }
+    ensures new { IfOk result (λ t. evolution_of t ≡ new_service spec.now now) }
+    ensures unbroken { IfOk result (λ t. is_broken (stored_after (evolution_of t)) ≡ false) }
 {
     laws::parts();
-    new_draft(alloc, spec, strategy, now)
+    new_transition(alloc, spec, strategy, now)
 }
 
 // The transition that makes a service: it has no runs, and one line of its history.
-fn new_draft(
+fn new_transition(
     alloc: Global,
     spec: &ServiceSpec,
     strategy: Strategy,
     now: Moment,
-) -> Result<Draft, Memory>
+) -> Result<Transition, Memory>
     requires { strategy ≡ strategy_of spec.now }
-    ensures { IfOk result (λ draft. whole draft ≡ new_service spec.now now) }
+    ensures { IfOk result (λ transition. evolution_of transition ≡ new_service spec.now now) }
 {
     laws::watching();
     let bound = strategy.unbound(alloc)?;
     let parts = ServiceParts {
-        stand: new_stand(spec, strategy, bound, now),
+        service: new_service_state(spec, strategy, bound, now),
         runs: Runs::new(alloc),
     };
     let version = spec.version;
-    Draft::of(alloc, &parts)?.tell(now, LineEvent::Created { version })
+    Transition::of(alloc, &parts)?.tell(now, LineEvent::Created { version })
 }
 
 // A new service is done and bound to no templates: its version is the stable one.
-fn new_stand(spec: &ServiceSpec, strategy: Strategy, bound: Bound, now: Moment) -> Stand
+fn new_service_state(
+    spec: &ServiceSpec,
+    strategy: Strategy,
+    bound: Bound,
+    now: Moment,
+) -> ServiceState
     requires of_spec { strategy ≡ strategy_of spec.now }
     requires unbound { bound ≡ unbound strategy }
-    ensures { result ≡ new_stand spec.now now }
+    ensures { result ≡ new_service_state spec.now now }
 {
     let step = strategy.steps().len() as u32;
-    Stand {
+    ServiceState {
         name: spec.name,
         strategy,
         bound,
         stable: spec.version,
         version: spec.version,
-        state: State::Done,
+        state: ReleaseState::Done,
         step,
         entered: now,
         step_hold: false,

@@ -2,7 +2,7 @@
 ghost use Rattle.canary_release.specs.Laws.{WatchesAlike, RefusalsLeaveTheDesk, LooksOnlyAt};
 ghost use Rattle.canary_release.specs.Laws.{AreIndependent, TicksOnlyPassTime};
 ghost use Rattle.canary_release.specs.Passing.{PassesAsComputed, PassesInSteps};
-ghost use Rattle.canary_release.specs.Shapes.{KeepsWhatIsSeen};
+ghost use Rattle.canary_release.specs.Stored.{KeepsWhatIsSeen};
 ghost use Rattle.canary_release.specs.Desks.{no_desk};
 ghost use Rattle.canary_release.specs.Order.{AreInOrder, StayInOrder};
 ghost use Rattle.canary_release.specs.PartsLaws.{PassingKeepsParts, ActingKeepsParts};
@@ -12,7 +12,7 @@ ghost use Rattle.canary_release.specs.Effects.{CommandsChange, TimeMeasuresNothi
 
 use canary_metric::laws;
 
-/// What is watched of a service's runs after all that happened is the same from the whole lists of
+/// What is tracked of a service's runs after all that happened is the same from the whole lists of
 /// what is past as from the tallies that are kept.
 pub fn watching()
     ensures { WatchesAlike }
@@ -42,8 +42,8 @@ pub fn time()
     ensures { PassesInSteps }
 {}
 
-/// A ruling looks only at the templates that its command looks up: by templates that agree on these
-/// names, a command does and answers the same.
+/// A decision looks only at the templates that its command looks up: by templates that agree on
+/// these names, a command does and answers the same.
 pub fn templates_looked_up()
     ensures { LooksOnlyAt }
 {}

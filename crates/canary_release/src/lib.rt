@@ -16,10 +16,9 @@
 
 mod commands;
 pub mod decide;
-mod draft;
 pub mod effect;
+mod effect_log;
 mod entering;
-mod journal;
 pub mod laws;
 pub mod parts;
 mod passing;
@@ -28,5 +27,6 @@ mod report;
 mod report_reply;
 pub mod runs;
 pub mod service;
-pub mod stand;
+pub mod state;
+mod transition;
 mod words;

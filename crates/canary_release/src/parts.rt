@@ -10,9 +10,9 @@ ghost use Rattle.canary_plan.specs.declared.analysis_parts.AnalysisParts.{Analys
 ghost use Rattle.canary_plan.specs.declared.analysis_parts.Revision.{Revision as RevisionRow};
 ghost use Rattle.canary_plan.specs.Commands.{same_names};
 ghost use Rattle.canary_plan.specs.PlanRefusals.{has_duplicate, is_without_end};
-ghost use Rattle.canary_release.specs.Courses.{has_number};
+ghost use Rattle.canary_release.specs.Evolutions.{has_number};
 ghost use Rattle.canary_release.specs.Passing.{next_move, is_by};
-ghost use Rattle.canary_release.specs.Services.{is_going, is_done, is_held};
+ghost use Rattle.canary_release.specs.Services.{is_in_progress, is_done, is_held};
 ghost use Rattle.canary_release.specs.Parts.{IsAccepted, is_broken, is_misplaced, runs_wanted};
 ghost use Rattle.canary_release.specs.Parts.{background_wanted, is_misnumbered};
 ghost use Rattle.canary_release.specs.Parts.{repeats_number, has_wrong_tallies, is_astray};
@@ -22,9 +22,9 @@ ghost use Rattle.canary_release.specs.Parts.{same_revision, is_misbound, is_boun
 ghost use Rattle.canary_release.specs.Parts.{is_step_bound, is_background_bound, is_bound_to};
 ghost use Rattle.canary_release.specs.Parts.{repeats_metric_in, has_endless, is_refused};
 
-use crate::runs::{MOST_RUNS, OpenRun};
+use crate::runs::{MAX_RUNS, OpenRun};
 use crate::service::{Service, ServiceParts};
-use crate::stand::{Stand, State};
+use crate::state::{ReleaseState, ServiceState};
 use canary_base::names::{Label, Name};
 use canary_metric::metric::{Metric, effective_count};
 use canary_metric::verdict::is_completed;
@@ -86,15 +86,15 @@ pub fn is_broken(parts: &ServiceParts) -> bool
 
 // A step or an entry out of place, or runs beyond their limit.
 fn is_behind(parts: &ServiceParts) -> bool
-    ensures { result ≡ (is_misplaced parts.now.stand
-        || (nat_lt parts.now.stand.last parts.now.stand.entered
+    ensures { result ≡ (is_misplaced parts.now.service
+        || (nat_lt parts.now.service.last parts.now.service.entered
         || (nat_lt 1000000 parts.now.runs.count
-        || (is_going parts.now.stand.state
+        || (is_in_progress parts.now.service.state
         && nat_lt (1000000 - parts.now.runs.count) (runs_wanted parts.now))))) }
 {
-    is_misplaced(&parts.stand)
-        || is_entered_late(&parts.stand)
-        || parts.runs.count > MOST_RUNS
+    is_misplaced(&parts.service)
+        || is_entered_late(&parts.service)
+        || parts.runs.count > MAX_RUNS
         || lacks_runs(parts)
 }
 
@@ -103,94 +103,95 @@ fn has_bad_runs(parts: &ServiceParts) -> bool
     ensures { result ≡ (list_any (is_misnumbered parts.now.runs.count) parts.now.runs.open_runs
         || (repeats_number parts.now.runs.open_runs
         || (list_any has_wrong_tallies parts.now.runs.open_runs
-        || (not (is_going parts.now.stand.state) && nat_lt 0 (length parts.now.runs.open_runs))))) }
+        || (not (is_in_progress parts.now.service.state)
+        && nat_lt 0 (length parts.now.runs.open_runs))))) }
 {
     let runs = parts.runs.open_runs.as_slice();
     some_is_misnumbered(parts.runs.count, runs)
         || repeats_number(runs)
         || some_has_wrong_tallies(runs)
-        || is_left_open(&parts.stand, runs)
+        || is_left_open(&parts.service, runs)
 }
 
 // More than one run of a kind, a run of a step astray, or a background run where there is none.
 fn has_stray_run(parts: &ServiceParts) -> bool
     ensures { result ≡ (nat_lt 1 (length (filter is_background_run parts.now.runs.open_runs))
         || (nat_lt 1 (length (filter is_step_run parts.now.runs.open_runs))
-        || (list_any (is_astray parts.now.stand) parts.now.runs.open_runs
+        || (list_any (is_astray parts.now.service) parts.now.runs.open_runs
         || (has_background_run parts.now
-        && (not parts.now.stand.background || parts.now.stand.background_hold))))) }
+        && (not parts.now.service.background || parts.now.service.background_hold))))) }
 {
     let runs = parts.runs.open_runs.as_slice();
     repeats_background(runs)
         || repeats_step(runs)
-        || some_is_astray(&parts.stand, runs)
+        || some_is_astray(&parts.service, runs)
         || has_stray_background(parts)
 }
 
 // A hold or a background analysis where there is none, a run whose verdict is due, or a step that
 // has been left by time.
 fn has_bad_mark(parts: &ServiceParts) -> bool
-    ensures { result ≡ ((is_held parts.now.stand && not (is_going parts.now.stand.state))
-        || ((parts.now.stand.background && is_none parts.now.stand.strategy.background)
-        || ((parts.now.stand.background_hold && not parts.now.stand.background)
+    ensures { result ≡ ((is_held parts.now.service && not (is_in_progress parts.now.service.state))
+        || ((parts.now.service.background && is_none parts.now.service.strategy.background)
+        || ((parts.now.service.background_hold && not parts.now.service.background)
         || (list_any is_judged parts.now.runs.open_runs
-        || is_by parts.now.stand.last (next_move parts.now.stand))))) }
+        || is_by parts.now.service.last (next_move parts.now.service))))) }
 {
-    let stand = &parts.stand;
-    has_stray_hold(stand)
-        || lacks_background(stand)
-        || has_stray_background_hold(stand)
+    let service = &parts.service;
+    has_stray_hold(service)
+        || lacks_background(service)
+        || has_stray_background_hold(service)
         || some_is_judged(parts.runs.open_runs.as_slice())
-        || has_move_due(stand)
+        || has_move_due(service)
 }
 
 // It is bound to other templates than its strategy's, or an open run to other revisions.
 fn has_bad_binding(parts: &ServiceParts) -> bool
-    ensures { result ≡ (is_misbound parts.now.stand
-        || list_any (has_other_revisions parts.now.stand) parts.now.runs.open_runs) }
+    ensures { result ≡ (is_misbound parts.now.service
+        || list_any (has_other_revisions parts.now.service) parts.now.runs.open_runs) }
 {
-    is_misbound(&parts.stand)
-        || some_has_other_revisions(&parts.stand, parts.runs.open_runs.as_slice())
+    is_misbound(&parts.service)
+        || some_has_other_revisions(&parts.service, parts.runs.open_runs.as_slice())
 }
 
 // Whether the step is above the end, or at the end though not done, or below the end though done.
-fn is_misplaced(stand: &Stand) -> bool
-    ensures { result ≡ is_misplaced stand.now }
+fn is_misplaced(service: &ServiceState) -> bool
+    ensures { result ≡ is_misplaced service.now }
 {
-    let steps = stand.strategy.steps().len();
-    let step = stand.step as usize;
+    let steps = service.strategy.steps().len();
+    let step = service.step as usize;
     if step > steps {
         return true;
     }
-    (step == steps) != (stand.state == State::Done)
+    (step == steps) != (service.state == ReleaseState::Done)
 }
 
 // Whether the present step was entered after the last moment at which the service was judged.
-fn is_entered_late(stand: &Stand) -> bool
-    ensures { result ≡ nat_lt stand.now.last stand.now.entered }
+fn is_entered_late(service: &ServiceState) -> bool
+    ensures { result ≡ nat_lt service.now.last service.now.entered }
 {
-    stand.last < stand.entered
+    service.last < service.entered
 }
 
 // Fewer numbers of runs are left than the present attempt may still take.
 fn lacks_runs(parts: &ServiceParts) -> bool
-    ensures { result ≡ (is_going parts.now.stand.state
+    ensures { result ≡ (is_in_progress parts.now.service.state
         && nat_lt (1000000 - parts.now.runs.count) (runs_wanted parts.now)) }
 {
-    if parts.stand.state != State::InProgress {
+    if parts.service.state != ReleaseState::InProgress {
         return false;
     }
-    (MOST_RUNS.saturating_sub(parts.runs.count) as usize) < runs_wanted(parts)
+    (MAX_RUNS.saturating_sub(parts.runs.count) as usize) < runs_wanted(parts)
 }
 
 // How many runs the present attempt may still open: one for each later step, and the background's.
 fn runs_wanted(parts: &ServiceParts) -> usize
-    requires { is_going parts.now.stand.state ≡ true }
+    requires { is_in_progress parts.now.service.state ≡ true }
     ensures { result ≡ runs_wanted parts.now }
 {
-    let steps = parts.stand.strategy.steps().len();
-    let later = steps.saturating_sub(parts.stand.step as usize + 1);
-    if parts.stand.strategy.background().is_some() {
+    let steps = parts.service.strategy.steps().len();
+    let later = steps.saturating_sub(parts.service.step as usize + 1);
+    if parts.service.strategy.background().is_some() {
         later + background_wanted(parts)
     } else {
         later
@@ -202,10 +203,10 @@ fn background_wanted(parts: &ServiceParts) -> usize
     ensures value { result ≡ background_wanted parts.now }
     ensures limit { result ≤ 2 }
 {
-    if !parts.stand.background {
+    if !parts.service.background {
         return 2;
     }
-    if parts.stand.background_hold || has_background_run(parts.runs.open_runs.as_slice()) {
+    if parts.service.background_hold || has_background_run(parts.runs.open_runs.as_slice()) {
         return 1;
     }
     0
@@ -257,17 +258,17 @@ fn has_wrong_tallies(run: &OpenRun) -> bool
 }
 
 // Whether one of the runs has other revisions than those to which its analysis is bound.
-fn some_has_other_revisions(stand: &Stand, runs: &[OpenRun]) -> bool
-    ensures { result ≡ list_any (has_other_revisions stand.now) runs.now }
+fn some_has_other_revisions(service: &ServiceState, runs: &[OpenRun]) -> bool
+    ensures { result ≡ list_any (has_other_revisions service.now) runs.now }
 {
-    runs.iter().any(|run| has_other_revisions(stand, run))
+    runs.iter().any(|run| has_other_revisions(service, run))
 }
 
 // Whether the run has other revisions than its analysis is bound to, or that is not bound.
-fn has_other_revisions(stand: &Stand, run: &OpenRun) -> bool
-    ensures { result ≡ has_other_revisions stand.now run.now }
+fn has_other_revisions(service: &ServiceState, run: &OpenRun) -> bool
+    ensures { result ≡ has_other_revisions service.now run.now }
 {
-    match stand.bound.analysis(run.step) {
+    match service.bound.analysis(run.step) {
         Some(analysis) => !are_same(analysis.revisions(), run.analysis.revisions()),
         None => true,
     }
@@ -290,24 +291,25 @@ fn are_same(revisions: &[Revision], others: &[Revision]) -> bool
 
 // It is bound to other templates than its strategy's, or to none once a release was begun, or to
 // what no strategy is bound to.
-fn is_misbound(stand: &Stand) -> bool
-    ensures { result ≡ is_misbound stand.now }
+fn is_misbound(service: &ServiceState) -> bool
+    ensures { result ≡ is_misbound service.now }
 {
-    !is_well_bound(stand) || is_refused(&stand.bound)
+    !is_well_bound(service) || is_refused(&service.bound)
 }
 
 // Whether each analysis is bound to its own templates, or none is bound and the service is done.
-fn is_well_bound(stand: &Stand) -> bool
-    ensures { result ≡ (is_bound stand.now || (is_done stand.now.state && is_unbound stand.now)) }
+fn is_well_bound(service: &ServiceState) -> bool
+    ensures { result ≡ (is_bound service.now
+        || (is_done service.now.state && is_unbound service.now)) }
 {
-    is_bound(stand) || (stand.state == State::Done && is_unbound(stand))
+    is_bound(service) || (service.state == ReleaseState::Done && is_unbound(service))
 }
 
 // Each analysis of the strategy is bound, to its own templates.
-fn is_bound(stand: &Stand) -> bool
-    ensures { result ≡ is_bound stand.now }
+fn is_bound(service: &ServiceState) -> bool
+    ensures { result ≡ is_bound service.now }
 {
-    are_steps_bound(stand.strategy.steps(), stand.bound.steps()) && is_background_bound(stand)
+    are_steps_bound(service.strategy.steps(), service.bound.steps()) && is_background_bound(service)
 }
 
 // Whether each step is bound as it has to be, and both lists are of one length.
@@ -335,14 +337,17 @@ fn is_step_bound(step: &Step, analysis: Option<&BoundAnalysis>) -> bool
 }
 
 // Whether the background is bound to its own templates, or to nothing if the strategy has none.
-fn is_background_bound(stand: &Stand) -> bool
+fn is_background_bound(service: &ServiceState) -> bool
     ensures { result
-        ≡ is_background_bound stand.now.strategy.background stand.now.bound.background }
+        ≡ is_background_bound service.now.strategy.background service.now.bound.background }
 {
-    match stand.strategy.background() {
-        None => stand.bound.analysis(None).is_none(),
+    match service.strategy.background() {
+        None => service.bound.analysis(None).is_none(),
         Some(background) => {
-            is_bound_to(background.templates.as_slice(), stand.bound.analysis(None))
+            is_bound_to(
+                background.templates.as_slice(),
+                service.bound.analysis(None),
+            )
         }
     }
 }
@@ -371,13 +376,13 @@ fn are_named(names: &[Name], revisions: &[Revision]) -> bool
 }
 
 // No analysis is bound.
-fn is_unbound(stand: &Stand) -> bool
-    ensures { result ≡ is_unbound stand.now }
+fn is_unbound(service: &ServiceState) -> bool
+    ensures { result ≡ is_unbound service.now }
 {
-    let steps = stand.bound.steps();
-    steps.len() == stand.strategy.steps().len()
+    let steps = service.bound.steps();
+    steps.len() == service.strategy.steps().len()
         && are_none(steps)
-        && stand.bound.analysis(None).is_none()
+        && service.bound.analysis(None).is_none()
 }
 
 // Whether no step has an analysis that is bound.
@@ -461,10 +466,10 @@ fn is_without_end(metric: &Metric) -> bool
 }
 
 // Runs are open, and no release is in progress.
-fn is_left_open(stand: &Stand, runs: &[OpenRun]) -> bool
-    ensures { result ≡ (not (is_going stand.now.state) && nat_lt 0 (length runs.now)) }
+fn is_left_open(service: &ServiceState, runs: &[OpenRun]) -> bool
+    ensures { result ≡ (not (is_in_progress service.now.state) && nat_lt 0 (length runs.now)) }
 {
-    stand.state != State::InProgress && runs.len() > 0
+    service.state != ReleaseState::InProgress && runs.len() > 0
 }
 
 // Whether two of the runs are of the background.
@@ -482,50 +487,50 @@ fn repeats_step(runs: &[OpenRun]) -> bool
 }
 
 // Whether one of the runs is of a step, and is not the run that the present step may have.
-fn some_is_astray(stand: &Stand, runs: &[OpenRun]) -> bool
-    ensures { result ≡ list_any (is_astray stand.now) runs.now }
+fn some_is_astray(service: &ServiceState, runs: &[OpenRun]) -> bool
+    ensures { result ≡ list_any (is_astray service.now) runs.now }
 {
-    runs.iter().any(|run| is_astray(stand, run))
+    runs.iter().any(|run| is_astray(service, run))
 }
 
 // Whether a step's run is of another step, of one without an analysis, or open during a hold.
-fn is_astray(stand: &Stand, run: &OpenRun) -> bool
-    ensures { result ≡ is_astray stand.now run.now }
+fn is_astray(service: &ServiceState, run: &OpenRun) -> bool
+    ensures { result ≡ is_astray service.now run.now }
 {
     let Some(step) = run.step else {
         return false;
     };
-    step != stand.step || stand.bound.analysis(Some(step)).is_none() || stand.is_held()
+    step != service.step || service.bound.analysis(Some(step)).is_none() || service.is_held()
 }
 
 // The background run is open that was not begun, or that is held.
 fn has_stray_background(parts: &ServiceParts) -> bool
     ensures { result ≡ (has_background_run parts.now
-        && (not parts.now.stand.background || parts.now.stand.background_hold)) }
+        && (not parts.now.service.background || parts.now.service.background_hold)) }
 {
     has_background_run(parts.runs.open_runs.as_slice())
-        && (!parts.stand.background || parts.stand.background_hold)
+        && (!parts.service.background || parts.service.background_hold)
 }
 
 // Whether there is a hold, and no release is in progress.
-fn has_stray_hold(stand: &Stand) -> bool
-    ensures { result ≡ (is_held stand.now && not (is_going stand.now.state)) }
+fn has_stray_hold(service: &ServiceState) -> bool
+    ensures { result ≡ (is_held service.now && not (is_in_progress service.now.state)) }
 {
-    stand.is_held() && stand.state != State::InProgress
+    service.is_held() && service.state != ReleaseState::InProgress
 }
 
 // The background run was opened that the strategy does not have.
-fn lacks_background(stand: &Stand) -> bool
-    ensures { result ≡ (stand.now.background && is_none stand.now.strategy.background) }
+fn lacks_background(service: &ServiceState) -> bool
+    ensures { result ≡ (service.now.background && is_none service.now.strategy.background) }
 {
-    stand.background && stand.strategy.background().is_none()
+    service.background && service.strategy.background().is_none()
 }
 
 // Whether the background holds the release, and its run was not opened in the present attempt.
-fn has_stray_background_hold(stand: &Stand) -> bool
-    ensures { result ≡ (stand.now.background_hold && not stand.now.background) }
+fn has_stray_background_hold(service: &ServiceState) -> bool
+    ensures { result ≡ (service.now.background_hold && not service.now.background) }
 {
-    stand.background_hold && !stand.background
+    service.background_hold && !service.background
 }
 
 // Whether one of the runs is completed by its own metrics.
@@ -543,8 +548,8 @@ fn is_judged(run: &OpenRun) -> bool
 }
 
 // The present step has been left by time.
-fn has_move_due(stand: &Stand) -> bool
-    ensures { result ≡ is_by stand.now.last (next_move stand.now) }
+fn has_move_due(service: &ServiceState) -> bool
+    ensures { result ≡ is_by service.now.last (next_move service.now) }
 {
-    stand.next_move_by(stand.last).is_some()
+    service.next_move_by(service.last).is_some()
 }

@@ -1,34 +1,34 @@
 //! Passing time: a chain of moves.
 ghost use Rattle.std.specs.Prelude.{◌≡◌, ◌≤◌, IfOk};
 ghost use Rattle.canary_release.specs.Passing.{followed, pass};
-ghost use Rattle.canary_release.specs.Shapes.{whole, runs_made};
+ghost use Rattle.canary_release.specs.Stored.{evolution_of, run_total};
 
-use crate::draft::Draft;
+use crate::transition::Transition;
 use canary_base::error::Memory;
 use canary_base::moments::Moment;
 use std::alloc::Global;
 
-impl Draft {
+impl Transition {
     // Follows the moves by time up to a moment.
-    fn follow(self, alloc: Global, until: Moment) -> Result<Draft, Memory>
-        requires { runs_made self ≤ 2000000 }
-        ensures { IfOk result (λ draft. whole draft ≡ followed (whole self) until) }
+    fn follow(self, alloc: Global, until: Moment) -> Result<Transition, Memory>
+        requires { run_total self ≤ 2000000 }
+        ensures { IfOk result (λ t. evolution_of t ≡ followed (evolution_of self) until) }
     {
-        let mut draft = self;
-        while let Some(moment) = draft.stand.next_move_by(until) {
-            let next = draft.stand.step + 1;
-            draft = draft.enter(alloc, next, moment)?;
+        let mut transition = self;
+        while let Some(moment) = transition.service.next_move_by(until) {
+            let next = transition.service.step + 1;
+            transition = transition.enter(alloc, next, moment)?;
         }
-        Ok(draft)
+        Ok(transition)
     }
 
     /// Lets time pass up to a moment, or up to the last one where that is later.
-    pub(crate) fn pass(self, alloc: Global, now: Moment) -> Result<Draft, Memory>
-        requires { runs_made self ≤ 2000000 }
-        ensures { IfOk result (λ draft. whole draft ≡ pass (whole self) now) }
+    pub(crate) fn pass(self, alloc: Global, now: Moment) -> Result<Transition, Memory>
+        requires { run_total self ≤ 2000000 }
+        ensures { IfOk result (λ t. evolution_of t ≡ pass (evolution_of self) now) }
     {
         let at = self.judged_at(now);
-        let draft = self.follow(alloc, at)?;
-        Ok(draft.with_last(at))
+        let transition = self.follow(alloc, at)?;
+        Ok(transition.with_last(at))
     }
 }

@@ -5,7 +5,7 @@ ghost use Rattle.canary_release.specs.Replies.{accepted, refused, refusal_text, 
 ghost use Rattle.canary_release.specs.Replies.{code_alone, code_at, code_at_with};
 ghost use Rattle.canary_release.specs.Services.{status, weight};
 
-use crate::stand::Stand;
+use crate::state::ServiceState;
 use crate::words::{with, with_number, with_two};
 use canary_base::error::Memory;
 use canary_base::lists::{Listed, Text};
@@ -86,10 +86,10 @@ impl Reply {
     }
 
     /// The reply that shows how a service stands.
-    pub(crate) fn shows(alloc: Global, stand: &Stand) -> Result<Reply, Memory>
-        ensures { IfOk result (λ reply. reply ≡ accepted (service_text stand.now)) }
+    pub(crate) fn shows(alloc: Global, service: &ServiceState) -> Result<Reply, Memory>
+        ensures { IfOk result (λ reply. reply ≡ accepted (service_text service.now)) }
     {
-        Ok(Reply::accepts(service_body(alloc, stand)?))
+        Ok(Reply::accepts(service_body(alloc, service)?))
     }
 
     /// The reply that names a template that was added, and the number of its revision.
@@ -112,33 +112,41 @@ impl Reply {
 }
 
 // The body that shows a service: its name, its status, its step and its weight.
-fn service_body(alloc: Global, stand: &Stand) -> Result<String, Memory>
-    ensures { IfOk result (λ body. string_bytes body ≡ service_text stand.now) }
+fn service_body(alloc: Global, service: &ServiceState) -> Result<String, Memory>
+    ensures { IfOk result (λ body. string_bytes body ≡ service_text service.now) }
 {
     let text = String::with_capacity(alloc, ROOM)?;
-    let text = with_place(text, "{\"code\":\"ok\",\"service\":\"", stand)?;
-    with_weight(text, ",\"weight\":", stand)
+    let text = with_place(text, "{\"code\":\"ok\",\"service\":\"", service)?;
+    with_weight(text, ",\"weight\":", service)
 }
 
 // The text with a piece, a service's name, its status and its step after it.
-pub(crate) fn with_place(text: String, piece: &str, stand: &Stand) -> Result<String, Memory>
+pub(crate) fn with_place(
+    text: String,
+    piece: &str,
+    service: &ServiceState,
+) -> Result<String, Memory>
     ensures { IfOk result (λ all. string_bytes all
-        ≡ string_bytes text ++ (piece.now ++ (stand.now.name
-        ++ (codes "\",\"status\":\"" ++ (status_text (status stand.now)
-        ++ (codes "\",\"step\":" ++ decimal stand.now.step)))))) }
+        ≡ string_bytes text ++ (piece.now ++ (service.now.name
+        ++ (codes "\",\"status\":\"" ++ (status_text (status service.now)
+        ++ (codes "\",\"step\":" ++ decimal service.now.step)))))) }
 {
-    let name = stand.name;
+    let name = service.name;
     let text = with_two(text, piece, name.as_str())?;
-    let text = with_two(text, "\",\"status\":\"", stand.status().text())?;
-    with_number(text, "\",\"step\":", stand.step)
+    let text = with_two(text, "\",\"status\":\"", service.status().text())?;
+    with_number(text, "\",\"step\":", service.step)
 }
 
 // The text with a piece, a service's weight and the end of a reply after it.
-pub(crate) fn with_weight(text: String, piece: &str, stand: &Stand) -> Result<String, Memory>
+pub(crate) fn with_weight(
+    text: String,
+    piece: &str,
+    service: &ServiceState,
+) -> Result<String, Memory>
     ensures { IfOk result (λ all. string_bytes all
-        ≡ string_bytes text ++ (piece.now ++ (decimal (weight stand.now) ++ codes "}"))) }
+        ≡ string_bytes text ++ (piece.now ++ (decimal (weight service.now) ++ codes "}"))) }
 {
-    let text = with_number(text, piece, stand.weight())?;
+    let text = with_number(text, piece, service.weight())?;
     with(text, "}")
 }
 

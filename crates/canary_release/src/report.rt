@@ -12,7 +12,7 @@ ghost use Rattle.canary_plan.specs.Plans.{no_templates};
 ghost use Rattle.canary_plan.specs.Refusals.{first_that_holds};
 ghost use Rattle.canary_release.specs.declared.effect.Recorded.{Recorded as RecordedRow};
 ghost use Rattle.canary_release.specs.Commands.{act};
-ghost use Rattle.canary_release.specs.Courses.{runs_now, open_run_now, run_verdict};
+ghost use Rattle.canary_release.specs.Evolutions.{runs_now, open_run_now, run_verdict};
 ghost use Rattle.canary_release.specs.Parts.{repeats_number};
 ghost use Rattle.canary_release.specs.Recording.{have_room};
 ghost use Rattle.canary_release.specs.Reporting.{reported_as};
@@ -23,13 +23,13 @@ ghost use Rattle.canary_release.specs.Reports.{abort_by_run, hold_step, hold_bac
 ghost use Rattle.canary_release.specs.Reports.{consequence, complete, assess_run, assess};
 ghost use Rattle.canary_release.specs.Reports.{report_on, verdict_if, reported_on};
 ghost use Rattle.canary_release.specs.Services.{IsOnSteps};
-ghost use Rattle.canary_release.specs.Shapes.{whole, runs_made};
+ghost use Rattle.canary_release.specs.Stored.{evolution_of, run_total};
 
-use crate::draft::Draft;
 use crate::effect::Recorded;
 use crate::reply::Reported;
 use crate::runs::{OpenRun, Runs};
-use crate::stand::Stand;
+use crate::state::ServiceState;
+use crate::transition::Transition;
 use canary_base::error::Memory;
 use canary_base::lists::Listed;
 use canary_base::moments::Moment;
@@ -37,7 +37,7 @@ use canary_base::names::Label;
 use canary_condition::measurement::measure;
 use canary_condition::outcome::Phase;
 use canary_metric::metric::Metric;
-use canary_metric::tally::{MOST_MEASUREMENTS, Tally};
+use canary_metric::tally::{MAX_MEASUREMENTS, Tally};
 use canary_metric::verdict::is_completed;
 use canary_plan::line::LineEvent;
 use canary_plan::refusal::Refusal;
@@ -106,7 +106,7 @@ fn turn_refusal(index: u32, entry: &Entry, size: u32, due: u64, now: Moment) -> 
     if expected < entry.ordinal {
         return Some(Refusal::OutOfTurn { at, expected });
     }
-    if MOST_MEASUREMENTS <= size {
+    if MAX_MEASUREMENTS <= size {
         return Some(Refusal::Spent { at });
     }
     if now < entry.taken {
@@ -276,10 +276,10 @@ impl Runs {
     }
 }
 
-impl Draft {
+impl Transition {
     // A copy of the open run of that number, if there is one.
     fn copy_open_run(&self, alloc: Global, number: u32) -> Result<Option<OpenRun>, Memory>
-        ensures { IfOk result (λ run. run ≡ open_run_now (whole self.now) number) }
+        ensures { IfOk result (λ run. run ≡ open_run_now (evolution_of self.now) number) }
     {
         match self.open_run_now(number) {
             Some(run) => Ok(Some(run.copy(alloc)?)),
@@ -288,42 +288,43 @@ impl Draft {
     }
 
     // The release is aborted by a run.
-    fn abort_by_run(self, alloc: Global, run: u32, at: Moment) -> Result<Draft, Memory>
-        ensures aborted { IfOk result (λ draft. whole draft ≡ abort_by_run (whole self) run at) }
-        ensures strategy { IfOk result (λ draft. draft.stand.strategy ≡ self.stand.strategy) }
-        ensures made { IfOk result (λ draft. runs_made draft ≡ runs_made self) }
+    fn abort_by_run(self, alloc: Global, run: u32, at: Moment) -> Result<Transition, Memory>
+        ensures aborted { IfOk result
+            (λ t. evolution_of t ≡ abort_by_run (evolution_of self) run at) }
+        ensures strategy { IfOk result (λ t. t.service.strategy ≡ self.service.strategy) }
+        ensures made { IfOk result (λ transition. run_total transition ≡ run_total self) }
     {
         let told = self.tell(at, LineEvent::AbortedBy { run })?;
         told.abort(alloc, at)
     }
 
     // The release is held by the run of its step.
-    fn hold_step(self, at: Moment) -> Result<Draft, Memory>
-        ensures held { IfOk result (λ draft. whole draft ≡ hold_step (whole self) at) }
-        ensures strategy { IfOk result (λ draft. draft.stand.strategy ≡ self.stand.strategy) }
-        ensures made { IfOk result (λ draft. runs_made draft ≡ runs_made self) }
+    fn hold_step(self, at: Moment) -> Result<Transition, Memory>
+        ensures held { IfOk result (λ t. evolution_of t ≡ hold_step (evolution_of self) at) }
+        ensures strategy { IfOk result (λ t. t.service.strategy ≡ self.service.strategy) }
+        ensures made { IfOk result (λ transition. run_total transition ≡ run_total self) }
     {
-        let Draft { stand, watched } = self;
-        let step = stand.step;
-        let stand = Stand {
+        let Transition { service, tracked } = self;
+        let step = service.step;
+        let service = ServiceState {
             step_hold: true,
-            ..stand
+            ..service
         };
-        Draft { stand, watched }.tell(at, LineEvent::StepHeld { step })
+        Transition { service, tracked }.tell(at, LineEvent::StepHeld { step })
     }
 
     // The release is held by its background run, and an open step run is ended from outside.
-    fn hold_background(self, alloc: Global, at: Moment) -> Result<Draft, Memory>
-        ensures held { IfOk result (λ draft. whole draft ≡ hold_background (whole self) at) }
-        ensures strategy { IfOk result (λ draft. draft.stand.strategy ≡ self.stand.strategy) }
-        ensures made { IfOk result (λ draft. runs_made draft ≡ runs_made self) }
+    fn hold_background(self, alloc: Global, at: Moment) -> Result<Transition, Memory>
+        ensures held { IfOk result (λ t. evolution_of t ≡ hold_background (evolution_of self) at) }
+        ensures strategy { IfOk result (λ t. t.service.strategy ≡ self.service.strategy) }
+        ensures made { IfOk result (λ transition. run_total transition ≡ run_total self) }
     {
-        let Draft { stand, watched } = self;
-        let stand = Stand {
+        let Transition { service, tracked } = self;
+        let service = ServiceState {
             background_hold: true,
-            ..stand
+            ..service
         };
-        let held = Draft { stand, watched }.tell(at, LineEvent::BackgroundHeld)?;
+        let held = Transition { service, tracked }.tell(at, LineEvent::BackgroundHeld)?;
         held.end_open_runs(alloc, at)
     }
 
@@ -335,13 +336,13 @@ impl Draft {
         step: Option<u32>,
         verdict: Phase,
         at: Moment,
-    ) -> Result<Draft, Memory>
-        requires room { runs_made self + 1 < 4294967295 }
-        requires on_step { self.stand.step < 4294967295 }
-        ensures brought { IfOk result (λ draft. whole draft
-            ≡ consequence (whole self) run step verdict at) }
-        ensures strategy { IfOk result (λ draft. draft.stand.strategy ≡ self.stand.strategy) }
-        ensures made { IfOk result (λ draft. runs_made draft ≤ runs_made self + 2) }
+    ) -> Result<Transition, Memory>
+        requires room { run_total self + 1 < 4294967295 }
+        requires on_step { self.service.step < 4294967295 }
+        ensures brought { IfOk result (λ transition. evolution_of transition
+            ≡ consequence (evolution_of self) run step verdict at) }
+        ensures strategy { IfOk result (λ t. t.service.strategy ≡ self.service.strategy) }
+        ensures made { IfOk result (λ transition. run_total transition ≤ run_total self + 2) }
     {
         match verdict {
             Phase::Failed => self.abort_by_run(alloc, run, at),
@@ -354,12 +355,12 @@ impl Draft {
     }
 
     // The release is held by a run.
-    fn hold(self, alloc: Global, step: Option<u32>, at: Moment) -> Result<Draft, Memory>
+    fn hold(self, alloc: Global, step: Option<u32>, at: Moment) -> Result<Transition, Memory>
         ensures held { (run : ℕ)
-            → IfOk result (λ draft. whole draft
-            ≡ consequence (whole self) run step phase.Inconclusive at) }
-        ensures strategy { IfOk result (λ draft. draft.stand.strategy ≡ self.stand.strategy) }
-        ensures made { IfOk result (λ draft. runs_made draft ≡ runs_made self) }
+            → IfOk result (λ transition. evolution_of transition
+            ≡ consequence (evolution_of self) run step phase.Inconclusive at) }
+        ensures strategy { IfOk result (λ t. t.service.strategy ≡ self.service.strategy) }
+        ensures made { IfOk result (λ transition. run_total transition ≡ run_total self) }
     {
         match step {
             Some(_) => self.hold_step(at),
@@ -368,18 +369,18 @@ impl Draft {
     }
 
     // After a successful run, the next step is entered, where the run was that of the present one.
-    fn pass_step(self, alloc: Global, step: Option<u32>, at: Moment) -> Result<Draft, Memory>
-        requires room { runs_made self + 1 < 4294967295 }
-        requires on_step { self.stand.step < 4294967295 }
+    fn pass_step(self, alloc: Global, step: Option<u32>, at: Moment) -> Result<Transition, Memory>
+        requires room { run_total self + 1 < 4294967295 }
+        requires on_step { self.service.step < 4294967295 }
         ensures passed { (run : ℕ)
-            → IfOk result (λ draft. whole draft
-            ≡ consequence (whole self) run step phase.Successful at) }
-        ensures strategy { IfOk result (λ draft. draft.stand.strategy ≡ self.stand.strategy) }
-        ensures made { IfOk result (λ draft. runs_made draft ≤ runs_made self + 2) }
+            → IfOk result (λ transition. evolution_of transition
+            ≡ consequence (evolution_of self) run step phase.Successful at) }
+        ensures strategy { IfOk result (λ t. t.service.strategy ≡ self.service.strategy) }
+        ensures made { IfOk result (λ transition. run_total transition ≤ run_total self + 2) }
     {
         match step {
             Some(_) => {
-                let next = self.stand.step + 1;
+                let next = self.service.step + 1;
                 self.enter(alloc, next, at)
             }
             None => Ok(self),
@@ -393,13 +394,13 @@ impl Draft {
         run: &OpenRun,
         verdict: Phase,
         at: Moment,
-    ) -> Result<Draft, Memory>
-        requires room { runs_made self + 1 < 4294967295 }
-        requires on_step { self.stand.step < 4294967295 }
-        ensures completed { IfOk result (λ draft. whole draft
-            ≡ complete (whole self) run.now verdict at) }
-        ensures strategy { IfOk result (λ draft. draft.stand.strategy ≡ self.stand.strategy) }
-        ensures made { IfOk result (λ draft. runs_made draft ≤ runs_made self + 2) }
+    ) -> Result<Transition, Memory>
+        requires room { run_total self + 1 < 4294967295 }
+        requires on_step { self.service.step < 4294967295 }
+        ensures completed { IfOk result (λ transition. evolution_of transition
+            ≡ complete (evolution_of self) run.now verdict at) }
+        ensures strategy { IfOk result (λ t. t.service.strategy ≡ self.service.strategy) }
+        ensures made { IfOk result (λ transition. run_total transition ≤ run_total self + 2) }
     {
         let number = run.number;
         let step = run.step;
@@ -415,12 +416,13 @@ impl Draft {
     }
 
     // An open run that is no longer Running is closed, with what follows.
-    fn assess_run(self, alloc: Global, run: &OpenRun, at: Moment) -> Result<Draft, Memory>
-        requires room { runs_made self + 1 < 4294967295 }
-        requires on_step { self.stand.step < 4294967295 }
-        ensures assessed { IfOk result (λ draft. whole draft ≡ assess_run (whole self) run.now at) }
-        ensures strategy { IfOk result (λ draft. draft.stand.strategy ≡ self.stand.strategy) }
-        ensures made { IfOk result (λ draft. runs_made draft ≤ runs_made self + 2) }
+    fn assess_run(self, alloc: Global, run: &OpenRun, at: Moment) -> Result<Transition, Memory>
+        requires room { run_total self + 1 < 4294967295 }
+        requires on_step { self.service.step < 4294967295 }
+        ensures assessed { IfOk result
+            (λ t. evolution_of t ≡ assess_run (evolution_of self) run.now at) }
+        ensures strategy { IfOk result (λ t. t.service.strategy ≡ self.service.strategy) }
+        ensures made { IfOk result (λ transition. run_total transition ≤ run_total self + 2) }
     {
         let verdict = run.verdict(false);
         if is_completed(verdict) {
@@ -431,13 +433,13 @@ impl Draft {
     }
 
     // The run of that number is assessed, if it is open.
-    fn assess(self, alloc: Global, number: u32, at: Moment) -> Result<Draft, Memory>
-        requires room { runs_made self + 1 < 4294967295 }
-        requires on_step { self.stand.step < 4294967295 }
-        ensures assessed { IfOk result (λ draft. whole draft
-            ≡ assess (whole self) (open_run_now (whole self) number) at) }
-        ensures strategy { IfOk result (λ draft. draft.stand.strategy ≡ self.stand.strategy) }
-        ensures made { IfOk result (λ draft. runs_made draft ≤ runs_made self + 2) }
+    fn assess(self, alloc: Global, number: u32, at: Moment) -> Result<Transition, Memory>
+        requires room { run_total self + 1 < 4294967295 }
+        requires on_step { self.service.step < 4294967295 }
+        ensures assessed { IfOk result (λ transition. evolution_of transition
+            ≡ assess (evolution_of self) (open_run_now (evolution_of self) number) at) }
+        ensures strategy { IfOk result (λ t. t.service.strategy ≡ self.service.strategy) }
+        ensures made { IfOk result (λ transition. run_total transition ≤ run_total self + 2) }
     {
         if !is_completed(self.verdict_of(number)) {
             return Ok(self);
@@ -450,7 +452,8 @@ impl Draft {
 
     // The verdict of the open run of that number, Running where there is none.
     fn verdict_of(&self, number: u32) -> Phase
-        ensures { result ≡ verdict_if (whole self.now) (open_run_now (whole self.now) number) }
+        ensures { result ≡ verdict_if (evolution_of self.now)
+            (open_run_now (evolution_of self.now) number) }
     {
         match self.open_run_now(number) {
             Some(run) => run.verdict(false),
@@ -465,17 +468,17 @@ impl Draft {
         run: &OpenRun,
         entries: &[Entry],
         at: Moment,
-    ) -> Result<(Draft, Reported), Memory>
-        requires fits { have_room (runs_now (whole self))
+    ) -> Result<(Transition, Reported), Memory>
+        requires fits { have_room (runs_now (evolution_of self))
             (brought run.now.analysis.metrics run.now entries.now) ≡ true }
-        requires room { runs_made self + 1 < 4294967295 }
-        requires on_step { self.stand.step < 4294967295 }
-        ensures reported { IfOk result (λ done. whole done.0
-            ≡ report_on (whole self) run.now entries.now at) }
+        requires room { run_total self + 1 < 4294967295 }
+        requires on_step { self.service.step < 4294967295 }
+        ensures reported { IfOk result (λ done. evolution_of done.0
+            ≡ report_on (evolution_of self) run.now entries.now at) }
         ensures shows { IfOk result (λ done. done.1
-            ≡ reported_on (whole self) run.now entries.now) }
-        ensures strategy { IfOk result (λ done. done.0.stand.strategy ≡ self.stand.strategy) }
-        ensures made { IfOk result (λ done. runs_made done.0 ≤ runs_made self + 2) }
+            ≡ reported_on (evolution_of self) run.now entries.now) }
+        ensures strategy { IfOk result (λ done. done.0.service.strategy ≡ self.service.strategy) }
+        ensures made { IfOk result (λ done. run_total done.0 ≤ run_total self + 2) }
     {
         let measurements = run.brought(alloc, entries)?;
         let all = self.record_all(alloc, measurements.as_slice())?;
@@ -499,17 +502,17 @@ impl Draft {
         run: &OpenRun,
         at: Moment,
         report: &Report,
-    ) -> Result<Result<(Draft, Reported), Refusal>, Memory>
-        requires open { open_run_now (whole self) report.now.run ≡ Some run.now }
-        requires once { repeats_number (runs_now (whole self)).open_runs ≡ false }
-        requires room { runs_made self + 1 < 4294967295 }
-        requires on_step { self.stand.step < 4294967295 }
+    ) -> Result<Result<(Transition, Reported), Refusal>, Memory>
+        requires open { open_run_now (evolution_of self) report.now.run ≡ Some run.now }
+        requires once { repeats_number (runs_now (evolution_of self)).open_runs ≡ false }
+        requires room { run_total self + 1 < 4294967295 }
+        requires on_step { self.service.step < 4294967295 }
         ensures reported { IfOk result (λ answer. reported_as answer
-            ≡ act no_templates (command.Report report.now) (whole self) at) }
-        ensures strategy { IfOk result (λ answer. IfOk answer (λ done. done.0.stand.strategy
-            ≡ self.stand.strategy)) }
+            ≡ act no_templates (command.Report report.now) (evolution_of self) at) }
+        ensures strategy { IfOk result (λ answer. IfOk answer (λ done. done.0.service.strategy
+            ≡ self.service.strategy)) }
         ensures made { IfOk result
-            (λ answer. IfOk answer (λ done. runs_made done.0 ≤ runs_made self + 2)) }
+            (λ answer. IfOk answer (λ done. run_total done.0 ≤ run_total self + 2)) }
     {
         let entries = report.entries.as_slice();
         match run.entries_refusal(at, entries) {
@@ -525,18 +528,18 @@ impl Draft {
         alloc: Global,
         at: Moment,
         report: &Report,
-    ) -> Result<Result<(Draft, Reported), Refusal>, Memory>
-        requires once { repeats_number (runs_now (whole self)).open_runs ≡ false }
-        requires room { runs_made self ≤ 1000000 }
-        requires on_step { IsOnSteps self.stand }
+    ) -> Result<Result<(Transition, Reported), Refusal>, Memory>
+        requires once { repeats_number (runs_now (evolution_of self)).open_runs ≡ false }
+        requires room { run_total self ≤ 1000000 }
+        requires on_step { IsOnSteps self.service }
         ensures reported { IfOk result (λ answer. reported_as answer
-            ≡ act no_templates (command.Report report.now) (whole self) at) }
-        ensures strategy { IfOk result (λ answer. IfOk answer (λ done. done.0.stand.strategy
-            ≡ self.stand.strategy)) }
+            ≡ act no_templates (command.Report report.now) (evolution_of self) at) }
+        ensures strategy { IfOk result (λ answer. IfOk answer (λ done. done.0.service.strategy
+            ≡ self.service.strategy)) }
         ensures made { IfOk result
-            (λ answer. IfOk answer (λ done. runs_made done.0 ≤ runs_made self + 2)) }
+            (λ answer. IfOk answer (λ done. run_total done.0 ≤ run_total self + 2)) }
     {
-        let _steps = self.stand.strategy.steps();
+        let _steps = self.service.strategy.steps();
         match self.copy_open_run(alloc, report.run)? {
             Some(run) => self.report_open(alloc, &run, at, report),
             None => Ok(Err(self.runs().missing(report.run))),

@@ -4,7 +4,7 @@ ghost use Rattle.canary_release.specs.Replies.{bracketed, quoted_phase, report_t
 ghost use Rattle.canary_release.specs.Reporting.{phase_words};
 
 use crate::reply::{Reply, ReplyStatus, Reported, with_place, with_weight};
-use crate::stand::Stand;
+use crate::state::ServiceState;
 use crate::words::{with, with_number, with_two};
 use canary_base::error::Memory;
 use canary_base::lists::Text;
@@ -19,12 +19,12 @@ impl Reply {
     /// service stands; `Memory` where memory is refused.
     pub(crate) fn reports(
         alloc: Global,
-        stand: &Stand,
+        service: &ServiceState,
         reported: &Reported,
     ) -> Result<Reply, Memory>
-        ensures { IfOk result (λ reply. reply ≡ accepted (report_text reported.now stand.now)) }
+        ensures { IfOk result (λ reply. reply ≡ accepted (report_text reported.now service.now)) }
     {
-        let body = report_text(alloc, stand, reported)?;
+        let body = report_text(alloc, service, reported)?;
         Ok(Reply {
             status: ReplyStatus::Accepted,
             body: Text::of(body),
@@ -33,14 +33,14 @@ impl Reply {
 }
 
 // The body: the phases, the run, the service with its status and step, the verdict, the weight.
-fn report_text(alloc: Global, stand: &Stand, reported: &Reported) -> Result<String, Memory>
-    ensures { IfOk result (λ text. string_bytes text ≡ report_text reported.now stand.now) }
+fn report_text(alloc: Global, service: &ServiceState, reported: &Reported) -> Result<String, Memory>
+    ensures { IfOk result (λ text. string_bytes text ≡ report_text reported.now service.now) }
 {
     let text = String::with_capacity(alloc, ROOM)?;
     let text = with_run(text, reported)?;
-    let text = with_place(text, ",\"service\":\"", stand)?;
+    let text = with_place(text, ",\"service\":\"", service)?;
     let text = with_two(text, ",\"verdict\":\"", reported.verdict.text())?;
-    with_weight(text, "\",\"weight\":", stand)
+    with_weight(text, "\",\"weight\":", service)
 }
 
 // The text with the phases and the run after it.

@@ -6,11 +6,11 @@ ghost use Rattle.std.specs.List.{list_all};
 ghost use Rattle.canary_metric.specs.Counts.{counts, size};
 ghost use Rattle.canary_metric.specs.Measurements.{is_measured};
 ghost use Rattle.canary_release.specs.declared.effect.Effect.TheVariants as effect;
-ghost use Rattle.canary_release.specs.Courses.{has_number, run_verdict};
+ghost use Rattle.canary_release.specs.Evolutions.{has_number, run_verdict};
 ghost use Rattle.canary_release.specs.Pasts.{change_at};
 ghost use Rattle.canary_release.specs.Recording.{is_not_full, takes, has_room};
 ghost use Rattle.canary_release.specs.Watching.{no_runs, opened_now, counted, counted_in};
-ghost use Rattle.canary_release.specs.Watching.{is_other, happens};
+ghost use Rattle.canary_release.specs.Watching.{is_other, effect_applied};
 
 use crate::effect::{Closing, Opening, Recorded};
 use canary_base::error::Memory;
@@ -24,7 +24,7 @@ use std::alloc::Global;
 use std::mem;
 
 /// The most runs that a service may have.
-pub(crate) const MOST_RUNS: u32 = 1_000_000;
+pub(crate) const MAX_RUNS: u32 = 1_000_000;
 
 /// An open run of the analysis at a step, or of the background: one tally for each of its metrics,
 /// in order.
@@ -168,7 +168,7 @@ impl Runs {
     /// One run more is opened.
     pub(crate) fn opened(self, alloc: Global, opening: &Opening) -> Result<Runs, Memory>
         requires { self.count < 4294967295 }
-        ensures { IfOk result (λ runs. runs ≡ happens self (effect.Opened opening.now)) }
+        ensures { IfOk result (λ runs. runs ≡ effect_applied self (effect.RunOpened opening.now)) }
     {
         let Runs { count, open_runs } = self;
         let mut open_runs = open_runs;
@@ -180,7 +180,7 @@ impl Runs {
     /// A measurement is counted in its run.
     pub(crate) fn measured(self, alloc: Global, recorded: &Recorded) -> Runs
         requires { has_room self recorded.now ≡ true }
-        ensures { result ≡ happens self (effect.Measured recorded.now) }
+        ensures { result ≡ effect_applied self (effect.MeasurementRecorded recorded.now) }
     {
         let Runs { count, open_runs } = self;
         let open_runs = count_runs(alloc, open_runs, recorded);

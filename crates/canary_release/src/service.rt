@@ -4,14 +4,14 @@ ghost use Rattle.canary_plan.specs.Plans.{is_accepted, are_fit};
 ghost use Rattle.canary_release.specs.Services.{status, weight};
 ghost use Rattle.canary_release.specs.Passing.{pass};
 ghost use Rattle.canary_release.specs.Parts.{is_broken};
-ghost use Rattle.canary_release.specs.Shapes.{kept_course, kept_after, whole};
+ghost use Rattle.canary_release.specs.Stored.{stored_evolution, stored_after, evolution_of};
 
-use crate::commands::bounds;
-use crate::draft::Draft;
+use crate::commands::recall_bounds;
 use crate::effect::{Effect, copy_effects};
 use crate::laws;
 use crate::runs::{OpenRun, Runs};
-use crate::stand::{Stand, State, Status};
+use crate::state::{ReleaseState, ServiceState, Status};
+use crate::transition::Transition;
 use canary_base::error::Memory;
 use canary_base::lists::Listed;
 use canary_base::moments::Moment;
@@ -24,7 +24,7 @@ use std::marker::Model;
 /// What a service is made of: how it stands, and what is kept of its runs.
 #[derive(Drop)]
 pub struct ServiceParts {
-    pub stand: Stand,
+    pub service: ServiceState,
     pub runs: Runs,
 }
 
@@ -34,7 +34,7 @@ impl ServiceParts {
         ensures { IfOk result (λ copy. copy ≡ self.now) }
     {
         Ok(ServiceParts {
-            stand: self.stand.copy()?,
+            service: self.service.copy()?,
             runs: self.runs.copy(alloc)?,
         })
     }
@@ -62,7 +62,7 @@ impl Model for Service {
 }
 
 impl Service {
-    ghost use Rattle.canary_release.specs.Shapes.{IsPassing};
+    ghost use Rattle.canary_release.specs.Stored.{IsPassing};
 
     /// A service of these parts.
     pub(crate) fn of(parts: ServiceParts) -> Service
@@ -81,34 +81,34 @@ impl Service {
     }
 
     // The service with nothing changed.
-    fn draft(&self, alloc: Global) -> Result<Draft, Memory>
-        ensures unchanged { IfOk result (λ draft. whole draft ≡ kept_course self.now) }
-        ensures unbroken { IfOk result (λ draft. is_broken (kept_after (whole draft)) ≡ false) }
+    fn transition(&self, alloc: Global) -> Result<Transition, Memory>
+        ensures unchanged { IfOk result (λ t. evolution_of t ≡ stored_evolution self.now) }
+        ensures unbroken { IfOk result (λ t. is_broken (stored_after (evolution_of t)) ≡ false) }
     {
-        Draft::of(alloc, &self.parts)
+        Transition::of(alloc, &self.parts)
     }
 
     /// The limits of its strategy, which a checked strategy promises, and those of the analyses to
     /// which it is bound.
-    pub(crate) fn has_checked_strategy(&self)
-        ensures accepted { IsTrue (is_accepted self.now.stand.strategy) }
-        ensures fit { IsTrue (are_fit self.now.stand.bound) }
+    pub(crate) fn recall_checked_strategy(&self)
+        ensures accepted { IsTrue (is_accepted self.now.service.strategy) }
+        ensures fit { IsTrue (are_fit self.now.service.bound) }
         ensures unbroken { is_broken self.now ≡ false }
     {
-        let _ = self.parts.stand.strategy.steps();
-        let _ = self.parts.stand.bound.analysis(None);
+        let _steps = self.parts.service.strategy.steps();
+        let _fit = self.parts.service.bound.analysis(None);
     }
 
     /// The service passed to a moment, as it changes.
-    pub(crate) fn passed_draft(&self, alloc: Global, now: Moment) -> Result<Draft, Memory>
-        ensures passed { IfOk result (λ draft. whole draft ≡ pass (kept_course self.now) now) }
-        ensures unbroken { IfOk result (λ draft. is_broken (kept_after (whole draft)) ≡ false) }
+    pub(crate) fn passed_transition(&self, alloc: Global, now: Moment) -> Result<Transition, Memory>
+        ensures passed { IfOk result (λ t. evolution_of t ≡ pass (stored_evolution self.now) now) }
+        ensures unbroken { IfOk result (λ t. is_broken (stored_after (evolution_of t)) ≡ false) }
     {
         laws::parts();
-        self.has_checked_strategy();
-        let draft = self.draft(alloc)?;
-        bounds(&draft);
-        draft.pass(alloc, now)
+        self.recall_checked_strategy();
+        let transition = self.transition(alloc)?;
+        recall_bounds(&transition);
+        transition.pass(alloc, now)
     }
 
     /// The service passed to a moment, or to its last one where that is later: to the end of the
@@ -120,8 +120,8 @@ impl Service {
     pub fn passed(&self, alloc: Global, now: Moment) -> Result<Passed, Memory>
         ensures { IfOk result (λ passed. IsPassing self.now now passed) }
     {
-        let draft = self.passed_draft(alloc, now)?;
-        let (parts, effects) = draft.end();
+        let transition = self.passed_transition(alloc, now)?;
+        let (parts, effects) = transition.end();
         Ok(Passed {
             service: Service::of(parts),
             effects,
@@ -138,87 +138,87 @@ impl Service {
 
     /// Its name.
     pub fn name(&self) -> Name
-        ensures value { result ≡ self.now.stand.name }
+        ensures value { result ≡ self.now.service.name }
     {
-        self.parts.stand.name
+        self.parts.service.name
     }
 
     /// Its strategy.
     pub fn strategy(&self) -> &Strategy
-        ensures value { result.now ≡ self.now.stand.strategy }
+        ensures value { result.now ≡ self.now.service.strategy }
     {
-        &self.parts.stand.strategy
+        &self.parts.service.strategy
     }
 
     /// The revisions of templates to which its last attempt is bound; none if no release was
     /// begun.
     pub fn bound(&self) -> &Bound
-        ensures value { result.now ≡ self.now.stand.bound }
+        ensures value { result.now ≡ self.now.service.bound }
     {
-        &self.parts.stand.bound
+        &self.parts.service.bound
     }
 
     /// Its stable version.
     pub fn stable(&self) -> Label
-        ensures value { result ≡ self.now.stand.stable }
+        ensures value { result ≡ self.now.service.stable }
     {
-        self.parts.stand.stable
+        self.parts.service.stable
     }
 
     /// The version of its last release, or the stable one where there was none.
     pub fn version(&self) -> Label
-        ensures value { result ≡ self.now.stand.version }
+        ensures value { result ≡ self.now.service.version }
     {
-        self.parts.stand.version
+        self.parts.service.version
     }
 
     /// Whether a release is going on.
-    pub fn state(&self) -> State
-        ensures value { result ≡ self.now.stand.state }
+    pub fn state(&self) -> ReleaseState
+        ensures value { result ≡ self.now.service.state }
     {
-        self.parts.stand.state
+        self.parts.service.state
     }
 
     /// The present step, from 0; the number of steps at the end.
     pub fn step(&self) -> u32
-        ensures value { result ≡ self.now.stand.step }
+        ensures value { result ≡ self.now.service.step }
     {
-        self.parts.stand.step
+        self.parts.service.step
     }
 
     /// When the present step was entered.
     pub fn entered(&self) -> Moment
-        ensures value { result ≡ self.now.stand.entered }
+        ensures value { result ≡ self.now.service.entered }
     {
-        self.parts.stand.entered
+        self.parts.service.entered
     }
 
     /// Whether the release is held, since the run of the present step was inconclusive.
     pub fn step_hold(&self) -> bool
-        ensures value { result ≡ self.now.stand.step_hold }
+        ensures value { result ≡ self.now.service.step_hold }
     {
-        self.parts.stand.step_hold
+        self.parts.service.step_hold
     }
 
     /// Whether the release is held, since the background run was inconclusive.
     pub fn background_hold(&self) -> bool
-        ensures value { result ≡ self.now.stand.background_hold }
+        ensures value { result ≡ self.now.service.background_hold }
     {
-        self.parts.stand.background_hold
+        self.parts.service.background_hold
     }
 
     /// Whether the background run was opened in the present attempt.
     pub fn background(&self) -> bool
-        ensures value { result ≡ self.now.stand.background }
+        ensures value { result ≡ self.now.service.background }
     {
-        self.parts.stand.background
+        self.parts.service.background
     }
 
     /// The last moment at which the service was judged.
     pub fn last(&self) -> Moment
-        ensures value { result ≡ self.now.stand.last }
+        ensures value { result ≡ self.now.service.last }
     {
-        self.parts.stand.last
+        self.parts.service.last
     }
 
     /// How many runs it has had.
@@ -239,17 +239,17 @@ impl Service {
     /// Its status: Healthy where the release is done, Degraded where it is aborted, Paused where it
     /// is held or at a pause, else Progressing.
     pub fn status(&self) -> Status
-        ensures { result ≡ status self.now.stand }
+        ensures { result ≡ status self.now.service }
     {
-        self.parts.stand.status()
+        self.parts.service.status()
     }
 
     /// The weight of the new version, in percent: 0 where the release is aborted, 100 where it is
     /// done, else the last weight set at or before the present step, or 0.
     pub fn weight(&self) -> u32
-        ensures { result ≡ weight self.now.stand }
+        ensures { result ≡ weight self.now.service }
     {
-        self.parts.stand.weight()
+        self.parts.service.weight()
     }
 }
 

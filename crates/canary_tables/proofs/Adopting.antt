@@ -4,22 +4,22 @@ use Rattle.std.specs.List.{AllByRecursion}
 use Rattle.sqlite.specs.Effect.{Database}
 use Rattle.sqlite.specs.State.{State}
 use Rattle.sqlite_value.specs.Order.{Row}
-use Rattle.canary_rows.specs.Tables.{Tables}
-use Rattle.canary_rows.specs.declared.rows.TallyRow.{TallyRow}
-use Rattle.canary_schema.specs.Cells.{cells_of, meta_rows, tally_cells, tables_in, tally_tree}
-use Rattle.canary_schema.specs.Formed.{IsDeskSchema, IsRising, IsFormed, HasRows, AreWhole, HasWholeTallies}
-use Rattle.canary_schema.specs.Layout.{Layout, made, moved, packed, tally_at}
-use Rattle.canary_schema.specs.Numbered.{IsOpenedAnew}
-use Rattle.canary_schema.specs.Laws.{OneReading}
-use Rattle.canary_schema.specs.Schema.{schema_at}
-use Rattle.canary_schema.specs.Stores.{IsUsable, IsHeld, Stores}
-use Rattle.canary_judging.specs.Laws.{JudgingIsExact}
-use Rattle.canary_judging.specs.Services.{IsJudged}
-use Rattle.canary_reads.specs.Finds.{IsSame}
-use Rattle.canary_reads.specs.Meta.{HasMetaRow, Stands}
-use Rattle.canary_reads.specs.declared.meta.MetaRow.{MetaRow}
-use Rattle.canary_reads.specs.declared.meta.MetaRow.TheVariants.{Alone}
-use Rattle.canary_stored.specs.Reading.{contents_of, HoldsContents}
+use Rattle.canary_tables_rows.specs.Tables.{Tables}
+use Rattle.canary_tables_rows.specs.declared.rows.TallyRow.{TallyRow}
+use Rattle.canary_tables_schema.specs.Cells.{cells_of, meta_rows, tally_cells, tables_in, tally_tree}
+use Rattle.canary_tables_schema.specs.Formed.{IsDeskSchema, IsRising, IsFormed, HasRows, AreWhole, HasWholeTallies}
+use Rattle.canary_tables_schema.specs.Layout.{Layout, made, moved, packed, tally_at}
+use Rattle.canary_tables_schema.specs.Numbered.{IsOpenedAnew}
+use Rattle.canary_tables_schema.specs.Laws.{OneReading}
+use Rattle.canary_tables_schema.specs.Schema.{schema_at}
+use Rattle.canary_tables_schema.specs.Stores.{IsUsable, IsHeld, Stores}
+use Rattle.canary_tables_contents.specs.JudgedLaws.{JudgingIsExact}
+use Rattle.canary_tables_contents.specs.Services.{IsJudged}
+use Rattle.canary_tables_read.specs.Finds.{IsSame}
+use Rattle.canary_tables_read.specs.Meta.{HasMetaRow, Stands}
+use Rattle.canary_tables_read.specs.declared.meta.MetaRow.{MetaRow}
+use Rattle.canary_tables_read.specs.declared.meta.MetaRow.TheVariants.{Alone}
+use Rattle.canary_tables_contents.specs.Reading.{contents_of, HoldsContents}
 use Rattle.canary_tables.specs.Adopts.{HasDeskTables, HasSoundRowsWithin, IsBelieved, IsAdopted}
 use Rattle.canary_tables.specs.Desk.{IsDesk}
 
@@ -61,7 +61,7 @@ whole db h =
 
 -- the tables are there, and meta has its one row
 pub formed : (db : Database) → IsDeskSchema db.schema → IsRising db → db.trees 0 ≡ meta_rows → IsFormed db
-formed db known rises meta = record { layout = known.0; schema = known.1; numbered = rises known.0 known.1; meta = meta }
+formed db cached rises meta = record { layout = cached.0; schema = cached.1; numbered = rises cached.0 cached.1; meta = meta }
 
 -- meta has its one row where the row of the schema is found alone
 pub alone_row : (rows : List Row) (row : MetaRow) → row ≡ Alone → Stands 2 (rows ≡ meta_rows) rows row → rows ≡ meta_rows
@@ -69,7 +69,7 @@ alone_row rows row is stands = subst (Stands 2 (rows ≡ meta_rows) rows) is sta
 
 -- then the tables of a desk are there
 pub has_tables : (db : Database) → IsDeskSchema db.schema → db.trees 0 ≡ meta_rows → HasDeskTables db
-has_tables db known meta = (known, subst (HasMetaRow 2) (sym meta) (0, omega arith, refl))
+has_tables db cached meta = (cached, subst (HasMetaRow 2) (sym meta) (0, omega arith, refl))
 
 -- rows that are judged are believed
 pub believes : JudgingIsExact → (old mid new : State) → IsSame old mid → IsSame mid new → (IsUsable mid → IsFormed old.now) → (IsUsable mid → HasRows old.now) → (IsUsable new → (t : Tables) → Stores mid t → IsJudged t) → IsUsable new → IsBelieved old.now

@@ -9,15 +9,15 @@ use Rattle.canary_once.specs.declared.book.BookFault.TheVariants.{Memory, Storag
 use Rattle.canary_once.specs.declared.book.Settlement.{Settlement}
 use Rattle.canary_once.specs.Contents.{Contents, IsSettling, KeepsReceipts, with_settlement}
 use Rattle.canary_once.specs.Sound.{AreContents, AreSoundContents}
-use Rattle.canary_once.specs.Books.{IsFault, Finds, Commits}
+use Rattle.canary_once.specs.BookCalls.{IsFault, Finds, Commits}
 use Rattle.canary_once.specs.Laws.{SettlementsKeep}
-use Rattle.canary_schema.specs.Cells.{tables_in}
-use Rattle.canary_schema.specs.Stores.{IsHeld, IsUsable}
-use Rattle.canary_stored.specs.Reading.{contents_of, HoldsContents}
-use Rattle.canary_reads.specs.Finds.{IsSame}
+use Rattle.canary_tables_schema.specs.Cells.{tables_in}
+use Rattle.canary_tables_schema.specs.Stores.{IsHeld, IsUsable}
+use Rattle.canary_tables_contents.specs.Reading.{contents_of, HoldsContents}
+use Rattle.canary_tables_read.specs.Finds.{IsSame}
 use Rattle.canary_tables.specs.declared.notes.Notes.{Notes}
-use Rattle.canary_tables.specs.declared.kept.Kept.{Kept}
-use Rattle.canary_tables.specs.Kept.{AreKept}
+use Rattle.canary_tables.specs.declared.cache.Cache.{Cache}
+use Rattle.canary_tables.specs.Caches.{IsCacheOf}
 use Rattle.canary_tables.specs.Desk.{contents_in, IsDesk, IsBook, book_state}
 use Rattle.canary_tables.specs.Notes.{AreTrue, no_notes}
 use Rattle.canary_tables.proofs.Noted.{none_noted}
@@ -42,15 +42,15 @@ module _ {S : Type 0} (g : Ghosts S) where
   }
 
   -- what was noted stays true
-  pub noted_still : (old new : Held S) (notes : Notes) (kept : Kept) → IsBook g old notes kept → IsSame (state g old) (state g new) → IsUsable (state g new) → AreTrue (state g new).now notes
+  pub noted_still : (old new : Held S) (notes : Notes) (kept : Cache) → IsBook g old notes kept → IsSame (state g old) (state g new) → IsUsable (state g new) → AreTrue (state g new).now notes
   noted_still old new notes kept book same usable = subst (λ (db : Database). AreTrue db notes) (sym (same usable).1) (book.noted (same usable).0)
 
   -- and what was kept is what it contains
-  pub kept_still : (old new : Held S) (notes : Notes) (kept : Kept) → IsBook g old notes kept → IsSame (state g old) (state g new) → IsUsable (state g new) → AreKept kept (contents_in (state g new))
-  kept_still old new notes kept book same usable = subst (AreKept kept) (sym (contents_stay old new (same usable).1)) (book.kept (same usable).0)
+  pub kept_still : (old new : Held S) (notes : Notes) (kept : Cache) → IsBook g old notes kept → IsSame (state g old) (state g new) → IsUsable (state g new) → IsCacheOf kept (contents_in (state g new))
+  kept_still old new notes kept book same usable = subst (IsCacheOf kept) (sym (contents_stay old new (same usable).1)) (book.kept (same usable).0)
 
   -- a read leaves a book
-  pub still_book : (old new : Held S) (notes : Notes) (kept : Kept) → IsBook g old notes kept → new.in_transaction ≡ false → IsSame (state g old) (state g new) → IsBook g new notes kept
+  pub still_book : (old new : Held S) (notes : Notes) (kept : Cache) → IsBook g old notes kept → new.in_transaction ≡ false → IsSame (state g old) (state g new) → IsBook g new notes kept
   still_book old new notes kept book mode same = record {
     autocommit = mode;
     desk = λ usable. desk_stays old new (same usable).1 (book.desk (same usable).0);
@@ -59,7 +59,7 @@ module _ {S : Type 0} (g : Ghosts S) where
   }
 
   -- also where it keeps more, or less
-  pub book_keeps : (old new : Held S) (notes : Notes) (before after : Kept) → IsBook g old notes before → new.in_transaction ≡ false → IsSame (state g old) (state g new) → (IsUsable (state g new) → AreKept after (contents_in (state g new))) → IsBook g new notes after
+  pub book_keeps : (old new : Held S) (notes : Notes) (before after : Cache) → IsBook g old notes before → new.in_transaction ≡ false → IsSame (state g old) (state g new) → (IsUsable (state g new) → IsCacheOf after (contents_in (state g new))) → IsBook g new notes after
   book_keeps old new notes before after book mode same kept = record {
     autocommit = mode;
     desk = λ usable. desk_stays old new (same usable).1 (book.desk (same usable).0);
@@ -68,7 +68,7 @@ module _ {S : Type 0} (g : Ghosts S) where
   }
 
   -- and finds what the contents have
-  pub finds : {A : Type 0} (value : Contents → A) (old new : Held S) (notes : Notes) (kept : Kept) (r : Result A BookFault) → IsBook g old notes kept → IsSame (state g old) (state g new)
+  pub finds : {A : Type 0} (value : Contents → A) (old new : Held S) (notes : Notes) (kept : Cache) (r : Result A BookFault) → IsBook g old notes kept → IsSame (state g old) (state g new)
       → (IsUsable (state g new) → IfOk r (λ x. x ≡ value (contents_in (state g old)))) → Finds value (book_state g old) (book_state g new) r
   finds value old new notes kept r book same found = record {
     honest = λ usable. (same usable).0;
@@ -81,7 +81,7 @@ module _ {S : Type 0} (g : Ghosts S) where
   }
 
   -- a request that is settled
-  pub settled_so : SettlementsKeep → (s : Settlement) (old new : Held S) (notes : Notes) (kept : Kept) → s.number ≤ 1000000000 → IsBook g old notes kept → (IsUsable (state g old) → IsSettling (contents_in (state g old)) s)
+  pub settled_so : SettlementsKeep → (s : Settlement) (old new : Held S) (notes : Notes) (kept : Cache) → s.number ≤ 1000000000 → IsBook g old notes kept → (IsUsable (state g old) → IsSettling (contents_in (state g old)) s)
       → (IsUsable (state g new) → IsUsable (state g old)) → (IsUsable (state g new) → IsDesk (state g new)) → (IsUsable (state g new) → contents_in (state g new) ≡ with_settlement (contents_in (state g old)) s)
       → Commits s (book_state g old) (book_state g new) (Ok tt)
   settled_so law s old new notes kept few book settling held desk settled =
@@ -99,7 +99,7 @@ module _ {S : Type 0} (g : Ghosts S) where
       }
 
   -- and one that is not
-  pub failed_so : (s : Settlement) (old new : Held S) (notes : Notes) (kept : Kept) (fault : BookFault) → IsBook g old notes kept → (IsUsable (state g new) → IsUsable (state g old)) → (IsUsable (state g new) → (state g new).now ≡ (state g old).now)
+  pub failed_so : (s : Settlement) (old new : Held S) (notes : Notes) (kept : Cache) (fault : BookFault) → IsBook g old notes kept → (IsUsable (state g new) → IsUsable (state g old)) → (IsUsable (state g new) → (state g new).now ≡ (state g old).now)
       → Commits s (book_state g old) (book_state g new) (Err fault)
   failed_so s old new notes kept fault book held same =
       let stay = λ (usable : IsUsable (state g new)). contents_stay old new (same usable) in
@@ -116,10 +116,10 @@ module _ {S : Type 0} (g : Ghosts S) where
       }
 
   -- what was not settled leaves a book that has noted nothing
-  pub failed_book : (old new : Held S) (before after : Notes) (kept keeps : Kept) → after ≡ no_notes → IsBook g old before kept → new.in_transaction ≡ false → (IsUsable (state g new) → IsUsable (state g old)) → (IsUsable (state g new) → (state g new).now ≡ (state g old).now)
-      → (IsUsable (state g new) → AreKept keeps (contents_in (state g new))) → IsBook g new after keeps
+  pub failed_book : (old new : Held S) (before after : Notes) (kept keeps : Cache) → after ≡ no_notes → IsBook g old before kept → new.in_transaction ≡ false → (IsUsable (state g new) → IsUsable (state g old)) → (IsUsable (state g new) → (state g new).now ≡ (state g old).now)
+      → (IsUsable (state g new) → IsCacheOf keeps (contents_in (state g new))) → IsBook g new after keeps
   failed_book old new before after kept keeps none book mode held same are =
       record { autocommit = mode; desk = λ usable. desk_stays old new (same usable) (book.desk (held usable)); noted = λ usable. none_noted (state g new).now after none; kept = are }
 
-  pub settled_book : (new : Held S) (after : Notes) (keeps : Kept) → after ≡ no_notes → new.in_transaction ≡ false → (IsUsable (state g new) → IsDesk (state g new)) → (IsUsable (state g new) → AreKept keeps (contents_in (state g new))) → IsBook g new after keeps
+  pub settled_book : (new : Held S) (after : Notes) (keeps : Cache) → after ≡ no_notes → new.in_transaction ≡ false → (IsUsable (state g new) → IsDesk (state g new)) → (IsUsable (state g new) → IsCacheOf keeps (contents_in (state g new))) → IsBook g new after keeps
   settled_book new after keeps none mode desk are = record { autocommit = mode; desk = desk; noted = λ usable. none_noted (state g new).now after none; kept = are }

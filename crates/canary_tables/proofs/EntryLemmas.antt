@@ -10,8 +10,8 @@ use Rattle.std.specs.BTreeMap.{BTreeMap, is_at, insert_entry, WritesThrough}
 use Rattle.std.specs.Map.{lookup, remove_entry, set_value}
 use Rattle.std.proofs.lemmas.Map.Text.{is_eq-slice_cmp}
 use Rattle.std.proofs.lemmas.Slice.Eq.{bytes_eq-Decides}
-use Rattle.canary_tables.specs.declared.entries.Weighed.{Weighed}
-use Rattle.canary_tables.specs.Entries.{Named, IsWithin, unweighed, weights, weight_if, value_if, at_name, first_of, IsPut, IsEntered}
+use Rattle.canary_tables.specs.declared.cache_map.Weighed.{Weighed}
+use Rattle.canary_tables.specs.CacheMaps.{Named, IsWithin, unweighed, weights, weight_if, value_if, at_name, first_of, IsPut, IsEntered}
 
 abbrev Items : Type 0 → Type 0
 Items A = List (List ℕ × Weighed A)

@@ -7,15 +7,15 @@ use Rattle.sqlite.specs.State.{State}
 use Rattle.canary_plan.specs.declared.template.Template.{Template}
 use Rattle.canary_release.specs.Desks.{newest}
 use Rattle.canary_once.specs.Contents.{Contents, put_some, templates_named}
-use Rattle.canary_rows.specs.declared.rows.RevisionRow.{RevisionRow}
-use Rattle.canary_rows.specs.Newest.{IsNewest}
-use Rattle.canary_rows.specs.Tables.{Tables, is_revision_of}
-use Rattle.canary_schema.specs.Stores.{IsUsable, Stores}
-use Rattle.canary_stored.specs.Laws.{NewestAreFound}
-use Rattle.canary_stored.specs.Reading.{known_in}
-use Rattle.canary_stored.specs.Values.{revision_of_row}
-use Rattle.canary_reads.specs.Finds.{IsSame}
-use Rattle.canary_adopting.specs.Bindings.{IsKnownIn}
+use Rattle.canary_tables_rows.specs.declared.rows.RevisionRow.{RevisionRow}
+use Rattle.canary_tables_rows.specs.Newest.{IsNewest}
+use Rattle.canary_tables_rows.specs.Tables.{Tables, is_revision_of}
+use Rattle.canary_tables_schema.specs.Stores.{IsUsable, Stores}
+use Rattle.canary_tables_contents.specs.Laws.{NewestAreFound}
+use Rattle.canary_tables_contents.specs.Reading.{known_in}
+use Rattle.canary_tables_contents.specs.Values.{revision_of_row}
+use Rattle.canary_tables_read.specs.Finds.{IsSame}
+use Rattle.canary_tables_adopt.specs.Bindings.{IsKnownIn}
 use Rattle.canary_tables.specs.Desk.{IsDesk, contents_in}
 use Rattle.canary_tables.proofs.Standing.{contents_stay, same_then}
 use Rattle.canary_tables.proofs.TemplateLemmas.{NameMap, found_more}
@@ -53,5 +53,5 @@ templates_done names i old now found so_far all usable = so_far.value usable ∙
 
 -- The templates to which a run is bound.
 
-pub known_told : (name : List ℕ) (run : ℕ) (t : Tables) (found : Option NameMap) (known : NameMap) → found ≡ Some known → IsKnownIn name run t (option_map get found) → get known ≡ known_in t name run
-known_told name run t found known is told = subst (λ (o : Option NameMap). IsKnownIn name run t (option_map get o)) is told
+pub known_told : (name : List ℕ) (run : ℕ) (t : Tables) (found : Option NameMap) (cached : NameMap) → found ≡ Some cached → IsKnownIn name run t (option_map get found) → get cached ≡ known_in t name run
+known_told name run t found cached is told = subst (λ (o : Option NameMap). IsKnownIn name run t (option_map get o)) is told

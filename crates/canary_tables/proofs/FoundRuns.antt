@@ -12,18 +12,18 @@ use Rattle.canary_release.specs.declared.runs.OpenRun.{OpenRun}
 use Rattle.canary_once.specs.declared.record.RunRecord.{RunRecord}
 use Rattle.canary_once.specs.Contents.{Contents}
 use Rattle.canary_once.specs.Records.{run_of}
-use Rattle.canary_rows.specs.declared.rows.RunRow.{RunRow}
-use Rattle.canary_rows.specs.declared.rows.ServiceRow.{ServiceRow}
-use Rattle.canary_rows.specs.declared.rows.TallyRow.{TallyRow}
-use Rattle.canary_rows.specs.Tables.{Tables, is_service, is_run, is_open_run_of, is_tally_of}
-use Rattle.canary_schema.specs.Cells.{tables_in}
-use Rattle.canary_schema.specs.Stores.{IsUsable, Stores}
-use Rattle.canary_stored.specs.Values.{made_from}
-use Rattle.canary_stored.specs.Reading.{known_in}
-use Rattle.canary_stored.specs.Finding.{strategy_by, analysis_by, tallies_of, record_of_row, open_run_of, open_runs_by}
-use Rattle.canary_stored.specs.Laws.{TalliesAreFound, RunsAreFound, RunsHaveServices, OpenRunsAreFound}
-use Rattle.canary_reads.specs.Finds.{IsSame, first}
-use Rattle.canary_reads.specs.Sorts.{Sorts, number_of, metric_of}
+use Rattle.canary_tables_rows.specs.declared.rows.RunRow.{RunRow}
+use Rattle.canary_tables_rows.specs.declared.rows.ServiceRow.{ServiceRow}
+use Rattle.canary_tables_rows.specs.declared.rows.TallyRow.{TallyRow}
+use Rattle.canary_tables_rows.specs.Tables.{Tables, is_service, is_run, is_open_run_of, is_tally_of}
+use Rattle.canary_tables_schema.specs.Cells.{tables_in}
+use Rattle.canary_tables_schema.specs.Stores.{IsUsable, Stores}
+use Rattle.canary_tables_contents.specs.Values.{made_from}
+use Rattle.canary_tables_contents.specs.Reading.{known_in}
+use Rattle.canary_tables_contents.specs.Finding.{strategy_by, analysis_by, tallies_of, record_of_row, open_run_of, open_runs_by}
+use Rattle.canary_tables_contents.specs.Laws.{TalliesAreFound, RunsAreFound, RunsHaveServices, OpenRunsAreFound}
+use Rattle.canary_tables_read.specs.Finds.{IsSame, first}
+use Rattle.canary_tables_read.specs.Sorts.{Sorts, number_of, metric_of}
 use Rattle.canary_tables.specs.Desk.{IsDesk, IsMadeBy, contents_in}
 use Rattle.canary_tables.proofs.Standing.{contents_stay, tables_stay, same_then}
 

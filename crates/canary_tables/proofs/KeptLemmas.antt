@@ -15,10 +15,10 @@ use Rattle.canary_release.specs.declared.service.ServiceParts.{ServiceParts}
 use Rattle.canary_release.specs.declared.effect.Effect.{Effect}
 use Rattle.canary_release.specs.declared.decide.DeskChange.{DeskChange}
 use Rattle.canary_release.specs.declared.decide.DeskChange.TheVariants.{Nothing, Template as AddsTemplate, Service as Updates}
-use Rattle.canary_release.specs.Commands.{Acted}
-use Rattle.canary_release.specs.Courses.{Course}
-use Rattle.canary_release.specs.Desks.{ModelService, Desk, course_of, after, ruling_on, apply, newest, revisions_of, rules, adds_unless, rule_service}
-use Rattle.canary_release.specs.Shapes.{shape, seen, said, changed, kept_by, KeepsWhatIsSeen}
+use Rattle.canary_release.specs.Commands.{ModelResult}
+use Rattle.canary_release.specs.Evolutions.{Evolution}
+use Rattle.canary_release.specs.Desks.{ModelService, Desk, model_evolution, after, ruling_on, apply, newest, revisions_of, rules, adds_unless, rule_service}
+use Rattle.canary_release.specs.Stored.{stored_form, stored_service, change_of, desk_with, stored_by, KeepsWhatIsSeen}
 use Rattle.canary_release.specs.Order.{AreInOrder}
 use Rattle.canary_once.specs.declared.book.Receipt.{Receipt}
 use Rattle.canary_once.specs.declared.book.Settlement.{Settlement}
@@ -26,21 +26,21 @@ use Rattle.canary_once.specs.Contents.{Contents, count_of, receipt_at, receipts_
 use Rattle.canary_once.proofs.Events.{keep_keeps}
 use Rattle.sqlite.specs.State.{State}
 use Rattle.canary_tables.specs.Desk.{IsDesk, contents_in}
-use Rattle.canary_tables.specs.declared.kept.Kept.{Kept}
-use Rattle.canary_tables.specs.declared.kept.NumberedReceipt.{NumberedReceipt}
-use Rattle.canary_tables.specs.Entries.{Named, IsWithin}
-use Rattle.canary_tables.specs.Kept.{AreCounts, AreServices, AreTemplates, AreReceipts, AreKept, KeepsNothing, without_revised, with_changed, kept_of, IsKnown}
+use Rattle.canary_tables.specs.declared.cache.Cache.{Cache}
+use Rattle.canary_tables.specs.declared.cache.NumberedReceipt.{NumberedReceipt}
+use Rattle.canary_tables.specs.CacheMaps.{Named, IsWithin}
+use Rattle.canary_tables.specs.Caches.{AreCounts, AreServices, AreTemplates, AreReceipts, IsCacheOf, KeepsNothing, without_revised, with_changed, kept_of, IsKnown}
 use Rattle.canary_tables.proofs.EntryLemmas.{is_it, equal_names, kept_within, same_name}
 
-pub there_is : (o : Option ModelService) (k : ServiceParts) → option_map shape o ≡ Some k → (m : ModelService) × ((o ≡ Some m) × (shape m ≡ k))
+pub there_is : (o : Option ModelService) (k : ServiceParts) → option_map stored_form o ≡ Some k → (m : ModelService) × ((o ≡ Some m) × (stored_form m ≡ k))
 there_is None k e = let never : ⊥ = cc in absurd never
 there_is (Some m) k e = (m, (refl, cc))
 
 -- what is known of the service that a change names
-pub known_so : (c : Contents) (services : Named ServiceParts) (change : DeskChange) (known : Option ServiceParts) → AreServices services c → known ≡ kept_of services change → IsKnown known change c
-known_so c services Nothing known are is = tt
-known_so c services (AddsTemplate template) known are is = tt
-known_so c services (Updates s effects) known are is = λ k e. are s.stand.name k (sym is ∙ e)
+pub known_so : (c : Contents) (services : Named ServiceParts) (change : DeskChange) (cached : Option ServiceParts) → AreServices services c → cached ≡ kept_of services change → IsKnown cached change c
+known_so c services Nothing cached are is = tt
+known_so c services (AddsTemplate template) cached are is = tt
+known_so c services (Updates s effects) cached are is = λ k e. are s.service.name k (sym is ∙ e)
 
 -- Some leaves, and one is added.
 
@@ -54,12 +54,12 @@ one_count_more c m n caller count are is within q k there =
       one true same e = let same_count : count ≡ k = cc in sym same_count ∙ is ∙ ap (count_of c) (sym (same refl))
       one false same e = are q k e
 
-pub one_service_more : (c : Contents) (m n : Named ServiceParts) (name : List ℕ) (found : Option ServiceParts) → AreServices m c → found ≡ seen c.desk name → IsWithin n (put_some m name found) → AreServices n c
+pub one_service_more : (c : Contents) (m n : Named ServiceParts) (name : List ℕ) (found : Option ServiceParts) → AreServices m c → found ≡ stored_service c.desk name → IsWithin n (put_some m name found) → AreServices n c
 one_service_more c m n name None are is within = fewer_services c m n are within
 one_service_more c m n name (Some s) are is within = λ q v there.
     one q v (is_it q name) (equal_names q name) (sym (get-insert nat_list_cmp_total m name s q) ∙ within q v there) where
-      one : (q : List ℕ) (v : ServiceParts) (b : Bool) → (b ≡ true → q ≡ name) → cond b (Some s) (get m q) ≡ Some v → seen c.desk q ≡ Some v
-      one q v true same e = ap (seen c.desk) (same refl) ∙ sym is ∙ e
+      one : (q : List ℕ) (v : ServiceParts) (b : Bool) → (b ≡ true → q ≡ name) → cond b (Some s) (get m q) ≡ Some v → stored_service c.desk q ≡ Some v
+      one q v true same e = ap (stored_service c.desk) (same refl) ∙ sym is ∙ e
       one q v false same e = are q v e
 
 pub one_template_more : (c : Contents) (m n : Named Template) (name : List ℕ) (found : Option Template) → AreTemplates m c → found ≡ newest c.desk.templates name → IsWithin n (put_some m name found) → AreTemplates n c
@@ -108,48 +108,48 @@ count_after c s m n next are within q k there =
       one true e = let same : s.number ≡ k = cc in sym same ∙ next ∙ sym (length-append (receipts_of c s.caller) (s.receipt ∷ []))
       one false e = are q k e
 
-services_after : KeepsWhatIsSeen → (desk : Desk) (now : ℕ) (command : Command) (change : DeskChange) → change ≡ said (ruling_on desk now command).change → changed desk command change ≡ (apply desk now command).desk → AreInOrder (changed desk command change)
-    → (m n : Named ServiceParts) → ((name : List ℕ) (s : ServiceParts) → get m name ≡ Some s → seen desk name ≡ Some s) → IsWithin n (with_changed m change)
-    → (name : List ℕ) (s : ServiceParts) → get n name ≡ Some s → seen (changed desk command change) name ≡ Some s
+services_after : KeepsWhatIsSeen → (desk : Desk) (now : ℕ) (command : Command) (change : DeskChange) → change ≡ change_of (ruling_on desk now command).change → desk_with desk command change ≡ (apply desk now command).desk → AreInOrder (desk_with desk command change)
+    → (m n : Named ServiceParts) → ((name : List ℕ) (s : ServiceParts) → get m name ≡ Some s → stored_service desk name ≡ Some s) → IsWithin n (with_changed m change)
+    → (name : List ℕ) (s : ServiceParts) → get n name ≡ Some s → stored_service (desk_with desk command change) name ≡ Some s
 services_after law desk now command Nothing is next_desk order m n are within = λ name s there. are name s (within name s there)
 services_after law desk now command (AddsTemplate template) is next_desk order m n are within = λ name s there. are name s (within name s there)
 services_after law desk now command (Updates s effects) is next_desk order m n are within = λ q v there.
-    one q v (is_it q s.stand.name) (equal_names q s.stand.name) refl
-    (sym (get-insert nat_list_cmp_total m s.stand.name s q) ∙ within q v there) where
+    one q v (is_it q s.service.name) (equal_names q s.service.name) refl
+    (sym (get-insert nat_list_cmp_total m s.service.name s q) ∙ within q v there) where
       next : Desk
-      next = changed desk command (Updates s effects)
+      next = desk_with desk command (Updates s effects)
 
-      brought : seen next (subject_of command) ≡ Some s
-      brought = subst (λ (d : Desk). seen d (subject_of command) ≡ Some s) (sym next_desk) (law desk now command s (ap kept_by (sym is)))
+      brought : stored_service next (subject_of command) ≡ Some s
+      brought = subst (λ (d : Desk). stored_service d (subject_of command) ≡ Some s) (sym next_desk) (law desk now command s (ap stored_by (sym is)))
 
-      named : s.stand.name ≡ subject_of command
-      named = let m = there_is (get next.services (subject_of command)) s brought in ap (λ (p : ServiceParts). p.stand.name) (sym m.1.1) ∙ (order.services (subject_of command) m.0 m.1.0).shown
+      named : s.service.name ≡ subject_of command
+      named = let m = there_is (get next.services (subject_of command)) s brought in ap (λ (p : ServiceParts). p.service.name) (sym m.1.1) ∙ (order.services (subject_of command) m.0 m.1.0).shown
 
       becomes : ModelService
-      becomes = after (get desk.services (subject_of command)) s.stand effects
+      becomes = after (get desk.services (subject_of command)) s.service effects
 
-      one : (q : List ℕ) (v : ServiceParts) (b : Bool) → (b ≡ true → q ≡ s.stand.name) → is_it q s.stand.name ≡ b → cond b (Some s) (get m q) ≡ Some v → seen next q ≡ Some v
-      one q v true same is_b e = ap (seen next) (same refl ∙ named) ∙ brought ∙ e
+      one : (q : List ℕ) (v : ServiceParts) (b : Bool) → (b ≡ true → q ≡ s.service.name) → is_it q s.service.name ≡ b → cond b (Some s) (get m q) ≡ Some v → stored_service next q ≡ Some v
+      one q v true same is_b e = ap (stored_service next) (same refl ∙ named) ∙ brought ∙ e
       one q v false same is_b e =
-          ap (option_map shape) (get-insert nat_list_cmp_total desk.services (subject_of command) becomes q ∙ ap (λ (b : Bool). cond b (Some becomes) (get desk.services q)) (ap (is_it q) (sym named) ∙ is_b)) ∙ are q v e
+          ap (option_map stored_form) (get-insert nat_list_cmp_total desk.services (subject_of command) becomes q ∙ ap (λ (b : Bool). cond b (Some becomes) (get desk.services q)) (ap (is_it q) (sym named) ∙ is_b)) ∙ are q v e
 
 -- a change that adds a revision is that of a command on its template
-no_revision : (r : Result Acted Refusal) (t : Template) → AddsTemplate t ≡ said (rules r).change → ⊥
+no_revision : (r : Result ModelResult Refusal) (t : Template) → AddsTemplate t ≡ change_of (rules r).change → ⊥
 no_revision (Ok a) t e = cc
 no_revision (Err refusal) t e = cc
 
-no_revision_of : (known : Templates) (found : Option Course) (now : ℕ) (command : Command) (t : Template) → AddsTemplate t ≡ said (rule_service known found now command).change → ⊥
-no_revision_of known None now command t e = no_revision _ t e
-no_revision_of known (Some c) now command t e = no_revision _ t e
+no_revision_of : (cached : Templates) (found : Option Evolution) (now : ℕ) (command : Command) (t : Template) → AddsTemplate t ≡ change_of (rule_service cached found now command).change → ⊥
+no_revision_of cached None now command t e = no_revision _ t e
+no_revision_of cached (Some c) now command t e = no_revision _ t e
 
-no_revision_on : (desk : Desk) (now : ℕ) (command : Command) (t : Template) → AddsTemplate t ≡ said (rule_service (newest desk.templates) (option_map course_of (get desk.services (subject_of command))) now command).change → ⊥
-no_revision_on desk now command t e = no_revision_of (newest desk.templates) (option_map course_of (get desk.services (subject_of command))) now command t e
+no_revision_on : (desk : Desk) (now : ℕ) (command : Command) (t : Template) → AddsTemplate t ≡ change_of (rule_service (newest desk.templates) (option_map model_evolution (get desk.services (subject_of command))) now command).change → ⊥
+no_revision_on desk now command t e = no_revision_of (newest desk.templates) (option_map model_evolution (get desk.services (subject_of command))) now command t e
 
-revision_added : (o : Option Refusal) (t u : Template) → AddsTemplate t ≡ said (adds_unless o u).change → t ≡ u
+revision_added : (o : Option Refusal) (t u : Template) → AddsTemplate t ≡ change_of (adds_unless o u).change → t ≡ u
 revision_added None t u e = cc
 revision_added (Some refusal) t u e = let never : ⊥ = cc in absurd never
 
-revised : (desk : Desk) (now : ℕ) (command : Command) (t : Template) → AddsTemplate t ≡ said (ruling_on desk now command).change → t.spec.name ≡ subject_of command
+revised : (desk : Desk) (now : ℕ) (command : Command) (t : Template) → AddsTemplate t ≡ change_of (ruling_on desk now command).change → t.spec.name ≡ subject_of command
 revised desk now (AddTemplate spec) t e = ap (λ (u : Template). u.spec.name) (revision_added _ t _ e)
 revised desk now (AddService spec) t e = absurd (no_revision_on desk now (AddService spec) t e)
 revised desk now (Start service version) t e = absurd (no_revision_on desk now (Start service version) t e)
@@ -169,18 +169,18 @@ others_stay desk u name m are q t there =
       one true e = let never : ⊥ = cc in absurd never
       one false e = are q t e
 
-templates_after : (desk : Desk) (now : ℕ) (command : Command) (change : DeskChange) → change ≡ said (ruling_on desk now command).change → (m n : Named Template) → ((name : List ℕ) (t : Template) → get m name ≡ Some t → newest desk.templates name ≡ Some t)
-    → n ≡ without_revised m change → (name : List ℕ) (t : Template) → get n name ≡ Some t → newest (changed desk command change).templates name ≡ Some t
+templates_after : (desk : Desk) (now : ℕ) (command : Command) (change : DeskChange) → change ≡ change_of (ruling_on desk now command).change → (m n : Named Template) → ((name : List ℕ) (t : Template) → get m name ≡ Some t → newest desk.templates name ≡ Some t)
+    → n ≡ without_revised m change → (name : List ℕ) (t : Template) → get n name ≡ Some t → newest (desk_with desk command change).templates name ≡ Some t
 templates_after desk now command Nothing is m n are same name t there = are name t (ap (λ (x : Named Template). get x name) (sym same) ∙ there)
 templates_after desk now command (Updates s effects) is m n are same name t there = are name t (ap (λ (x : Named Template). get x name) (sym same) ∙ there)
 templates_after desk now command (AddsTemplate u) is m n are same name t there =
     others_stay desk u (subject_of command) m are name t
     (ap (λ (k : List ℕ). get (remove m k) name) (sym (revised desk now command u is)) ∙ ap (λ (x : Named Template). get x name) (sym same) ∙ there)
 
-pub kept_after : KeepsWhatIsSeen → (c : Contents) (s : Settlement) (old new : Kept) → IsSettling c s → AreInOrder (with_settlement c s).desk → AreKept old c
+pub kept_after : KeepsWhatIsSeen → (c : Contents) (s : Settlement) (old new : Cache) → IsSettling c s → AreInOrder (with_settlement c s).desk → IsCacheOf old c
     → IsWithin new.counts (insert old.counts s.caller s.number) → IsWithin new.services (with_changed old.services s.change) → new.templates ≡ without_revised old.templates s.change
     → ((k : Contents) → AreReceipts old.receipts k → receipt_at k s.caller s.number ≡ Some s.receipt → AreReceipts new.receipts k)
-    → AreKept new (with_settlement c s)
+    → IsCacheOf new (with_settlement c s)
 kept_after law c s old new settling order are counts services templates receipts =
     record {
       counts = count_after c s old.counts new.counts settling.number are.counts counts;
@@ -191,7 +191,7 @@ kept_after law c s old new settling order are counts services templates receipts
 
 -- One is read.
 
-pub count_kept : (c : Contents) (old new : Kept) (caller : List ℕ) (count : ℕ) → AreKept old c → count ≡ count_of c caller → IsWithin new.counts (insert old.counts caller count) → new.services ≡ old.services → new.templates ≡ old.templates → new.receipts ≡ old.receipts → AreKept new c
+pub count_kept : (c : Contents) (old new : Cache) (caller : List ℕ) (count : ℕ) → IsCacheOf old c → count ≡ count_of c caller → IsWithin new.counts (insert old.counts caller count) → new.services ≡ old.services → new.templates ≡ old.templates → new.receipts ≡ old.receipts → IsCacheOf new c
 count_kept c old new caller count are is counts services templates receipts =
     record {
       counts = one_count_more c old.counts new.counts caller count are.counts is counts;
@@ -200,7 +200,7 @@ count_kept c old new caller count are is counts services templates receipts =
       receipts = subst (λ (m : Named NumberedReceipt). AreReceipts m c) (sym receipts) are.receipts;
     }
 
-pub service_kept : (c : Contents) (old new : Kept) (name : List ℕ) (found : Option ServiceParts) → AreKept old c → found ≡ seen c.desk name → new.counts ≡ old.counts → IsWithin new.services (put_some old.services name found) → new.templates ≡ old.templates → new.receipts ≡ old.receipts → AreKept new c
+pub service_kept : (c : Contents) (old new : Cache) (name : List ℕ) (found : Option ServiceParts) → IsCacheOf old c → found ≡ stored_service c.desk name → new.counts ≡ old.counts → IsWithin new.services (put_some old.services name found) → new.templates ≡ old.templates → new.receipts ≡ old.receipts → IsCacheOf new c
 service_kept c old new name found are is counts services templates receipts =
     record {
       counts = subst (λ (m : Named ℕ). AreCounts m c) (sym counts) are.counts;
@@ -209,7 +209,7 @@ service_kept c old new name found are is counts services templates receipts =
       receipts = subst (λ (m : Named NumberedReceipt). AreReceipts m c) (sym receipts) are.receipts;
     }
 
-pub template_kept : (c : Contents) (old new : Kept) (name : List ℕ) (found : Option Template) → AreKept old c → found ≡ newest c.desk.templates name → new.counts ≡ old.counts → new.services ≡ old.services → IsWithin new.templates (put_some old.templates name found) → new.receipts ≡ old.receipts → AreKept new c
+pub template_kept : (c : Contents) (old new : Cache) (name : List ℕ) (found : Option Template) → IsCacheOf old c → found ≡ newest c.desk.templates name → new.counts ≡ old.counts → new.services ≡ old.services → IsWithin new.templates (put_some old.templates name found) → new.receipts ≡ old.receipts → IsCacheOf new c
 template_kept c old new name found are is counts services templates receipts =
     record {
       counts = subst (λ (m : Named ℕ). AreCounts m c) (sym counts) are.counts;
@@ -218,8 +218,8 @@ template_kept c old new name found are is counts services templates receipts =
       receipts = subst (λ (m : Named NumberedReceipt). AreReceipts m c) (sym receipts) are.receipts;
     }
 
-pub receipt_kept : (c : Contents) (old new : Kept) (caller : List ℕ) (number : ℕ) (found : Option Receipt) → AreKept old c → found ≡ receipt_at c caller number → new.counts ≡ old.counts → new.services ≡ old.services → new.templates ≡ old.templates
-    → ((k : Contents) → AreReceipts old.receipts k → found ≡ receipt_at k caller number → AreReceipts new.receipts k) → AreKept new c
+pub receipt_kept : (c : Contents) (old new : Cache) (caller : List ℕ) (number : ℕ) (found : Option Receipt) → IsCacheOf old c → found ≡ receipt_at c caller number → new.counts ≡ old.counts → new.services ≡ old.services → new.templates ≡ old.templates
+    → ((k : Contents) → AreReceipts old.receipts k → found ≡ receipt_at k caller number → AreReceipts new.receipts k) → IsCacheOf new c
 receipt_kept c old new caller number found are is counts services templates receipts =
     record {
       counts = subst (λ (m : Named ℕ). AreCounts m c) (sym counts) are.counts;
@@ -230,12 +230,12 @@ receipt_kept c old new caller number found are is counts services templates rece
 
 -- what is kept of a database is that of one that contains the same
 -- what is kept once a request is settled
-pub settled_kept : KeepsWhatIsSeen → (old new : State) (s : Settlement) (before forgot after : Kept) → IsSettling (contents_in old) s → IsDesk new → contents_in new ≡ with_settlement (contents_in old) s → AreKept before (contents_in old)
+pub settled_kept : KeepsWhatIsSeen → (old new : State) (s : Settlement) (before forgot after : Cache) → IsSettling (contents_in old) s → IsDesk new → contents_in new ≡ with_settlement (contents_in old) s → IsCacheOf before (contents_in old)
     → forgot.counts ≡ before.counts → forgot.services ≡ before.services → forgot.templates ≡ without_revised before.templates s.change → IsWithin after.counts (insert forgot.counts s.caller s.number) → IsWithin after.services (with_changed forgot.services s.change) → after.templates ≡ forgot.templates
     → forgot.receipts ≡ before.receipts → ((k : Contents) → AreReceipts forgot.receipts k → receipt_at k s.caller s.number ≡ Some s.receipt → AreReceipts after.receipts k)
-    → AreKept after (contents_in new)
+    → IsCacheOf after (contents_in new)
 settled_kept law old new s before forgot after settling desk settled are counts services templates more_counts more_services same_templates same_receipts more_receipts =
-    subst (AreKept after) (sym settled)
+    subst (IsCacheOf after) (sym settled)
     (kept_after law (contents_in old) s before after settling (subst (λ (c : Contents). AreInOrder c.desk) settled desk.holds.lawful.desk) are
     (subst (λ (m : Named ℕ). IsWithin after.counts (insert m s.caller s.number)) counts more_counts)
     (subst (λ (m : Named ServiceParts). IsWithin after.services (with_changed m s.change)) services more_services)
@@ -244,7 +244,7 @@ settled_kept law old new s before forgot after settling desk settled are counts 
 
 -- A change of a service, by its parts.
 
-pub changed_so : (m n : Named ServiceParts) (change : DeskChange) (s : ServiceParts) (effects : List Effect) (name : List ℕ) → change ≡ Updates s effects → name ≡ s.stand.name → IsWithin n (insert m name s) → IsWithin n (with_changed m change)
+pub changed_so : (m n : Named ServiceParts) (change : DeskChange) (s : ServiceParts) (effects : List Effect) (name : List ℕ) → change ≡ Updates s effects → name ≡ s.service.name → IsWithin n (insert m name s) → IsWithin n (with_changed m change)
 changed_so m n change s effects name is named within =
     subst (λ (x : DeskChange). IsWithin n (with_changed m x)) (sym is) (subst (λ (k : List ℕ). IsWithin n (insert m k s)) named within)
 
@@ -263,7 +263,7 @@ none_of_nothing : {A : Type 0} (m : Named A) (k : List ℕ) (v : A) → m ≡ em
 none_of_nothing {A} m k v is e =
     let none : None ≡ Some v = sym (get-empty (slice_cmp nat_cmp) k) ∙ ap (λ (n : Named A). get n k) (sym is) ∙ e in cc
 
-pub nothing_kept : (kept : Kept) (c : Contents) → KeepsNothing kept → AreKept kept c
+pub nothing_kept : (kept : Cache) (c : Contents) → KeepsNothing kept → IsCacheOf kept c
 nothing_kept kept c nothing =
     record {
       counts = λ name count e. absurd (none_of_nothing kept.counts name count nothing.counts e);

@@ -10,25 +10,25 @@ use Rattle.canary_release.specs.declared.decide.DeskChange.{DeskChange}
 use Rattle.canary_release.specs.declared.decide.DeskChange.TheVariants.{Service as Updates}
 use Rattle.canary_once.specs.declared.book.Settlement.{Settlement}
 use Rattle.canary_once.specs.Contents.{IsSettling, with_settlement}
-use Rattle.canary_rows.specs.Tables.{Tables}
-use Rattle.canary_schema.specs.Cells.{tables_in}
-use Rattle.canary_schema.specs.Stores.{IsHeld, Stores, IsUsable}
-use Rattle.canary_schema.specs.Laws.{OneReading}
-use Rattle.canary_stored.specs.Reading.{contents_of, HoldsContents}
-use Rattle.canary_stored.specs.Settling.{begins, has_service, has_bindings, request_settled, IsReadableSettlement}
-use Rattle.canary_stored.specs.Laws.{RequestsFind, RequestsSettle}
-use Rattle.canary_reads.specs.Finds.{IsSame}
+use Rattle.canary_tables_rows.specs.Tables.{Tables}
+use Rattle.canary_tables_schema.specs.Cells.{tables_in}
+use Rattle.canary_tables_schema.specs.Stores.{IsHeld, Stores, IsUsable}
+use Rattle.canary_tables_schema.specs.Laws.{OneReading}
+use Rattle.canary_tables_contents.specs.Reading.{contents_of, HoldsContents}
+use Rattle.canary_tables_contents.specs.Settling.{begins, has_service, has_bindings, request_settled, IsReadableSettlement}
+use Rattle.canary_tables_contents.specs.Laws.{RequestsFind, RequestsSettle}
+use Rattle.canary_tables_read.specs.Finds.{IsSame}
 use Rattle.canary_tables.specs.Desk.{contents_in, IsDesk}
-use Rattle.canary_commits.specs.Commits.{IsThereSaid, IsBoundSaid, IsSaid, CommitAsks}
+use Rattle.canary_tables_write.specs.Commits.{IsThereSaid, IsBoundSaid, IsSaid, CommitAsks}
 
 -- what is said of the attempt of the service that the change names
-pub bound_said : {E : Type 0} (command : Command) (change : DeskChange) (s : ServiceParts) (effects : List Effect) (name : List ℕ) (t : Tables) (r : Result Bool E) → change ≡ Updates s effects → name ≡ s.stand.name → IfOk r (λ has. begins command ≡ true → has ≡ has_bindings name t)
+pub bound_said : {E : Type 0} (command : Command) (change : DeskChange) (s : ServiceParts) (effects : List Effect) (name : List ℕ) (t : Tables) (r : Result Bool E) → change ≡ Updates s effects → name ≡ s.service.name → IfOk r (λ has. begins command ≡ true → has ≡ has_bindings name t)
     → IfOk r (λ is_bound. IsBoundSaid is_bound command change t)
 bound_said command change s effects name t r is named told =
     subst (λ (x : DeskChange). IfOk r (λ (b : Bool). IsBoundSaid b command x t)) (sym is) (subst (λ (n : List ℕ). IfOk r (λ (has : Bool). begins command ≡ true → has ≡ has_bindings n t)) named told)
 
 -- what is said of the service that the change names
-pub there_said : {E : Type 0} (change : DeskChange) (s : ServiceParts) (effects : List Effect) (name : List ℕ) (t : Tables) (r : Result Bool E) → change ≡ Updates s effects → name ≡ s.stand.name → IfOk r (λ has. has ≡ has_service name t) → IfOk r (λ is_there. IsThereSaid is_there change t)
+pub there_said : {E : Type 0} (change : DeskChange) (s : ServiceParts) (effects : List Effect) (name : List ℕ) (t : Tables) (r : Result Bool E) → change ≡ Updates s effects → name ≡ s.service.name → IfOk r (λ has. has ≡ has_service name t) → IfOk r (λ is_there. IsThereSaid is_there change t)
 there_said change s effects name t r is named told =
     subst (λ (x : DeskChange). IfOk r (λ (b : Bool). IsThereSaid b x t)) (sym is) (subst (λ (n : List ℕ). IfOk r (λ (has : Bool). has ≡ has_service n t)) named told)
 

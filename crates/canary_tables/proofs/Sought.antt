@@ -2,7 +2,7 @@
 use Rattle.std.proofs.Common.{◌≡◌, ◌<◌, ℕ, zero, suc, List, [], ◌∷◌, length, map, get_or, Option, Some, None, option_map, refl, sym, ap, ◌∙◌, arith}
 use Rattle.std.specs.Prelude.{option_and_then}
 use Rattle.std.specs.List.{filter_map}
-use Rattle.canary_stored.specs.Finding.{IsFound, AreRead}
+use Rattle.canary_tables_contents.specs.Finding.{IsFound, AreRead}
 
 joined : {A : Type 0} (o : Option A) → option_and_then (λ (x : Option A). x) (option_map Some o) ≡ o
 joined None = refl

@@ -2,12 +2,12 @@
 use Rattle.std.proofs.Common.{◌≡◌, ap, sym, subst, ◌∙◌}
 use Rattle.sqlite.specs.State.{State}
 use Rattle.sqlite.specs.Effect.{Database}
-use Rattle.canary_schema.specs.Cells.{tables_in}
-use Rattle.canary_schema.specs.Stores.{IsUsable, IsHeld}
-use Rattle.canary_stored.specs.Reading.{contents_of, HoldsContents}
-use Rattle.canary_reads.specs.Finds.{IsSame}
-use Rattle.canary_tables.specs.declared.kept.Kept.{Kept}
-use Rattle.canary_tables.specs.Kept.{AreKept}
+use Rattle.canary_tables_schema.specs.Cells.{tables_in}
+use Rattle.canary_tables_schema.specs.Stores.{IsUsable, IsHeld}
+use Rattle.canary_tables_contents.specs.Reading.{contents_of, HoldsContents}
+use Rattle.canary_tables_read.specs.Finds.{IsSame}
+use Rattle.canary_tables.specs.declared.cache.Cache.{Cache}
+use Rattle.canary_tables.specs.Caches.{IsCacheOf}
 use Rattle.canary_tables.specs.Desk.{IsDesk, contents_in}
 
 -- it stays a desk
@@ -32,5 +32,5 @@ pub tables_stay : (old new : State) → IsSame old new → IsUsable new → tabl
 tables_stay old new same usable = ap (λ (db : Database). tables_in db) (same usable).1
 
 -- and what is kept of it is what it contains
-pub kept_stays : (old new : State) (kept : Kept) → (IsUsable old → AreKept kept (contents_in old)) → IsSame old new → IsUsable new → AreKept kept (contents_in new)
-kept_stays old new kept are same usable = subst (AreKept kept) (sym (contents_stay old new same usable)) (are (same usable).0)
+pub kept_stays : (old new : State) (kept : Cache) → (IsUsable old → IsCacheOf kept (contents_in old)) → IsSame old new → IsUsable new → IsCacheOf kept (contents_in new)
+kept_stays old new kept are same usable = subst (IsCacheOf kept) (sym (contents_stay old new same usable)) (are (same usable).0)

@@ -26,28 +26,28 @@ answers_alike m n same = same_map nat_list_cmp_total names_are_told_apart m n sa
 
 -- What is found under a name.
 
-same_known : (known : Templates) (name q : List ℕ) → bytes_eq q name ≡ true → known name ≡ known q
-same_known known name q e = sym (ap known ((bytes_eq-Decides q name).0 e))
+same_known : (cached : Templates) (name q : List ℕ) → bytes_eq q name ≡ true → cached name ≡ cached q
+same_known cached name q e = sym (ap cached ((bytes_eq-Decides q name).0 e))
 
-found_or : (known : Templates) (name q : List ℕ) (t : Template) (rest : Option Template) (a b : Bool) → known name ≡ Some t → bytes_eq q name ≡ b → rest ≡ cond a (known q) None → cond b (Some t) rest ≡ cond (b || a) (known q) None
-found_or known name q t rest a true is same e = sym is ∙ same_known known name q same
-found_or known name q t rest a false is same e = e
+found_or : (cached : Templates) (name q : List ℕ) (t : Template) (rest : Option Template) (a b : Bool) → cached name ≡ Some t → bytes_eq q name ≡ b → rest ≡ cond a (cached q) None → cond b (Some t) rest ≡ cond (b || a) (cached q) None
+found_or cached name q t rest a true is same e = sym is ∙ same_known cached name q same
+found_or cached name q t rest a false is same e = e
 
-none_or : (known : Templates) (name q : List ℕ) (rest : Option Template) (a b : Bool) → known name ≡ None → bytes_eq q name ≡ b → rest ≡ cond a (known q) None → rest ≡ cond (b || a) (known q) None
-none_or known name q rest true true is same e = e
-none_or known name q rest false true is same e = e ∙ sym is ∙ same_known known name q same
-none_or known name q rest a false is same e = e
+none_or : (cached : Templates) (name q : List ℕ) (rest : Option Template) (a b : Bool) → cached name ≡ None → bytes_eq q name ≡ b → rest ≡ cond a (cached q) None → rest ≡ cond (b || a) (cached q) None
+none_or cached name q rest true true is same e = e
+none_or cached name q rest false true is same e = e ∙ sym is ∙ same_known cached name q same
+none_or cached name q rest a false is same e = e
 
-put_got : (m : NameMap) (known : Templates) (name q : List ℕ) (o : Option Template) (a : Bool) → known name ≡ o → get m q ≡ cond a (known q) None → get (put_some m name o) q ≡ cond (bytes_eq q name || a) (known q) None
-put_got m known name q None a is e = none_or known name q (get m q) a (bytes_eq q name) is refl e
-put_got m known name q (Some t) a is e =
+put_got : (m : NameMap) (cached : Templates) (name q : List ℕ) (o : Option Template) (a : Bool) → cached name ≡ o → get m q ≡ cond a (cached q) None → get (put_some m name o) q ≡ cond (bytes_eq q name || a) (cached q) None
+put_got m cached name q None a is e = none_or cached name q (get m q) a (bytes_eq q name) is refl e
+put_got m cached name q (Some t) a is e =
     get-insert nat_list_cmp_total m name t q
     ∙ ap (λ b. cond b (Some t) (get m q)) (is_eq-slice_cmp q name)
-    ∙ found_or known name q t (get m q) a (bytes_eq q name) is refl e
+    ∙ found_or cached name q t (get m q) a (bytes_eq q name) is refl e
 
-got : (known : Templates) (names : List (List ℕ)) (q : List ℕ) → get (known_named known names) q ≡ cond (list_any (bytes_eq q) names) (known q) None
-got known [] q = get-empty (slice_cmp nat_cmp) q
-got known (name ∷ names) q = put_got (known_named known names) known name q (known name) (list_any (bytes_eq q) names) refl (got known names q)
+got : (cached : Templates) (names : List (List ℕ)) (q : List ℕ) → get (known_named cached names) q ≡ cond (list_any (bytes_eq q) names) (cached q) None
+got cached [] q = get-empty (slice_cmp nat_cmp) q
+got cached (name ∷ names) q = put_got (known_named cached names) cached name q (cached name) (list_any (bytes_eq q) names) refl (got cached names q)
 
 -- One name more.
 
@@ -60,17 +60,17 @@ one_more names name q = list_any-append (bytes_eq q) names (name ∷ []) ∙ fir
     first false true = refl
     first false false = refl
 
-put_behind : (known : Templates) (names : List (List ℕ)) (name : List ℕ) → put_some (known_named known names) name (known name) ≡ known_named known (names ++ name ∷ [])
-put_behind known names name =
-    answers_alike (put_some (known_named known names) name (known name)) (known_named known (names ++ name ∷ [])) (λ q.
-    put_got (known_named known names) known name q (known name) (list_any (bytes_eq q) names) refl (got known names q)
-    ∙ sym (got known (names ++ name ∷ []) q ∙ ap (λ b. cond b (known q) None) (one_more names name q)))
+put_behind : (cached : Templates) (names : List (List ℕ)) (name : List ℕ) → put_some (known_named cached names) name (cached name) ≡ known_named cached (names ++ name ∷ [])
+put_behind cached names name =
+    answers_alike (put_some (known_named cached names) name (cached name)) (known_named cached (names ++ name ∷ [])) (λ q.
+    put_got (known_named cached names) cached name q (cached name) (list_any (bytes_eq q) names) refl (got cached names q)
+    ∙ sym (got cached (names ++ name ∷ []) q ∙ ap (λ b. cond b (cached q) None) (one_more names name q)))
 
 -- the step of a loop over the names
-pub found_more : (known : Templates) (found new : NameMap) (names : List (List ℕ)) (i : ℕ) (name : List ℕ) (o : Option Template) → i < length names → name ≡ get_or names i name → found ≡ known_named known (take i names) → o ≡ known name → new ≡ put_some found name o → new ≡ known_named known (take (i + 1) names)
-found_more known found new names i name o lt at before there is =
+pub found_more : (cached : Templates) (found new : NameMap) (names : List (List ℕ)) (i : ℕ) (name : List ℕ) (o : Option Template) → i < length names → name ≡ get_or names i name → found ≡ known_named cached (take i names) → o ≡ cached name → new ≡ put_some found name o → new ≡ known_named cached (take (i + 1) names)
+found_more cached found new names i name o lt at before there is =
     is
     ∙ ap (λ (f : NameMap). put_some f name o) before
-    ∙ ap (put_some (known_named known (take i names)) name) there
-    ∙ put_behind known (take i names) name
-    ∙ ap (known_named known) (sym (take_more names i name lt ∙ ap (λ (n : List ℕ). take i names ++ n ∷ []) (sym at)))
+    ∙ ap (put_some (known_named cached (take i names)) name) there
+    ∙ put_behind cached (take i names) name
+    ∙ ap (known_named cached) (sym (take_more names i name lt ∙ ap (λ (n : List ℕ). take i names ++ n ∷ []) (sym at)))

@@ -4,16 +4,16 @@ use Rattle.sqlite.specs.Effect.{Database}
 use Rattle.sqlite.specs.Held.{state}
 use Rattle.sqlite.specs.State.{State}
 use Rattle.sqlite_trees.specs.declared.store.Store.{Ghosts}
-use Rattle.canary_rows.specs.Limits.{AreWithin}
-use Rattle.canary_rows.specs.Tables.{Tables}
-use Rattle.canary_schema.specs.declared.fault.StoreFault.{StoreFault}
-use Rattle.canary_schema.specs.Formed.{IsDeskSchema, IsFormed}
-use Rattle.canary_schema.specs.Numbered.{IsLeft}
-use Rattle.canary_schema.specs.Stores.{IsUsable, IsHeld}
-use Rattle.canary_judging.specs.Soundness.{AreSoundTables}
-use Rattle.canary_reads.specs.Meta.{HasMetaRow}
-use Rattle.canary_tables.specs.declared.fault.Left.{Left}
-use Rattle.canary_tables.specs.declared.fault.Left.TheVariants as left
+use Rattle.canary_tables_rows.specs.Limits.{AreWithin}
+use Rattle.canary_tables_rows.specs.Tables.{Tables}
+use Rattle.canary_tables_schema.specs.declared.fault.StoreFault.{StoreFault}
+use Rattle.canary_tables_schema.specs.Formed.{IsDeskSchema, IsFormed}
+use Rattle.canary_tables_schema.specs.Numbered.{IsLeft}
+use Rattle.canary_tables_schema.specs.Stores.{IsUsable, IsHeld}
+use Rattle.canary_tables_contents.specs.Soundness.{AreSoundTables}
+use Rattle.canary_tables_read.specs.Meta.{HasMetaRow}
+use Rattle.canary_tables.specs.declared.fault.Unadopted.{Unadopted}
+use Rattle.canary_tables.specs.declared.fault.Unadopted.TheVariants as left
 use Rattle.canary_tables.specs.declared.fault.TableFault.{TableFault}
 use Rattle.canary_tables.specs.Desk.{contents_in}
 use Rattle.canary_tables.specs.Faults.{fault_of_store}
@@ -48,22 +48,22 @@ pub record IsAdopted (old new : State) : Type 0 where
 -- What is left where there is no book.
 
 -- a connection tells what its tables are; a store alone is not asked
-abbrev pub TellsTables : {S : Type 0} → Ghosts S → Left S → Type 0
+abbrev pub TellsTables : {S : Type 0} → Ghosts S → Unadopted S → Type 0
 TellsTables g (left.Connection conn) = IsUsable (state g conn)
 TellsTables g (left.Store store) = Unit {0}
 
 -- the database is as it was; so are all trees of a store alone, which is clean and open
-abbrev pub LeavesRows : {S : Type 0} → Ghosts S → State → Left S → Type 0
+abbrev pub LeavesRows : {S : Type 0} → Ghosts S → State → Unadopted S → Type 0
 LeavesRows g old (left.Connection conn) =
     IsUsable (state g conn) → IsUsable old × ((state g conn).now ≡ old.now)
 LeavesRows g old (left.Store store) = IsLeft old (g.view store)
 
 -- a store alone is left only where memory or the store failed
-abbrev pub IsLeftBy : {S : Type 0} → TableFault → Left S → Type 0
+abbrev pub IsLeftBy : {S : Type 0} → TableFault → Unadopted S → Type 0
 IsLeftBy f (left.Connection conn) = Unit {0}
 IsLeftBy f (left.Store store) = (cause : StoreFault) × (f ≡ fault_of_store cause)
 
 -- a connection stands outside a transaction; a store alone has none
-abbrev pub IsOutside : {S : Type 0} → Left S → Type 0
+abbrev pub IsOutside : {S : Type 0} → Unadopted S → Type 0
 IsOutside (left.Connection conn) = conn.in_transaction ≡ false
 IsOutside (left.Store store) = Unit {0}

@@ -4,18 +4,18 @@ use Rattle.sqlite.specs.Held.{Held, state}
 use Rattle.sqlite.specs.State.{State}
 use Rattle.sqlite_trees.specs.declared.store.Store.{Ghosts}
 use Rattle.canary_once.specs.Contents.{Contents}
-use Rattle.canary_once.specs.Books.{BookState}
+use Rattle.canary_once.specs.BookCalls.{BookState}
 use Rattle.canary_plan.specs.declared.service.ServiceSpec.{ServiceSpec}
 use Rattle.canary_plan.specs.Plans.{strategy_of}
-use Rattle.canary_rows.specs.Tables.{is_service}
-use Rattle.canary_schema.specs.Cells.{tables_in}
-use Rattle.canary_schema.specs.Stores.{IsUsable, Stores}
-use Rattle.canary_stored.specs.Finding.{strategy_by}
-use Rattle.canary_stored.specs.Reading.{contents_of, first_row, HoldsContents}
+use Rattle.canary_tables_rows.specs.Tables.{is_service}
+use Rattle.canary_tables_schema.specs.Cells.{tables_in}
+use Rattle.canary_tables_schema.specs.Stores.{IsUsable, Stores}
+use Rattle.canary_tables_contents.specs.Finding.{strategy_by}
+use Rattle.canary_tables_contents.specs.Reading.{contents_of, first_row, HoldsContents}
 use Rattle.canary_tables.specs.declared.notes.Notes.{Notes}
 use Rattle.canary_tables.specs.Notes.{AreTrue}
-use Rattle.canary_tables.specs.declared.kept.Kept.{Kept}
-use Rattle.canary_tables.specs.Kept.{AreKept}
+use Rattle.canary_tables.specs.declared.cache.Cache.{Cache}
+use Rattle.canary_tables.specs.Caches.{IsCacheOf}
 
 -- what a database contains, whatever it is
 abbrev pub contents_in : State → Contents
@@ -48,9 +48,9 @@ book_state g h =
 
 -- a book's connection stands outside a transaction, over a desk's database. Its notes hold of that,
 -- and what it keeps is what that contains
-pub record IsBook {S : Type 0} (g : Ghosts S) (h : Held S) (notes : Notes) (keeps : Kept)
+pub record IsBook {S : Type 0} (g : Ghosts S) (h : Held S) (notes : Notes) (keeps : Cache)
     : Type 0 where
   pub autocommit : h.in_transaction ≡ false
   pub desk : IsUsable (state g h) → IsDesk (state g h)
   pub noted : IsUsable (state g h) → AreTrue (state g h).now notes
-  pub kept : IsUsable (state g h) → AreKept keeps (contents_in (state g h))
+  pub kept : IsUsable (state g h) → IsCacheOf keeps (contents_in (state g h))

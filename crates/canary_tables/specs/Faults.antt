@@ -1,12 +1,12 @@
 -- What the faults of a statement and of a read come to.
 use Rattle.canary_once.specs.declared.book.BookFault.{BookFault}
 use Rattle.canary_once.specs.declared.book.BookFault.TheVariants as book
-use Rattle.canary_stored.specs.declared.fault.RowFault.{RowFault}
-use Rattle.canary_stored.specs.declared.fault.RowFault.TheVariants as row
-use Rattle.canary_schema.specs.declared.fault.StoreFault.{StoreFault}
-use Rattle.canary_schema.specs.declared.fault.StoreFault.TheVariants as store
-use Rattle.canary_reads.specs.declared.fault.ReadFault.{ReadFault}
-use Rattle.canary_reads.specs.declared.fault.ReadFault.TheVariants as read
+use Rattle.canary_tables_contents.specs.declared.fault.RowFault.{RowFault}
+use Rattle.canary_tables_contents.specs.declared.fault.RowFault.TheVariants as row
+use Rattle.canary_tables_schema.specs.declared.fault.StoreFault.{StoreFault}
+use Rattle.canary_tables_schema.specs.declared.fault.StoreFault.TheVariants as store
+use Rattle.canary_tables_read.specs.declared.fault.ReadFault.{ReadFault}
+use Rattle.canary_tables_read.specs.declared.fault.ReadFault.TheVariants as read
 use Rattle.canary_tables.specs.declared.fault.TableFault.{TableFault}
 use Rattle.canary_tables.specs.declared.fault.TableFault.TheVariants.{Memory, Storage, BrokenRow}
 

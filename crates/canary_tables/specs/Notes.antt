@@ -1,7 +1,7 @@
 -- What a book has noted of its tables.
 use Rattle.std.specs.Prelude.{ℕ, ℤ, List, None, IfSome}
 use Rattle.sqlite.specs.Effect.{Database}
-use Rattle.canary_reads.specs.Places.{IsMark}
+use Rattle.canary_tables_read.specs.Places.{IsMark}
 use Rattle.canary_tables.specs.declared.notes.Mark.{Mark}
 use Rattle.canary_tables.specs.declared.notes.Notes.{Notes}
 

@@ -1,34 +1,34 @@
 //! A book over a database that has a desk's tables.
 ghost use Rattle.std.specs.Prelude.{◌≡◌, ◌≢◌, ◌↔◌, false, IsTrue, IfOk, IfErr, OnOk, Err};
 ghost use Rattle.sqlite.specs.Held.{state};
-ghost use Rattle.canary_schema.specs.Formed.{IsDeskSchema, IsRising, IsFormed, HasRows};
-ghost use Rattle.canary_schema.specs.Formed.{HasWholeTallies};
-ghost use Rattle.canary_schema.specs.Stores.{IsUsable};
-ghost use Rattle.canary_reads.specs.Finds.{IsSame};
+ghost use Rattle.canary_tables_schema.specs.Formed.{IsDeskSchema, IsRising, IsFormed, HasRows};
+ghost use Rattle.canary_tables_schema.specs.Formed.{HasWholeTallies};
+ghost use Rattle.canary_tables_schema.specs.Stores.{IsUsable};
+ghost use Rattle.canary_tables_read.specs.Finds.{IsSame};
 ghost use Rattle.canary_tables.specs.Adopts.{HasDeskTables, HasSoundRowsWithin};
 ghost use Rattle.canary_tables.specs.Adopts.{IsBelieved, IsAdopted, TellsTables, LeavesRows};
 ghost use Rattle.canary_tables.specs.Adopts.{IsLeftBy, IsOutside};
 ghost use Rattle.canary_tables.specs.declared.fault.TableFault.TheVariants as fault;
 
 use crate::book::{DEFAULT_ROOM, TableBook};
-use crate::fault::{Left, TableFault};
-use crate::kept::Kept;
+use crate::cache::Cache;
+use crate::fault::{TableFault, Unadopted};
 use crate::notes::Notes;
-use canary_adopting::judge::judge;
-use canary_adopting::progress::Progress;
-use canary_judging::laws as judging_laws;
-use canary_reads::meta::{MetaRow, desk_row};
-use canary_reads::typed::typed;
-use canary_schema::anew::open_anew;
-use canary_schema::known::is_desk;
-use canary_schema::laws as schema_laws;
+use canary_tables_adopt::progress::JudgingProgress;
+use canary_tables_adopt::validate::validate;
+use canary_tables_contents::judged_laws as judging_laws;
+use canary_tables_read::check_types::check_types;
+use canary_tables_read::meta::{MetaRow, desk_row};
+use canary_tables_schema::laws as schema_laws;
+use canary_tables_schema::recognize::is_desk;
+use canary_tables_schema::reopen::reopen;
 use sqlite::{Alter, Connection};
 use std::alloc::Global;
 
 // Reads whether the rows are those of tables, whichever they are.
 fn has_rows<S: Alter>(conn: &mut Connection<S>, is_whole: bool) -> Result<(), TableFault>
     requires autocommit { conn.old.in_transaction ≡ false }
-    requires known { IsDeskSchema (state S.Store conn.old).now.schema }
+    requires recognized { IsDeskSchema (state S.Store conn.old).now.schema }
     requires numbered { IsUsable (state S.Store conn.old)
         → IsRising (state S.Store conn.old).now }
     requires whole { IsUsable (state S.Store conn.old)
@@ -54,19 +54,19 @@ fn has_rows<S: Alter>(conn: &mut Connection<S>, is_whole: bool) -> Result<(), Ta
     if !is_whole {
         return Err(TableFault::BrokenRow);
     }
-    typed(conn)?;
+    check_types(conn)?;
     Ok(())
 }
 
 // Believes rows that are those of tables of sound contents. Nothing is changed.
-fn believe<S: Alter, G: Progress>(
+fn validate_tables<S: Alter, G: JudgingProgress>(
     conn: &mut Connection<S>,
     alloc: Global,
     is_whole: bool,
     progress: &mut G,
 ) -> Result<(), TableFault>
     requires autocommit { conn.old.in_transaction ≡ false }
-    requires known { IsDeskSchema (state S.Store conn.old).now.schema }
+    requires recognized { IsDeskSchema (state S.Store conn.old).now.schema }
     requires numbered { IsUsable (state S.Store conn.old)
         → IsRising (state S.Store conn.old).now }
     requires whole { IsUsable (state S.Store conn.old)
@@ -85,7 +85,7 @@ fn believe<S: Alter, G: Progress>(
     judging_laws::judging();
     schema_laws::one_reading();
     has_rows(conn, is_whole)?;
-    judge(conn, alloc, progress)?;
+    validate(conn, alloc, progress)?;
     Ok(())
 }
 
@@ -101,11 +101,11 @@ impl<S: Alter + Drop> TableBook<S> {
     /// as with a second row in meta; `Memory` where an allocation was refused; `Storage` where the
     /// store failed, or the connection stands inside a transaction. What is left of the connection
     /// is handed back, with the database as it was.
-    pub fn adopt<G: Progress>(
+    pub fn adopt<G: JudgingProgress>(
         alloc: Global,
         conn: Connection<S>,
         progress: &mut G,
-    ) -> Result<TableBook<S>, (TableFault, Left<S>)>
+    ) -> Result<TableBook<S>, (TableFault, Unadopted<S>)>
         ensures adopted { IfOk result (λ book. IsUsable (state S.Store book)
             → IsAdopted (state S.Store conn) (state S.Store book)) }
         ensures other { IfErr result (λ e. e.0 ≡ fault.OtherSchema → TellsTables S.Store e.1
@@ -121,26 +121,26 @@ impl<S: Alter + Drop> TableBook<S> {
     {
         schema_laws::one_reading();
         if !conn.is_autocommit() {
-            return Err((TableFault::Storage, Left::Connection(conn)));
+            return Err((TableFault::Storage, Unadopted::Connection(conn)));
         }
         if !is_desk(conn.schema()) {
-            return Err((TableFault::OtherSchema, Left::Connection(conn)));
+            return Err((TableFault::OtherSchema, Unadopted::Connection(conn)));
         }
-        let (mut conn, is_whole) = match open_anew(alloc, conn) {
+        let (mut conn, is_whole) = match reopen(alloc, conn) {
             Ok(opened) => opened,
-            Err((fault, store)) => return Err((fault.into(), Left::Store(store))),
+            Err((fault, store)) => return Err((fault.into(), Unadopted::Store(store))),
         };
         if !is_desk(conn.schema()) {
-            return Err((TableFault::Storage, Left::Connection(conn)));
+            return Err((TableFault::Storage, Unadopted::Connection(conn)));
         }
-        match believe(&mut conn, alloc, is_whole, progress) {
+        match validate_tables(&mut conn, alloc, is_whole, progress) {
             Ok(()) => Ok(TableBook {
                 alloc,
                 conn,
                 notes: Notes::none(),
-                kept: Kept::new(alloc, DEFAULT_ROOM),
+                cache: Cache::new(alloc, DEFAULT_ROOM),
             }),
-            Err(fault) => Err((fault, Left::Connection(conn))),
+            Err(fault) => Err((fault, Unadopted::Connection(conn))),
         }
     }
 }

@@ -1,12 +1,12 @@
 //! A book over a connection to SQLite.
 ghost use Rattle.std.specs.Prelude.{◌≡◌};
 ghost use Rattle.canary_once.specs.declared.book.BookFault.TheVariants as book_fault;
-ghost use Rattle.canary_schema.specs.declared.fault.StoreFault.TheVariants as store_fault;
+ghost use Rattle.canary_tables_schema.specs.declared.fault.StoreFault.TheVariants as store_fault;
 ghost use Rattle.canary_tables.specs.Faults.{book_fault_of};
 
-use crate::kept::Kept;
+use crate::cache::Cache;
 use crate::notes::Notes;
-use crate::{found_runs, known, pages};
+use crate::{cached, load_runs, pages};
 use canary_base::lists::Listed;
 use canary_base::names::Name;
 use canary_base::numbers::Number;
@@ -17,7 +17,7 @@ use canary_plan::line::Line;
 use canary_plan::templates::Templates;
 use canary_release::effect::Recorded;
 use canary_release::service::Service;
-use canary_schema::fault::StoreFault;
+use canary_tables_schema::fault::StoreFault;
 use sqlite::{Alter, Connection};
 use std::alloc::Global;
 use std::marker::Model;
@@ -31,7 +31,7 @@ pub struct TableBook<S: Alter> {
     pub(crate) alloc: Global,
     pub(crate) conn: Connection<S>,
     pub(crate) notes: Notes,
-    pub(crate) kept: Kept,
+    pub(crate) cache: Cache,
 }
 
 impl<S: Alter> Model for TableBook<S> {
@@ -44,7 +44,7 @@ impl<S: Alter> Model for TableBook<S> {
 
     ghost view = { λ b. b.conn };
 
-    ghost invariant = { λ b. IsBook S.Store b.conn b.notes b.kept };
+    ghost invariant = { λ b. IsBook S.Store b.conn b.notes b.cache };
 }
 
 /// The fault of a book that a fault of its store comes to, under the same name.
@@ -71,7 +71,7 @@ impl<S: Alter> TableBook<S> {
         ensures { result ≡ self }
     {
         let mut book = self;
-        book.kept = Kept::new(book.alloc, bytes);
+        book.cache = Cache::new(book.alloc, bytes);
         book
     }
 }
@@ -83,24 +83,24 @@ impl<S: Alter> Book for TableBook<S> {
 
     // How many requests of the caller are settled, from the cache or else from the tables.
     fn settled(&mut self, caller: &Name) -> Result<u32, BookFault> {
-        known::count(&mut self.conn, &mut self.kept, caller).map_err(book_fault)
+        cached::count(&mut self.conn, &mut self.cache, caller).map_err(book_fault)
     }
 
     // The receipt under that number of the caller, from the cache or else from the tables.
     fn receipt(&mut self, caller: &Name, number: Number) -> Result<Option<Receipt>, BookFault> {
-        known::receipt(&mut self.conn, self.alloc, &mut self.kept, caller, number).map_err(
+        cached::receipt(&mut self.conn, self.alloc, &mut self.cache, caller, number).map_err(
             book_fault,
         )
     }
 
     // The newest revisions of these templates, each from the cache or else from the tables.
     fn templates(&mut self, names: &[Name]) -> Result<Templates, BookFault> {
-        known::templates(&mut self.conn, self.alloc, &mut self.kept, names).map_err(book_fault)
+        cached::templates(&mut self.conn, self.alloc, &mut self.cache, names).map_err(book_fault)
     }
 
     // The service of that name, from the cache or else from the tables.
     fn service(&mut self, name: &Name) -> Result<Option<Service>, BookFault> {
-        known::service(&mut self.conn, self.alloc, &mut self.kept, name).map_err(book_fault)
+        cached::service(&mut self.conn, self.alloc, &mut self.cache, name).map_err(book_fault)
     }
 
     // The history of the service, always from the tables.
@@ -110,7 +110,7 @@ impl<S: Alter> Book for TableBook<S> {
 
     // The run of that number, always from the tables.
     fn run(&mut self, name: &Name, number: Number) -> Result<Option<RunRecord>, BookFault> {
-        found_runs::run(&mut self.conn, self.alloc, name, number).map_err(book_fault)
+        load_runs::run(&mut self.conn, self.alloc, name, number).map_err(book_fault)
     }
 
     // A page of measurements, read on from the place where the last page ended, if that is noted.
@@ -133,12 +133,12 @@ impl<S: Alter> Book for TableBook<S> {
     // Settles the request. All notes go first, and all that is cached goes if that fails.
     fn commit(&mut self, settlement: Settlement) -> Result<(), BookFault> {
         laws::settlements();
-        let _ = settlement.number.get();
+        let _limits = settlement.number.get();
         self.notes = Notes::none();
-        match known::commit(&mut self.conn, self.alloc, &mut self.kept, settlement) {
+        match cached::commit(&mut self.conn, self.alloc, &mut self.cache, settlement) {
             Ok(()) => Ok(()),
             Err(fault) => {
-                self.kept.forget(self.alloc);
+                self.cache.forget(self.alloc);
                 Err(book_fault(fault))
             }
         }

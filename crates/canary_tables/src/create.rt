@@ -2,18 +2,18 @@
 ghost use Rattle.std.specs.Prelude.{◌≡◌, ◌≢◌, true, false, IfOk, IfErr, IsErrAnd};
 ghost use Rattle.sqlite.specs.Held.{state};
 ghost use Rattle.canary_once.specs.Contents.{no_contents};
-ghost use Rattle.canary_schema.specs.Schema.{no_schema};
-ghost use Rattle.canary_schema.specs.Stores.{IsUsable};
+ghost use Rattle.canary_tables_schema.specs.Schema.{no_schema};
+ghost use Rattle.canary_tables_schema.specs.Stores.{IsUsable};
 ghost use Rattle.canary_tables.specs.Desk.{contents_in};
 ghost use Rattle.canary_tables.specs.declared.fault.TableFault.TheVariants as fault;
 
 use crate::book::{DEFAULT_ROOM, TableBook};
+use crate::cache::Cache;
 use crate::fault::TableFault;
-use crate::kept::Kept;
 use crate::notes::Notes;
-use canary_schema::known::is_empty;
-use canary_schema::{create, laws as schema_laws};
-use canary_stored::laws;
+use canary_tables_contents::laws;
+use canary_tables_schema::recognize::is_empty;
+use canary_tables_schema::{create, laws as schema_laws};
 use sqlite::{Alter, Connection};
 use std::alloc::Global;
 
@@ -63,7 +63,7 @@ impl<S: Alter> TableBook<S> {
                 alloc,
                 conn,
                 notes: Notes::none(),
-                kept: Kept::new(alloc, DEFAULT_ROOM),
+                cache: Cache::new(alloc, DEFAULT_ROOM),
             }),
             Err(fault) => Err((fault.into(), conn)),
         }

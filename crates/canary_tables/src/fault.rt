@@ -1,6 +1,6 @@
 //! Why there is no book over a database, and what is left then.
-use canary_reads::fault::ReadFault;
-use canary_schema::fault::StoreFault;
+use canary_tables_read::fault::ReadFault;
+use canary_tables_schema::fault::StoreFault;
 use sqlite::{Alter, Connection};
 use thiserror::Error;
 
@@ -57,7 +57,7 @@ impl From<ReadFault> for TableFault {
 
 /// What is left of a connection where there is no book over it.
 #[derive(Drop)]
-pub enum Left<S: Alter> {
+pub enum Unadopted<S: Alter> {
     /// A connection to the database.
     Connection(Connection<S>),
     /// The store alone, over which no connection could be opened again.

@@ -1,8 +1,8 @@
 //! A law over every book over tables.
 ghost use Rattle.sqlite.specs.Held.{state};
-ghost use Rattle.canary_schema.specs.Cells.{tables_in};
-ghost use Rattle.canary_schema.specs.Stores.{IsUsable, Stores};
-ghost use Rattle.canary_stored.specs.Reading.{HoldsContents};
+ghost use Rattle.canary_tables_schema.specs.Cells.{tables_in};
+ghost use Rattle.canary_tables_schema.specs.Stores.{IsUsable, Stores};
+ghost use Rattle.canary_tables_contents.specs.Reading.{HoldsContents};
 
 use crate::book::TableBook;
 use sqlite::Alter;
@@ -15,5 +15,5 @@ pub fn tables<S: Alter>(book: &TableBook<S>)
     ensures holds { IsUsable (state S.Store book.now)
         → HoldsContents (tables_in (state S.Store book.now).now) }
 {
-    let _ = book.conn.is_autocommit();
+    let _settled = book.conn.is_autocommit();
 }

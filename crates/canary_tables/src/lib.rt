@@ -6,7 +6,7 @@
 //! rows are those of sound contents alone; a fault hands back the connection or its store, with the
 //! database as it was. What `open` opens no contract says.
 //!
-//! In use (canary_database, src/open.rt):
+//! In use (canary_cli, src/file/open.rt):
 //!
 //!     let opened = TableBook::open(rt, file, &mut shown);
 //!     shown.end();
@@ -18,16 +18,16 @@
 
 pub mod adopt;
 pub mod book;
+mod cache;
+mod cache_map;
+mod cached;
 pub mod create;
-mod entries;
 pub mod fault;
-mod found;
-mod found_plans;
-mod found_runs;
-mod found_services;
-mod kept;
-mod known;
 pub mod laws;
+mod load;
+mod load_plans;
+mod load_runs;
+mod load_services;
 mod names;
 mod notes;
 pub mod open;

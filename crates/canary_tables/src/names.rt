@@ -1,17 +1,17 @@
 //! Which services a book has.
 ghost use Rattle.std.specs.Prelude.{◌≡◌, false, map, IfOk};
 ghost use Rattle.sqlite.specs.Held.{state};
-ghost use Rattle.canary_reads.specs.Finds.{IsSame};
-ghost use Rattle.canary_schema.specs.Cells.{tables_in};
-ghost use Rattle.canary_schema.specs.Stores.{IsUsable};
+ghost use Rattle.canary_tables_read.specs.Finds.{IsSame};
+ghost use Rattle.canary_tables_schema.specs.Cells.{tables_in};
+ghost use Rattle.canary_tables_schema.specs.Stores.{IsUsable};
 ghost use Rattle.canary_tables.specs.Desk.{IsDesk};
 
 use crate::book::{TableBook, book_fault};
 use canary_base::lists::Listed;
 use canary_base::names::Name;
 use canary_once::book::BookFault;
-use canary_reads::lists;
-use canary_schema::fault::StoreFault;
+use canary_tables_read::lists;
+use canary_tables_schema::fault::StoreFault;
 use sqlite::{Alter, Connection};
 use std::alloc::Global;
 

@@ -1,14 +1,14 @@
 //! A book over a file.
 use crate::book::TableBook;
 use crate::fault::TableFault;
-use canary_adopting::progress::Progress;
-use canary_connection::connect::connect;
-use canary_schema::fault::fault_of;
-use canary_schema::known::is_empty;
+use canary_tables_adopt::progress::JudgingProgress;
+use canary_tables_file::connect::connect;
+use canary_tables_schema::fault::fault_of;
+use canary_tables_schema::recognize::is_empty;
 use sqlite::{Error, ErrorCode, File, FileStore};
 
 impl TableBook<FileStore<File>> {
-    /// Opens the file of SQLite at a path as a book, or makes it (`connect` of canary_connection).
+    /// Opens the file of SQLite at a path as a book, or makes it (`connect` of canary_tables_file).
     /// An empty database, as that of a new file, becomes a desk's (`create`). Any other is adopted
     /// (`adopt`): it is read through, which is reported to `progress`, and no row of it is changed.
     /// A log stands beside the file, which belongs to it. As long as the book is there, nobody else
@@ -21,7 +21,7 @@ impl TableBook<FileStore<File>> {
     /// has tables, indexes or views, and not just a desk's, or its table meta lacks the row 1, 2;
     /// `BrokenRow` where the rows of a desk's tables are not those that a desk leaves, as with a
     /// second row in meta.
-    pub fn open<G: Progress>(
+    pub fn open<G: JudgingProgress>(
         rt: &HostRuntime,
         path: &str,
         progress: &mut G,

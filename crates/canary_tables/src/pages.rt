@@ -6,27 +6,27 @@ ghost use Rattle.canary_plan.specs.declared.line.Line.{Line};
 ghost use Rattle.canary_plan.specs.Lines.{line_at};
 ghost use Rattle.canary_release.specs.declared.effect.Recorded.{Recorded};
 ghost use Rattle.canary_once.specs.Records.{history_of, measurements_of};
-ghost use Rattle.canary_schema.specs.Stores.{IsUsable};
-ghost use Rattle.canary_reads.specs.Finds.{IsSame};
-ghost use Rattle.canary_reads.specs.Places.{IsMark, IsPlacedPage, row_of};
-ghost use Rattle.canary_rows.specs.Tables.{Tables};
-ghost use Rattle.canary_stored.specs.Values.{line_of_row, measurement_of_row};
+ghost use Rattle.canary_tables_schema.specs.Stores.{IsUsable};
+ghost use Rattle.canary_tables_read.specs.Finds.{IsSame};
+ghost use Rattle.canary_tables_read.specs.Places.{IsMark, IsPlacedPage, row_of};
+ghost use Rattle.canary_tables_rows.specs.Tables.{Tables};
+ghost use Rattle.canary_tables_contents.specs.Values.{line_of_row, measurement_of_row};
 ghost use Rattle.canary_tables.specs.Desk.{IsDesk, contents_in};
 ghost use Rattle.canary_tables.specs.Notes.{IsMarked};
 
-use crate::found::store_fault;
+use crate::load::store_fault;
 use crate::notes::Mark;
 use canary_base::error::Memory;
 use canary_base::lists::Listed;
 use canary_base::moments::Moment;
 use canary_base::names::Name;
 use canary_plan::line::{Line, LineEvent};
-use canary_reads::after::{self, Placed};
-use canary_reads::histories;
 use canary_release::effect::Recorded;
-use canary_rows::rows::{HistoryRow, MeasurementRow};
-use canary_schema::fault::StoreFault;
-use canary_stored::{laws, reading};
+use canary_tables_contents::{laws, reading};
+use canary_tables_read::after::{self, MeasurementAt};
+use canary_tables_read::histories;
+use canary_tables_rows::rows::{HistoryRow, MeasurementRow};
+use canary_tables_schema::fault::StoreFault;
 use sqlite::{Alter, Connection};
 use std::alloc::Global;
 
@@ -128,7 +128,7 @@ pub(crate) fn measurements<S: Alter>(
 }
 
 // The mark at the end of a page of these rows, the first of which has that index.
-fn mark_of(service: &Name, from: u64, rows: &[Placed]) -> Option<Mark>
+fn mark_of(service: &Name, from: u64, rows: &[MeasurementAt]) -> Option<Mark>
     ensures { (db : Database) (t : Tables) (most : ℕ)
         → IsPlacedPage db t service.now from most rows.now → IfSome result (IsMarked db) }
 {
@@ -142,7 +142,7 @@ fn mark_of(service: &Name, from: u64, rows: &[Placed]) -> Option<Mark>
 }
 
 // The measurements of rows, in their order. `Storage` only where one stands for none.
-fn measurements_of(alloc: Global, rows: &[Placed]) -> Result<Listed<Recorded>, StoreFault>
+fn measurements_of(alloc: Global, rows: &[MeasurementAt]) -> Result<Listed<Recorded>, StoreFault>
     ensures found { IfOk result (λ page.
         map Some page ≡ map measurement_of_row (map row_of rows.now)) }
     ensures storage { result ≡ Err StoreFault.Storage

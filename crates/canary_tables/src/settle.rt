@@ -3,28 +3,28 @@ ghost use Rattle.std.specs.Prelude.{◌≡◌, IfOk, OnOk, OnErr, true, false, n
 ghost use Rattle.std.specs.Prelude.{option_copied, length, ◌==◌};
 ghost use Rattle.sqlite.specs.Held.{state};
 ghost use Rattle.canary_once.specs.Contents.{IsSettling, with_settlement};
-ghost use Rattle.canary_rows.specs.Tables.{Tables};
-ghost use Rattle.canary_reads.specs.Finds.{IsSame, FindsSuch};
-ghost use Rattle.canary_schema.specs.Stores.{IsUsable};
+ghost use Rattle.canary_tables_rows.specs.Tables.{Tables};
+ghost use Rattle.canary_tables_read.specs.Finds.{IsSame, FindsSuch};
+ghost use Rattle.canary_tables_schema.specs.Stores.{IsUsable};
 ghost use Rattle.canary_tables.specs.Desk.{IsDesk, contents_in};
 ghost use Rattle.canary_plan.specs.Plans.{all_revisions};
-ghost use Rattle.canary_stored.specs.Settling.{begins, has_service, has_bindings};
-ghost use Rattle.canary_tables.specs.Kept.{IsKnown, IsKnownAs};
-ghost use Rattle.canary_commits.specs.Commits.{IsThereSaid, IsBoundSaid};
+ghost use Rattle.canary_tables_contents.specs.Settling.{begins, has_service, has_bindings};
+ghost use Rattle.canary_tables.specs.Caches.{IsKnown, IsKnownAs};
+ghost use Rattle.canary_tables_write.specs.Commits.{IsThereSaid, IsBoundSaid};
 
 use canary_base::error::Memory;
 use canary_base::names::Name;
 use canary_canonical::command::CanonicalCommand;
-use canary_commits::begins::begins;
-use canary_commits::commit::commit;
 use canary_once::book::Settlement;
 use canary_plan::bound::Bound;
-use canary_reads::services::{has_bindings, has_service};
 use canary_release::decide::DeskChange;
 use canary_release::service::Service;
-use canary_schema::fault::StoreFault;
-use canary_schema::laws as schema_laws;
-use canary_stored::laws;
+use canary_tables_contents::laws;
+use canary_tables_read::services::{has_bindings, has_service};
+use canary_tables_schema::fault::StoreFault;
+use canary_tables_schema::laws as schema_laws;
+use canary_tables_write::begins::begins;
+use canary_tables_write::commit::commit;
 use sqlite::{Alter, Connection};
 use std::alloc::Global;
 
@@ -32,11 +32,11 @@ use std::alloc::Global;
 fn has_row<S: Alter>(
     conn: &mut Connection<S>,
     name: &Name,
-    known: Option<&Service>,
+    cached: Option<&Service>,
 ) -> Result<bool, StoreFault>
     requires autocommit { conn.old.in_transaction ≡ false }
     requires desk { IsUsable (state S.Store conn.old) → IsDesk (state S.Store conn.old) }
-    requires known { IsUsable (state S.Store conn.old) → IsKnownAs (option_copied known)
+    requires cached { IsUsable (state S.Store conn.old) → IsKnownAs (option_copied cached)
         name.now (contents_in (state S.Store conn.old)) }
     ensures mode { conn.new.in_transaction ≡ false }
     ensures same { IsSame (state S.Store conn.old) (state S.Store conn.new) }
@@ -44,7 +44,7 @@ fn has_row<S: Alter>(
         (state S.Store conn.old) (state S.Store conn.new) result }
 {
     schema_laws::one_reading();
-    match known {
+    match cached {
         Some(_) => Ok(true),
         None => Ok(has_service(conn, name)?),
     }
@@ -54,11 +54,11 @@ fn has_row<S: Alter>(
 fn is_there<S: Alter>(
     conn: &mut Connection<S>,
     change: &DeskChange,
-    known: Option<&Service>,
+    cached: Option<&Service>,
 ) -> Result<bool, StoreFault>
     requires autocommit { conn.old.in_transaction ≡ false }
     requires desk { IsUsable (state S.Store conn.old) → IsDesk (state S.Store conn.old) }
-    requires known { IsUsable (state S.Store conn.old) → IsKnown (option_copied known)
+    requires cached { IsUsable (state S.Store conn.old) → IsKnown (option_copied cached)
         change.now (contents_in (state S.Store conn.old)) }
     ensures mode { conn.new.in_transaction ≡ false }
     ensures same { IsSame (state S.Store conn.old) (state S.Store conn.new) }
@@ -66,7 +66,7 @@ fn is_there<S: Alter>(
         (state S.Store conn.old) (state S.Store conn.new) result }
 {
     match change {
-        DeskChange::Service { service, .. } => has_row(conn, &service.name(), known),
+        DeskChange::Service { service, .. } => has_row(conn, &service.name(), cached),
         _ => Ok(false),
     }
 }
@@ -77,11 +77,11 @@ fn has_rows<S: Alter>(
     conn: &mut Connection<S>,
     alloc: Global,
     name: &Name,
-    known: Option<&Service>,
+    cached: Option<&Service>,
 ) -> Result<bool, StoreFault>
     requires autocommit { conn.old.in_transaction ≡ false }
     requires desk { IsUsable (state S.Store conn.old) → IsDesk (state S.Store conn.old) }
-    requires known { IsUsable (state S.Store conn.old) → IsKnownAs (option_copied known)
+    requires cached { IsUsable (state S.Store conn.old) → IsKnownAs (option_copied cached)
         name.now (contents_in (state S.Store conn.old)) }
     ensures mode { conn.new.in_transaction ≡ false }
     ensures same { IsSame (state S.Store conn.old) (state S.Store conn.new) }
@@ -89,7 +89,7 @@ fn has_rows<S: Alter>(
         (state S.Store conn.old) (state S.Store conn.new) result }
 {
     schema_laws::one_reading();
-    match known {
+    match cached {
         Some(service) => Ok(is_bound_to_any(alloc, service.bound())?),
         None => Ok(has_bindings(conn, name)?),
     }
@@ -109,11 +109,11 @@ fn has_attempt<S: Alter>(
     alloc: Global,
     command: &CanonicalCommand,
     name: &Name,
-    known: Option<&Service>,
+    cached: Option<&Service>,
 ) -> Result<bool, StoreFault>
     requires autocommit { conn.old.in_transaction ≡ false }
     requires desk { IsUsable (state S.Store conn.old) → IsDesk (state S.Store conn.old) }
-    requires known { IsUsable (state S.Store conn.old) → IsKnownAs (option_copied known)
+    requires cached { IsUsable (state S.Store conn.old) → IsKnownAs (option_copied cached)
         name.now (contents_in (state S.Store conn.old)) }
     ensures mode { conn.new.in_transaction ≡ false }
     ensures same { IsSame (state S.Store conn.old) (state S.Store conn.new) }
@@ -122,7 +122,7 @@ fn has_attempt<S: Alter>(
         (state S.Store conn.old) (state S.Store conn.new) result }
 {
     if begins(command) {
-        has_rows(conn, alloc, name, known)
+        has_rows(conn, alloc, name, cached)
     } else {
         Ok(false)
     }
@@ -133,11 +133,11 @@ fn is_bound<S: Alter>(
     conn: &mut Connection<S>,
     alloc: Global,
     settlement: &Settlement,
-    known: Option<&Service>,
+    cached: Option<&Service>,
 ) -> Result<bool, StoreFault>
     requires autocommit { conn.old.in_transaction ≡ false }
     requires desk { IsUsable (state S.Store conn.old) → IsDesk (state S.Store conn.old) }
-    requires known { IsUsable (state S.Store conn.old) → IsKnown (option_copied known)
+    requires cached { IsUsable (state S.Store conn.old) → IsKnown (option_copied cached)
         settlement.now.change (contents_in (state S.Store conn.old)) }
     ensures mode { conn.new.in_transaction ≡ false }
     ensures same { IsSame (state S.Store conn.old) (state S.Store conn.new) }
@@ -148,7 +148,7 @@ fn is_bound<S: Alter>(
     let command = &settlement.receipt.command;
     match &settlement.change {
         DeskChange::Service { service, .. } => {
-            has_attempt(conn, alloc, command, &service.name(), known)
+            has_attempt(conn, alloc, command, &service.name(), cached)
         }
         _ => Ok(false),
     }
@@ -163,11 +163,11 @@ pub(crate) fn settle<S: Alter>(
     conn: &mut Connection<S>,
     alloc: Global,
     settlement: &Settlement,
-    known: Option<&Service>,
+    cached: Option<&Service>,
 ) -> Result<(), StoreFault>
     requires autocommit { conn.old.in_transaction ≡ false }
     requires desk { IsUsable (state S.Store conn.old) → IsDesk (state S.Store conn.old) }
-    requires known { IsUsable (state S.Store conn.old) → IsKnown (option_copied known)
+    requires cached { IsUsable (state S.Store conn.old) → IsKnown (option_copied cached)
         settlement.now.change (contents_in (state S.Store conn.old)) }
     requires settling { IsUsable (state S.Store conn.old)
         → IsSettling (contents_in (state S.Store conn.old)) settlement.now }
@@ -183,8 +183,8 @@ pub(crate) fn settle<S: Alter>(
 {
     laws::requests();
     schema_laws::one_reading();
-    let _ = settlement.number.get();
-    let is_there = is_there(conn, &settlement.change, known)?;
-    let is_bound = is_bound(conn, alloc, settlement, known)?;
+    let _limits = settlement.number.get();
+    let is_there = is_there(conn, &settlement.change, cached)?;
+    let is_bound = is_bound(conn, alloc, settlement, cached)?;
     commit(conn, alloc, settlement, is_there, is_bound)
 }

@@ -8,14 +8,14 @@ use Rattle.sqlite.specs.State.{State}
 use Rattle.sqlite_trees.specs.declared.store.Store.{Ghosts}
 use Rattle.canary_plan.specs.declared.template_spec.MetricSpec.{MetricSpec}
 use Rattle.canary_once.specs.Contents.{Contents}
-use Rattle.canary_rows.specs.Tables.{Tables}
-use Rattle.canary_schema.specs.Cells.{tables_in}
-use Rattle.canary_schema.specs.Laws.{OneReading}
-use Rattle.canary_schema.specs.Stores.{IsUsable, IsHeld}
-use Rattle.canary_stored.specs.Laws.{ReadsBack}
-use Rattle.canary_stored.specs.Reading.{contents_of}
-use Rattle.canary_judging.specs.Soundness.{AreSoundTables, ExactlyThose}
-use Rattle.canary_reads.specs.First.{template_cells, first_tally_cells}
+use Rattle.canary_tables_rows.specs.Tables.{Tables}
+use Rattle.canary_tables_schema.specs.Cells.{tables_in}
+use Rattle.canary_tables_schema.specs.Laws.{OneReading}
+use Rattle.canary_tables_schema.specs.Stores.{IsUsable, IsHeld}
+use Rattle.canary_tables_contents.specs.Laws.{ReadsBack}
+use Rattle.canary_tables_contents.specs.Reading.{contents_of}
+use Rattle.canary_tables_contents.specs.Soundness.{AreSoundTables, ExactlyThose}
+use Rattle.canary_tables_read.specs.First.{template_cells, first_tally_cells}
 use Rattle.canary_migrate.specs.FirstContents.{AreFirstContents, template_row, first_tally, first_rows, HasFirstRowsOf}
 use Rattle.canary_migrate.specs.Migrated.{HoldsFirst}
 use Rattle.canary_migrate.specs.Migrates.{IsMigrated, HasSoundFirstRows}

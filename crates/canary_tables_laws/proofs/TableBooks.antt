@@ -5,14 +5,14 @@ use Rattle.sqlite.specs.Held.{Held, state}
 use Rattle.sqlite.specs.State.{State}
 use Rattle.sqlite_trees.specs.declared.store.Store.{Ghosts}
 use Rattle.canary_once.specs.Contents.{no_contents}
-use Rattle.canary_schema.specs.Schema.{no_schema}
-use Rattle.canary_schema.specs.Cells.{tables_in}
-use Rattle.canary_schema.specs.Stores.{IsUsable, IsHeld}
-use Rattle.canary_schema.specs.declared.fault.StoreFault.{StoreFault}
-use Rattle.canary_schema.specs.declared.fault.StoreFault.TheVariants.{Memory, Storage}
-use Rattle.canary_stored.specs.Reading.{HoldsContents}
-use Rattle.canary_tables.specs.declared.fault.Left.{Left}
-use Rattle.canary_tables.specs.declared.fault.Left.TheVariants as left
+use Rattle.canary_tables_schema.specs.Schema.{no_schema}
+use Rattle.canary_tables_schema.specs.Cells.{tables_in}
+use Rattle.canary_tables_schema.specs.Stores.{IsUsable, IsHeld}
+use Rattle.canary_tables_schema.specs.declared.fault.StoreFault.{StoreFault}
+use Rattle.canary_tables_schema.specs.declared.fault.StoreFault.TheVariants.{Memory, Storage}
+use Rattle.canary_tables_contents.specs.Reading.{HoldsContents}
+use Rattle.canary_tables.specs.declared.fault.Unadopted.{Unadopted}
+use Rattle.canary_tables.specs.declared.fault.Unadopted.TheVariants as left
 use Rattle.canary_tables.specs.declared.fault.TableFault.{TableFault}
 use Rattle.canary_tables.specs.declared.fault.TableFault.TheVariants as fault
 use Rattle.canary_tables.specs.Faults.{fault_of_store}
@@ -59,22 +59,22 @@ taken_over g old (Ok b) adopted =
     }
 taken_over g old (Err e) adopted = tt
 
-pub shows : {S : Type 0} (g : Ghosts S) (l : Left S) → ShowsTables g l → TellsTables g l
+pub shows : {S : Type 0} (g : Ghosts S) (l : Unadopted S) → ShowsTables g l → TellsTables g l
 shows g (left.Connection conn) i = usable (state g conn) i
 shows g (left.Store store) i = tt
 
-pub as_it_was : {S : Type 0} (g : Ghosts S) (old : State) (l : Left S) → LeavesRows g old l → IsAsItWas g old l
+pub as_it_was : {S : Type 0} (g : Ghosts S) (old : State) (l : Unadopted S) → LeavesRows g old l → IsAsItWas g old l
 as_it_was g old (left.Connection conn) rows = λ i. let was = rows (usable (state g conn) i) in (intact old was.0, was.1)
 as_it_was g old (left.Store store) rows = rows
 
-pub may_lose : {S : Type 0} (f : TableFault) (l : Left S) → IsLeftBy f l → MayLoseConnection f l
+pub may_lose : {S : Type 0} (f : TableFault) (l : Unadopted S) → IsLeftBy f l → MayLoseConnection f l
 may_lose f (left.Connection conn) by = tt
 may_lose f (left.Store store) by = lost by.0 by.1 where
   lost : (cause : StoreFault) → f ≡ fault_of_store cause → (f ≡ fault.Memory) ⊎ (f ≡ fault.Storage)
   lost Memory is = inl is
   lost Storage is = inr is
 
-pub in_none : {S : Type 0} (l : Left S) → IsOutside l → StandsInNone l
+pub in_none : {S : Type 0} (l : Unadopted S) → IsOutside l → StandsInNone l
 in_none (left.Connection conn) outside = outside
 in_none (left.Store store) outside = tt
 

@@ -4,12 +4,12 @@ use Rattle.sqlite.specs.declared.error.Error.TheVariants.{SqliteFailure}
 use Rattle.sqlite.specs.declared.error.ErrorCode.TheVariants as code
 use Rattle.canary_canonical.specs.declared.form.FormFault.TheVariants as form
 use Rattle.canary_once.specs.declared.book.BookFault.TheVariants as book
-use Rattle.canary_stored.specs.declared.fault.RowFault.TheVariants as row
-use Rattle.canary_stored.specs.Reads.{fault_of as fault_of_form}
-use Rattle.canary_schema.specs.declared.fault.StoreFault.TheVariants as store
-use Rattle.canary_schema.specs.Faults.{fault_of as fault_of_sqlite}
-use Rattle.canary_reads.specs.declared.fault.ReadFault.TheVariants as read
-use Rattle.canary_reads.specs.Faults.{read_fault, store_fault}
+use Rattle.canary_tables_contents.specs.declared.fault.RowFault.TheVariants as row
+use Rattle.canary_tables_contents.specs.Reads.{fault_of as fault_of_form}
+use Rattle.canary_tables_schema.specs.declared.fault.StoreFault.TheVariants as store
+use Rattle.canary_tables_schema.specs.Faults.{fault_of as fault_of_sqlite}
+use Rattle.canary_tables_read.specs.declared.fault.ReadFault.TheVariants as read
+use Rattle.canary_tables_read.specs.Faults.{read_fault, store_fault}
 use Rattle.canary_tables.specs.declared.fault.TableFault.TheVariants as table
 use Rattle.canary_tables.specs.Faults.{fault_of_row, book_fault_of, fault_of_store, fault_of_read}
 

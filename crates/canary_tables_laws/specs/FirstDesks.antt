@@ -13,16 +13,16 @@ use Rattle.canary_release.specs.Desks.{ModelService}
 use Rattle.canary_release.specs.Parts.{is_bound}
 use Rattle.canary_once.specs.Contents.{Contents}
 use Rattle.canary_once.specs.Sound.{AreContents, AreSoundContents}
-use Rattle.canary_rows.specs.declared.rows.RevisionRow.{RevisionRow}
-use Rattle.canary_rows.specs.declared.rows.TallyRow.{TallyRow}
-use Rattle.canary_rows.specs.Limits.{AreWithin}
-use Rattle.canary_rows.specs.Tables.{Tables}
-use Rattle.canary_schema.specs.Cells.{cells_of, tables_in, whole, whole_or_null, caller_cells, kept_cells, service_cells, run_cells, measurement_cells, history_cells}
-use Rattle.canary_schema.specs.First.{first_schema, meta_shown, HasFirstMeta}
-use Rattle.canary_schema.specs.Stores.{IsHeld}
-use Rattle.canary_stored.specs.Reading.{contents_of}
-use Rattle.canary_stored.specs.Tables.{AreRows, IsReadable}
-use Rattle.canary_reads.specs.First.{template_shown, tally_shown}
+use Rattle.canary_tables_rows.specs.declared.rows.RevisionRow.{RevisionRow}
+use Rattle.canary_tables_rows.specs.declared.rows.TallyRow.{TallyRow}
+use Rattle.canary_tables_rows.specs.Limits.{AreWithin}
+use Rattle.canary_tables_rows.specs.Tables.{Tables}
+use Rattle.canary_tables_schema.specs.Cells.{cells_of, tables_in, integer, whole_or_null, caller_cells, kept_cells, service_cells, run_cells, measurement_cells, history_cells}
+use Rattle.canary_tables_schema.specs.First.{first_schema, meta_shown, HasFirstMeta}
+use Rattle.canary_tables_schema.specs.Stores.{IsHeld}
+use Rattle.canary_tables_contents.specs.Reading.{contents_of}
+use Rattle.canary_tables_contents.specs.Tables.{AreRows, IsReadable}
+use Rattle.canary_tables_read.specs.First.{template_shown, tally_shown}
 
 -- Contents.
 
@@ -37,7 +37,7 @@ pub record AreOfFirstSchema (c : Contents) : Type 0 where
   pub templates : (name : List ℕ) (ts : List Template) → get c.desk.templates name ≡ Some ts
       → (t : Template) × IsOnlyRevision ts t
   pub services : (name : List ℕ) (s : ModelService) → get c.desk.services name ≡ Some s
-      → IsTrue (is_bound s.stand)
+      → IsTrue (is_bound s.service)
 
 -- Rows.
 
@@ -48,9 +48,9 @@ unnumbered_cells row = Words row.name ∷ Words row.spec ∷ []
 -- a tally without its passes
 abbrev pub passless_cells : TallyRow → Row
 passless_cells row =
-    Words row.service ∷ whole row.run ∷ whole row.metric ∷ whole row.counts.counted
-    ∷ whole row.counts.failed ∷ whole row.counts.inconclusive ∷ whole row.counts.errors
-    ∷ whole row.counts.consecutive ∷ whole_or_null row.counts.last ∷ []
+    Words row.service ∷ integer row.run ∷ integer row.metric ∷ integer row.counts.counted
+    ∷ integer row.counts.failed ∷ integer row.counts.inconclusive ∷ integer row.counts.errors
+    ∷ integer row.counts.consecutive ∷ whole_or_null row.counts.last ∷ []
 
 -- the database is of the first schema, and holds just what that has of a desk's rows: nothing of
 -- its bindings
@@ -86,7 +86,7 @@ HoldsSoundFirst db = (c : Contents) × HoldsFirstContents db c
 -- others or alone
 abbrev pub IsFirstWithMeta : Database → Type 0
 IsFirstWithMeta db =
-    (db.schema ≡ first_schema) × Contains (map meta_shown (db.trees 0)) (whole 1 ∷ whole 1 ∷ [])
+    (db.schema ≡ first_schema) × Contains (map meta_shown (db.trees 0)) (integer 1 ∷ integer 1 ∷ [])
 
 -- it is a desk's now, of sound contents that the first schema could have, and held what that has of
 -- these rows; whichever sound contents it held, it contains these

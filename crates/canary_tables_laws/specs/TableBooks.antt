@@ -4,22 +4,22 @@ use Rattle.sqlite.specs.Effect.{Database}
 use Rattle.sqlite.specs.Held.{Held, state}
 use Rattle.sqlite.specs.State.{State, HasCleanDisk}
 use Rattle.sqlite_trees.specs.declared.store.Store.{Ghosts}
-use Rattle.canary_once.specs.Books.{BookState}
+use Rattle.canary_once.specs.BookCalls.{BookState}
 use Rattle.canary_once.specs.Contents.{Contents, no_contents}
 use Rattle.canary_once.specs.Sound.{AreContents}
-use Rattle.canary_rows.specs.Limits.{AreWithin}
-use Rattle.canary_rows.specs.Tables.{Tables}
-use Rattle.canary_schema.specs.Cells.{tables_in, whole}
-use Rattle.canary_schema.specs.First.{meta_shown}
-use Rattle.canary_schema.specs.Formed.{IsDeskSchema}
-use Rattle.canary_schema.specs.Numbered.{IsLeft}
-use Rattle.canary_schema.specs.Schema.{no_schema}
-use Rattle.canary_schema.specs.Stores.{IsHeld}
-use Rattle.canary_stored.specs.Reading.{contents_of}
-use Rattle.canary_stored.specs.Tables.{AreRows, IsReadable}
-use Rattle.canary_judging.specs.Soundness.{AreSoundTables}
-use Rattle.canary_tables.specs.declared.fault.Left.{Left}
-use Rattle.canary_tables.specs.declared.fault.Left.TheVariants as left
+use Rattle.canary_tables_rows.specs.Limits.{AreWithin}
+use Rattle.canary_tables_rows.specs.Tables.{Tables}
+use Rattle.canary_tables_schema.specs.Cells.{tables_in, integer}
+use Rattle.canary_tables_schema.specs.First.{meta_shown}
+use Rattle.canary_tables_schema.specs.Formed.{IsDeskSchema}
+use Rattle.canary_tables_schema.specs.Numbered.{IsLeft}
+use Rattle.canary_tables_schema.specs.Schema.{no_schema}
+use Rattle.canary_tables_schema.specs.Stores.{IsHeld}
+use Rattle.canary_tables_contents.specs.Reading.{contents_of}
+use Rattle.canary_tables_contents.specs.Tables.{AreRows, IsReadable}
+use Rattle.canary_tables_contents.specs.Soundness.{AreSoundTables}
+use Rattle.canary_tables.specs.declared.fault.Unadopted.{Unadopted}
+use Rattle.canary_tables.specs.declared.fault.Unadopted.TheVariants as left
 use Rattle.canary_tables.specs.declared.fault.TableFault.{TableFault}
 use Rattle.canary_tables.specs.declared.fault.TableFault.TheVariants as fault
 
@@ -73,14 +73,14 @@ pub record ContainsWhatWas (old new : State) (b : BookState) : Type 0 where
 -- What a refused database is not.
 
 -- a connection shows what its tables are; a store alone is not asked
-abbrev pub ShowsTables : {S : Type 0} → Ghosts S → Left S → Type 0
+abbrev pub ShowsTables : {S : Type 0} → Ghosts S → Unadopted S → Type 0
 ShowsTables g (left.Connection conn) = IsIntact (state g conn)
 ShowsTables g (left.Store store) = Unit {0}
 
 -- just a desk's tables and indexes are there, and meta shows a row 1, 2, among others or alone
 abbrev pub IsDeskWithMeta : Database → Type 0
 IsDeskWithMeta db =
-    IsDeskSchema db.schema × Contains (map meta_shown (db.trees 0)) (whole 1 ∷ whole 2 ∷ [])
+    IsDeskSchema db.schema × Contains (map meta_shown (db.trees 0)) (integer 1 ∷ integer 2 ∷ [])
 
 -- rows of sound contents stand in it, each of which a program can hold
 abbrev pub HoldsSoundRows : Database → Type 0
@@ -89,17 +89,17 @@ HoldsSoundRows db = (t : Tables) × (IsHeld db t × (AreWithin t × AreSoundTabl
 -- What is left of a connection where a database is refused.
 
 -- the database is as it was: a connection shows that, and of a store alone its trees
-abbrev pub IsAsItWas : {S : Type 0} → Ghosts S → State → Left S → Type 0
+abbrev pub IsAsItWas : {S : Type 0} → Ghosts S → State → Unadopted S → Type 0
 IsAsItWas g old (left.Connection conn) =
     IsIntact (state g conn) → IsIntact old × ((state g conn).now ≡ old.now)
 IsAsItWas g old (left.Store store) = IsLeft old (g.view store)
 
 -- no more than a store is left only where memory was refused or the store failed
-abbrev pub MayLoseConnection : {S : Type 0} → TableFault → Left S → Type 0
+abbrev pub MayLoseConnection : {S : Type 0} → TableFault → Unadopted S → Type 0
 MayLoseConnection f (left.Connection conn) = Unit {0}
 MayLoseConnection f (left.Store store) = (f ≡ fault.Memory) ⊎ (f ≡ fault.Storage)
 
 -- a connection that is left stands in no transaction
-abbrev pub StandsInNone : {S : Type 0} → Left S → Type 0
+abbrev pub StandsInNone : {S : Type 0} → Unadopted S → Type 0
 StandsInNone (left.Connection conn) = conn.in_transaction ≡ false
 StandsInNone (left.Store store) = Unit {0}

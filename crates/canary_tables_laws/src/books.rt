@@ -3,16 +3,16 @@
 //! that name of canary_tables.
 ghost use Rattle.std.specs.Prelude.{◌≡◌, ◌≢◌, false, IfOk, IfErr};
 ghost use Rattle.sqlite.specs.Held.{state};
-ghost use Rattle.canary_schema.specs.Schema.{no_schema};
+ghost use Rattle.canary_tables_schema.specs.Schema.{no_schema};
 ghost use Rattle.canary_tables.specs.declared.fault.TableFault.TheVariants as fault;
 ghost use Rattle.canary_tables_laws.specs.TableBooks.{ContainsNothing, ContainsWhatWas};
 ghost use Rattle.canary_tables_laws.specs.TableBooks.{ShowsTables, IsDeskWithMeta, HoldsSoundRows};
 ghost use Rattle.canary_tables_laws.specs.TableBooks.{IsAsItWas, MayLoseConnection, StandsInNone};
 
-use canary_adopting::progress::Progress;
 use canary_once::book::Book;
 use canary_tables::book::TableBook;
-use canary_tables::fault::{Left, TableFault};
+use canary_tables::fault::{TableFault, Unadopted};
+use canary_tables_adopt::progress::JudgingProgress;
 use sqlite::{Alter, Connection};
 use std::alloc::Global;
 
@@ -39,11 +39,11 @@ pub fn create<S: Alter>(
 ///
 /// # Errors
 /// Those of `TableBook::adopt`.
-pub fn adopt<S: Alter + Drop, G: Progress>(
+pub fn adopt<S: Alter + Drop, G: JudgingProgress>(
     alloc: Global,
     conn: Connection<S>,
     progress: &mut G,
-) -> Result<TableBook<S>, (TableFault, Left<S>)>
+) -> Result<TableBook<S>, (TableFault, Unadopted<S>)>
     ensures adopted { IfOk result (λ book. ContainsWhatWas (state S.Store conn) (state S.Store book)
         (⟦<TableBook<S> as Book>⟧.state book)) }
     ensures other { IfErr result (λ e. e.0 ≡ fault.OtherSchema → ShowsTables S.Store e.1

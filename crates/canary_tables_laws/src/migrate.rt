@@ -8,12 +8,11 @@ ghost use Rattle.canary_tables_laws.specs.FirstDesks.{HoldsSoundFirst};
 ghost use Rattle.canary_tables_laws.specs.TableBooks.{IsIntact, ShowsTables};
 ghost use Rattle.canary_tables_laws.specs.TableBooks.{IsAsItWas, MayLoseConnection, StandsInNone};
 
-use canary_adopting::progress::Progress;
-use canary_judging::laws as judging_laws;
 use canary_migrate::migrate;
-use canary_schema::laws as schema_laws;
-use canary_stored::laws as stored_laws;
-use canary_tables::fault::{Left, TableFault};
+use canary_tables::fault::{TableFault, Unadopted};
+use canary_tables_adopt::progress::JudgingProgress;
+use canary_tables_contents::{judged_laws as judging_laws, laws as stored_laws};
+use canary_tables_schema::laws as schema_laws;
 use sqlite::{Alter, Connection};
 use std::alloc::Global;
 
@@ -23,11 +22,11 @@ use std::alloc::Global;
 ///
 /// # Errors
 /// Those of `migrate` of canary_migrate.
-pub fn migrate<S: Alter + Drop, G: Progress>(
+pub fn migrate<S: Alter + Drop, G: JudgingProgress>(
     alloc: Global,
     conn: Connection<S>,
     progress: &mut G,
-) -> Result<Connection<S>, (TableFault, Left<S>)>
+) -> Result<Connection<S>, (TableFault, Unadopted<S>)>
     ensures migrated { IfOk result (λ it. IsIntact (state S.Store it)
         → IsDeskOfFirst (state S.Store conn) (state S.Store it)) }
     ensures autocommit { IfOk result (λ it. it.in_transaction ≡ false) }

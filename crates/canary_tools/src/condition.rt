@@ -1,6 +1,6 @@
 //! Times the reading and the evaluation of conditions.
 
-use crate::fault::Fault;
+use crate::fault::BenchFault;
 use crate::timing::{Batch, Work, time};
 use canary_condition::condition::{Condition, Verdict3};
 use canary_condition::outcome::Value;
@@ -68,9 +68,14 @@ fn tenths_per_byte(rounds: u32, len: usize, nanos: u64) -> u64 {
 }
 
 // How many a second, and the nanoseconds for each byte, with one decimal.
-fn print_figures(rt: &HostRuntime, rounds: u32, len: usize, batch: Batch) -> Result<(), Fault> {
+fn print_figures(
+    rt: &HostRuntime,
+    rounds: u32,
+    len: usize,
+    batch: Batch,
+) -> Result<(), BenchFault> {
     if batch.wanted != rounds {
-        return Err(Fault::Unwanted);
+        return Err(BenchFault::Unwanted);
     }
     let each = per_second(rounds, batch.nanos);
     let tenths = tenths_per_byte(rounds, len, batch.nanos);
@@ -80,7 +85,7 @@ fn print_figures(rt: &HostRuntime, rounds: u32, len: usize, batch: Batch) -> Res
 }
 
 // What so many evaluations of the condition take.
-fn time_evaluation(rt: &HostRuntime, rounds: u32, text: &str) -> Result<Batch, Fault> {
+fn time_evaluation(rt: &HostRuntime, rounds: u32, text: &str) -> Result<Batch, BenchFault> {
     let value = Value::Whole(0);
     let value = &value;
     match Condition::parse(rt.alloc(), text) {
@@ -88,12 +93,12 @@ fn time_evaluation(rt: &HostRuntime, rounds: u32, text: &str) -> Result<Batch, F
             let condition = &condition;
             time(rt, &mut Evaluating { condition, value }, rounds)
         }
-        Err(_) => Err(Fault::Unwanted),
+        Err(_) => Err(BenchFault::Unwanted),
     }
 }
 
 // Prints the row of a condition of this text: its length, and the figures of both works.
-fn print_text(rt: &HostRuntime, rounds: u32, text: &str) -> Result<(), Fault> {
+fn print_text(rt: &HostRuntime, rounds: u32, text: &str) -> Result<(), BenchFault> {
     let len = text.len();
     let parsing = time(rt, &mut Parsing { text }, rounds)?;
     let evaluation = time_evaluation(rt, rounds, text)?;
@@ -105,14 +110,14 @@ fn print_text(rt: &HostRuntime, rounds: u32, text: &str) -> Result<(), Fault> {
 }
 
 // Prints the row of a condition of that many bytes.
-fn print_line(rt: &HostRuntime, rounds: u32, len: usize) -> Result<(), Fault> {
+fn print_line(rt: &HostRuntime, rounds: u32, len: usize) -> Result<(), BenchFault> {
     let mut text = String::from_str(rt.alloc(), COMPARISON)?;
     lengthen(&mut text, len)?;
     print_text(rt, rounds, text.as_str())
 }
 
 /// Reads and evaluates conditions of 16, 256 and 1,024 bytes that many times, and prints a table.
-pub fn measure(rt: &HostRuntime, rounds: u32) -> Result<(), Fault> {
+pub fn measure(rt: &HostRuntime, rounds: u32) -> Result<(), BenchFault> {
     println!(rt; "bytes       parsed/s  ns per byte    evaluated/s  ns per byte")?;
     for len in [16, 256, 1024] {
         print_line(rt, rounds, len)?;

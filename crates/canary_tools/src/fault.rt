@@ -4,7 +4,7 @@ use std::io;
 
 /// Why a benchmark was not done.
 #[derive(Clone, Copy)]
-pub enum Fault {
+pub enum BenchFault {
     /// The words name no subject, or lack its number, or name no stream.
     Words,
     /// Out of memory, or a command was refused.
@@ -15,28 +15,28 @@ pub enum Fault {
     Unwanted,
 }
 
-impl Fault {
+impl BenchFault {
     /// Its words.
     pub fn text(self) -> &'static str {
         match self {
-            Fault::Words => "SUBJECT or its number or stream is missing or unknown",
-            Fault::Refused => "out of memory, or refused",
-            Fault::Machine => "the output, the clock or a file of the system failed",
-            Fault::Unwanted => "something was read or answered that was not wanted",
+            BenchFault::Words => "SUBJECT or its number or stream is missing or unknown",
+            BenchFault::Refused => "out of memory, or refused",
+            BenchFault::Machine => "the output, the clock or a file of the system failed",
+            BenchFault::Unwanted => "something was read or answered that was not wanted",
         }
     }
 }
 
-impl From<io::Error> for Fault {
-    // An error of the output, the clock or a file is `Fault::Machine`.
-    fn from(_: io::Error) -> Fault {
-        Fault::Machine
+impl From<io::Error> for BenchFault {
+    // An error of the output, the clock or a file is `BenchFault::Machine`.
+    fn from(_: io::Error) -> BenchFault {
+        BenchFault::Machine
     }
 }
 
-impl From<AllocError> for Fault {
+impl From<AllocError> for BenchFault {
     // A refused allocation counts as a refused command does.
-    fn from(_: AllocError) -> Fault {
-        Fault::Refused
+    fn from(_: AllocError) -> BenchFault {
+        BenchFault::Refused
     }
 }

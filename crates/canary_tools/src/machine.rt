@@ -1,7 +1,7 @@
 //! Microseconds that canary_release alone takes to decide a command or a report, by the size of the
 //! service's strategy: no register, and nothing is read or written.
 
-use crate::fault::Fault;
+use crate::fault::BenchFault;
 use crate::plans::{self, Size, command};
 use crate::timing::{Batch, Work, quickest};
 use canary_base::moments::Moment;
@@ -67,7 +67,7 @@ impl Work for Deciding<'_> {
 }
 
 /// Decides each command that many times over, seven times, and prints a table of the quickest.
-pub fn measure(rt: &HostRuntime, rounds: u32) -> Result<(), Fault> {
+pub fn measure(rt: &HostRuntime, rounds: u32) -> Result<(), BenchFault> {
     println!(rt; "microseconds a call; * is refused")?;
     print!(rt; "steps metrics     check   Service     Start      Tick")?;
     println!(rt; "   Promote  Report 1  Report n   closing")?;
@@ -80,7 +80,7 @@ pub fn measure(rt: &HostRuntime, rounds: u32) -> Result<(), Fault> {
 }
 
 // Prints the row of a strategy of that size, over templates of its own.
-fn print_row(rt: &HostRuntime, rounds: u32, steps: u32, metrics: u32) -> Result<(), Fault> {
+fn print_row(rt: &HostRuntime, rounds: u32, steps: u32, metrics: u32) -> Result<(), BenchFault> {
     print!(rt; "{steps:>5} {metrics:>7}")?;
     let mut templates = Templates::new(rt.alloc());
     print_sized(rt, rounds, Size { steps, metrics }, &mut templates)
@@ -92,9 +92,9 @@ fn print_sized(
     rounds: u32,
     size: Size,
     templates: &mut Templates,
-) -> Result<(), Fault> {
+) -> Result<(), BenchFault> {
     if size.metrics > 0 {
-        plans::learn(rt.alloc(), templates, size.metrics).ok_or(Fault::Refused)?;
+        plans::learn(rt.alloc(), templates, size.metrics).ok_or(BenchFault::Refused)?;
     }
     print_cells(rt, rounds, size, templates)
 }
@@ -105,8 +105,8 @@ fn print_cells(
     rounds: u32,
     size: Size,
     templates: &Templates,
-) -> Result<(), Fault> {
-    let now = plans::begin().ok_or(Fault::Refused)?;
+) -> Result<(), BenchFault> {
+    let now = plans::begin().ok_or(BenchFault::Refused)?;
     let trial = Trial {
         rounds,
         size,
@@ -121,10 +121,10 @@ fn print_cells(
 }
 
 // Makes the command of a cell, and prints its figure.
-fn print_cell(rt: &HostRuntime, trial: &Trial, cell: u32) -> Result<(), Fault> {
+fn print_cell(rt: &HostRuntime, trial: &Trial, cell: u32) -> Result<(), BenchFault> {
     match asked(rt.alloc(), trial.size, cell) {
         Some(command) => print_command(rt, trial, cell, &command),
-        None => Err(Fault::Refused),
+        None => Err(BenchFault::Refused),
     }
 }
 
@@ -134,7 +134,7 @@ fn print_command(
     trial: &Trial,
     cell: u32,
     command: &Command,
-) -> Result<(), Fault> {
+) -> Result<(), BenchFault> {
     if let Command::Service(spec) = command {
         print_check(rt, trial, spec)?;
     }
@@ -143,7 +143,7 @@ fn print_command(
 }
 
 // The strategy is checked, which registering the service begins with.
-fn print_check(rt: &HostRuntime, trial: &Trial, spec: &ServiceSpec) -> Result<(), Fault> {
+fn print_check(rt: &HostRuntime, trial: &Trial, spec: &ServiceSpec) -> Result<(), BenchFault> {
     let templates = trial.templates;
     let batch = quickest(rt, &mut Checking { templates, spec }, trial.rounds)?;
     print_figure(rt, trial.rounds, batch)
@@ -156,9 +156,9 @@ fn print_decision(
     cell: u32,
     service: Option<&Service>,
     command: &Command,
-) -> Result<(), Fault> {
+) -> Result<(), BenchFault> {
     if cell > REGISTER && service.is_none() {
-        return Err(Fault::Refused);
+        return Err(BenchFault::Refused);
     }
     let mut deciding = Deciding {
         templates: trial.templates,
@@ -262,7 +262,7 @@ fn changed(decision: Decision) -> Option<Service> {
 }
 
 // Prints the microseconds of a round, with two decimals, and a star if one was not as wanted.
-fn print_figure(rt: &HostRuntime, rounds: u32, batch: Batch) -> Result<(), Fault> {
+fn print_figure(rt: &HostRuntime, rounds: u32, batch: Batch) -> Result<(), BenchFault> {
     let hundredths = batch.nanos / 10 / u64::from(rounds.max(1));
     let (whole, part) = (hundredths / 100, hundredths % 100);
     let mark = if batch.wanted == rounds { ' ' } else { '*' };

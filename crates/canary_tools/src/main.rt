@@ -18,7 +18,7 @@ mod streams;
 mod timing;
 mod yaml;
 
-use fault::Fault;
+use fault::BenchFault;
 use std::env;
 use std::process::ExitCode;
 
@@ -35,7 +35,7 @@ fn main(rt: HostRuntime) -> ExitCode {
 }
 
 // Runs what the words of the command line ask for.
-fn run(rt: &HostRuntime) -> Result<(), Fault> {
+fn run(rt: &HostRuntime) -> Result<(), BenchFault> {
     let words: Vec<String> = env::args(rt)?.collect(rt.alloc())?;
     measure(rt, words.as_slice())
 }
@@ -48,13 +48,13 @@ fn word(words: &[String], place: usize) -> Option<&str> {
     }
 }
 
-// The number that a word spells, or `Fault::Words`.
-fn number(word: &str) -> Result<u32, Fault> {
-    word.parse::<u32>().or(Err(Fault::Words))
+// The number that a word spells, or `BenchFault::Words`.
+fn number(word: &str) -> Result<u32, BenchFault> {
+    word.parse::<u32>().or(Err(BenchFault::Words))
 }
 
 // Measures the subject that the words name; without words it reads texts in YAML.
-fn measure(rt: &HostRuntime, words: &[String]) -> Result<(), Fault> {
+fn measure(rt: &HostRuntime, words: &[String]) -> Result<(), BenchFault> {
     let Some(subject) = word(words, 1) else {
         yaml::answer_all(rt)?;
         return Ok(());
@@ -73,5 +73,5 @@ fn measure(rt: &HostRuntime, words: &[String]) -> Result<(), Fault> {
     if subject == "register" {
         return register::measure(rt, rounds, of);
     }
-    Err(Fault::Words)
+    Err(BenchFault::Words)
 }

@@ -3,7 +3,7 @@
 ghost use Rattle.std.specs.Prelude.{IsTrue};
 ghost use Rattle.canary_metric.specs.Measurements.{is_measured};
 
-use crate::fault::Fault;
+use crate::fault::BenchFault;
 use crate::timing::{Work, nanos_of, time};
 use canary_base::durations::Seconds;
 use canary_base::moments::Moment;
@@ -18,7 +18,7 @@ use std::time::Instant;
 const TALLIES: usize = 4;
 
 /// Makes about so many additions and asks so many phases at each size, and prints a table.
-pub fn measure(rt: &HostRuntime, work: u32) -> Result<(), Fault> {
+pub fn measure(rt: &HostRuntime, work: u32) -> Result<(), BenchFault> {
     println!(rt; "measurements    additions/s       phases/s")?;
     match measured() {
         Some((metric, begin)) => print_sizes(rt, work, &metric, begin),
@@ -27,7 +27,12 @@ pub fn measure(rt: &HostRuntime, work: u32) -> Result<(), Fault> {
 }
 
 // Prints a row for each number of measurements.
-fn print_sizes(rt: &HostRuntime, work: u32, metric: &Metric, begin: Moment) -> Result<(), Fault> {
+fn print_sizes(
+    rt: &HostRuntime,
+    work: u32,
+    metric: &Metric,
+    begin: Moment,
+) -> Result<(), BenchFault> {
     for size in [10, 100, 1_000, 10_000, 100_000, 1_000_000] {
         print_size(rt, work, metric, begin, size)?;
     }
@@ -41,7 +46,7 @@ fn print_size(
     metric: &Metric,
     begin: Moment,
     size: u32,
-) -> Result<(), Fault> {
+) -> Result<(), BenchFault> {
     let fillings = (work / size.max(1)).max(1);
     let mut filling = Filling {
         tallies: [Tally::new(); TALLIES],

@@ -1,7 +1,7 @@
 //! Nanoseconds of a request and of a read over the book in memory as it grows, and the memory that
 //! settled requests take.
 
-use crate::fault::Fault;
+use crate::fault::BenchFault;
 use crate::reads::{self, Aim, Probe};
 use crate::streams::Stream;
 use crate::timing::{Work, nanos_of, quickest, time};
@@ -27,10 +27,10 @@ const NEXT: u32 = 12;
 // About how long a batch of reads is to take, and how many they are at most.
 const BATCH_NANOS: u64 = 1_000_000;
 
-const MOST_READS: u64 = 1_000;
+const MAX_READS: u64 = 1_000;
 
 // A book that takes longer to grow to a size is not measured there.
-const LONGEST_NANOS: u64 = 60_000_000_000;
+const MAX_NANOS: u64 = 60_000_000_000;
 
 // The bytes of a page of memory.
 const PAGE: u64 = 4_096;
@@ -49,7 +49,7 @@ const PROBES: [Probe; 9] = [
 
 /// Settles up to so many requests of the stream of that name, and prints a row at each size. With
 /// no name it prints the head of the table.
-pub fn measure(rt: &HostRuntime, most: u32, name: Option<&str>) -> Result<(), Fault> {
+pub fn measure(rt: &HostRuntime, most: u32, name: Option<&str>) -> Result<(), BenchFault> {
     match name {
         None => print_head(rt),
         Some(name) => measure_named(rt, most, name),
@@ -57,7 +57,7 @@ pub fn measure(rt: &HostRuntime, most: u32, name: Option<&str>) -> Result<(), Fa
 }
 
 // Prints what is in the columns, above the rows of all streams.
-fn print_head(rt: &HostRuntime) -> Result<(), Fault> {
+fn print_head(rt: &HostRuntime) -> Result<(), BenchFault> {
     println!(rt; "nanoseconds each, and bytes a settled request; * is nothing found")?;
     print!(rt; "stream    settled     whole      next   bytes")?;
     print!(rt; "    repeat     ahead   settled   receipt templates   service")?;
@@ -66,8 +66,8 @@ fn print_head(rt: &HostRuntime) -> Result<(), Fault> {
 }
 
 // Prints the rows of a new book, which the stream of that name fills; `Words` if no stream has it.
-fn measure_named(rt: &HostRuntime, most: u32, name: &str) -> Result<(), Fault> {
-    let stream = Stream::named(name).ok_or(Fault::Words)?;
+fn measure_named(rt: &HostRuntime, most: u32, name: &str) -> Result<(), BenchFault> {
+    let stream = Stream::named(name).ok_or(BenchFault::Words)?;
     // What making a chunk of requests takes is no part of what the book takes.
     make_ready(rt, stream)?;
     let before = resident(rt)?;
@@ -83,7 +83,7 @@ fn print_sizes(
     stream: Stream,
     most: u32,
     before: u64,
-) -> Result<(), Fault> {
+) -> Result<(), BenchFault> {
     let name = stream.name();
     let mut settled = 0u32;
     for size in SIZES {
@@ -105,18 +105,20 @@ fn print_sizes(
 }
 
 // Makes a chunk of requests once, before the memory of the process is looked at.
-fn make_ready(rt: &HostRuntime, stream: Stream) -> Result<(), Fault> {
-    let requests = stream.requests(rt.alloc(), 0, CHUNK).ok_or(Fault::Refused)?;
+fn make_ready(rt: &HostRuntime, stream: Stream) -> Result<(), BenchFault> {
+    let requests = stream
+        .requests(rt.alloc(), 0, CHUNK)
+        .ok_or(BenchFault::Refused)?;
     if requests.is_empty() {
-        return Err(Fault::Refused);
+        return Err(BenchFault::Refused);
     }
     Ok(())
 }
 
 // The bytes of memory that this process has.
-fn resident(rt: &HostRuntime) -> Result<u64, Fault> {
+fn resident(rt: &HostRuntime) -> Result<u64, BenchFault> {
     let text = fs::read_to_string(rt, "/proc/self/statm")?;
-    bytes_in(text.as_str()).ok_or(Fault::Machine)
+    bytes_in(text.as_str()).ok_or(BenchFault::Machine)
 }
 
 // The bytes of so many pages as the second number of the text says.
@@ -134,13 +136,13 @@ fn grow(
     stream: Stream,
     from: u32,
     to: u32,
-) -> Result<Option<u64>, Fault> {
+) -> Result<Option<u64>, BenchFault> {
     let mut nanos = 0u64;
     let mut place = from;
     for _ in 0..to.saturating_sub(from).div_ceil(CHUNK) {
         let count = to.saturating_sub(place).min(CHUNK);
         nanos = nanos.saturating_add(settle(rt, book, stream, place, count)?);
-        if nanos > LONGEST_NANOS {
+        if nanos > MAX_NANOS {
             return Ok(None);
         }
         place = place.saturating_add(count);
@@ -154,7 +156,7 @@ fn time_next(
     book: &mut MemoryBook,
     stream: Stream,
     from: u32,
-) -> Result<u64, Fault> {
+) -> Result<u64, BenchFault> {
     let mut least = u64::MAX;
     for batch in 0..BATCHES {
         let place = from.saturating_add(batch * NEXT);
@@ -170,10 +172,10 @@ fn settle(
     stream: Stream,
     from: u32,
     count: u32,
-) -> Result<u64, Fault> {
+) -> Result<u64, BenchFault> {
     match stream.requests(rt.alloc(), from, count) {
         Some(requests) => time_posts(rt, book, requests.as_slice(), stream.status()),
-        None => Err(Fault::Refused),
+        None => Err(BenchFault::Refused),
     }
 }
 
@@ -183,14 +185,14 @@ fn time_posts(
     book: &mut MemoryBook,
     requests: &[Request],
     status: ReplyStatus,
-) -> Result<u64, Fault> {
+) -> Result<u64, BenchFault> {
     let start = Instant::now(rt)?;
     let as_wanted = post_all(rt.alloc(), book, requests, status);
     let nanos = nanos_of(start.elapsed(rt)?);
     if as_wanted == requests.len() {
         Ok(nanos)
     } else {
-        Err(Fault::Unwanted)
+        Err(BenchFault::Unwanted)
     }
 }
 
@@ -216,17 +218,17 @@ fn print_reads(
     book: &mut MemoryBook,
     stream: Stream,
     size: u32,
-) -> Result<(), Fault> {
+) -> Result<(), BenchFault> {
     match reads::take_aim(rt.alloc(), stream, size) {
         Some(aim) => print_probes(rt, book, &aim),
-        None => Err(Fault::Refused),
+        None => Err(BenchFault::Refused),
     }
 }
 
 // Prints the figure of each probe, and ends the row.
-fn print_probes(rt: &HostRuntime, book: &mut MemoryBook, aim: &Aim) -> Result<(), Fault> {
+fn print_probes(rt: &HostRuntime, book: &mut MemoryBook, aim: &Aim) -> Result<(), BenchFault> {
     for probe in PROBES {
-        print_read(rt, &mut Asking { book, probe, aim })?;
+        print_read(rt, &mut BookProbe { book, probe, aim })?;
     }
     println!(rt; "")?;
     Ok(())
@@ -234,13 +236,13 @@ fn print_probes(rt: &HostRuntime, book: &mut MemoryBook, aim: &Aim) -> Result<()
 
 // A probe of the book.
 #[derive(Drop)]
-struct Asking<'a> {
+struct BookProbe<'a> {
     book: &'a mut MemoryBook,
     probe: Probe,
     aim: &'a Aim,
 }
 
-impl Work for Asking<'_> {
+impl Work for BookProbe<'_> {
     // Asks once; wanted is that anything is found.
     fn done(&mut self, alloc: Global) -> bool {
         reads::ask(alloc, self.book, self.probe, self.aim) > 0
@@ -248,9 +250,9 @@ impl Work for Asking<'_> {
 }
 
 // The nanoseconds of one call in the quickest batch.
-fn print_read(rt: &HostRuntime, asking: &mut Asking<'_>) -> Result<(), Fault> {
+fn print_read(rt: &HostRuntime, asking: &mut BookProbe<'_>) -> Result<(), BenchFault> {
     let once = time(rt, asking, 1)?.nanos.max(1);
-    let rounds = (BATCH_NANOS / once).max(1).min(MOST_READS) as u32;
+    let rounds = (BATCH_NANOS / once).max(1).min(MAX_READS) as u32;
     let batch = quickest(rt, asking, rounds)?;
     let each = batch.nanos / u64::from(rounds.max(1));
     let mark = if batch.wanted == 0 { '*' } else { ' ' };

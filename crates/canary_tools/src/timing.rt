@@ -1,6 +1,6 @@
 //! What is done again and again, and how long that takes.
 
-use crate::fault::Fault;
+use crate::fault::BenchFault;
 use std::alloc::Global;
 use std::time::{Duration, Instant};
 
@@ -32,7 +32,7 @@ fn repeat<W: Work>(alloc: Global, work: &mut W, rounds: u32) -> u32 {
 }
 
 /// What so many rounds take.
-pub fn time<W: Work>(rt: &HostRuntime, work: &mut W, rounds: u32) -> Result<Batch, Fault> {
+pub fn time<W: Work>(rt: &HostRuntime, work: &mut W, rounds: u32) -> Result<Batch, BenchFault> {
     let start = Instant::now(rt)?;
     let wanted = repeat(rt.alloc(), work, rounds);
     let nanos = nanos_of(start.elapsed(rt)?);
@@ -40,7 +40,7 @@ pub fn time<W: Work>(rt: &HostRuntime, work: &mut W, rounds: u32) -> Result<Batc
 }
 
 /// What so many rounds take in the quickest of seven batches.
-pub fn quickest<W: Work>(rt: &HostRuntime, work: &mut W, rounds: u32) -> Result<Batch, Fault> {
+pub fn quickest<W: Work>(rt: &HostRuntime, work: &mut W, rounds: u32) -> Result<Batch, BenchFault> {
     let mut quickest = time(rt, work, rounds)?;
     for _ in 1..BATCHES {
         let batch = time(rt, work, rounds)?;

@@ -10,8 +10,8 @@
 //!
 //! What is not read is a line of `!` and why.
 
-use canary_yaml::fault::Fault;
-use canary_yaml::places::{Place, Step, place_of};
+use canary_yaml::fault::YamlFault;
+use canary_yaml::places::{PathStep, Place, place_of};
 use canary_yaml::read::{Document, json_of, read_documents, read_json_or_yaml, read_one};
 use serde_json::Value;
 use std::alloc::Global;
@@ -38,7 +38,7 @@ fn answer_to(alloc: Global, line: &str) -> io::Result<String> {
 }
 
 // What is asked for.
-fn shown(alloc: Global, asked: &Value) -> Result<String, Fault> {
+fn shown(alloc: Global, asked: &Value) -> Result<String, YamlFault> {
     if let Some(text) = asked.as_str() {
         return documents(alloc, text.as_bytes());
     }
@@ -57,7 +57,7 @@ fn shown(alloc: Global, asked: &Value) -> Result<String, Fault> {
 }
 
 // The documents of a text.
-fn documents(alloc: Global, bytes: &[u8]) -> Result<String, Fault> {
+fn documents(alloc: Global, bytes: &[u8]) -> Result<String, YamlFault> {
     let documents = read_documents(alloc, bytes)?;
     let mut text = String::from_str(alloc, "[")?;
     for (index, document) in documents.iter().enumerate() {
@@ -71,14 +71,14 @@ fn documents(alloc: Global, bytes: &[u8]) -> Result<String, Fault> {
 }
 
 // Appends a document: its first line and its value, in a list.
-fn push_document(alloc: Global, text: &mut String, document: &Document) -> Result<(), Fault> {
+fn push_document(alloc: Global, text: &mut String, document: &Document) -> Result<(), YamlFault> {
     let value = document.value.to_string(alloc)?;
     write!(text, "[{},{value}]", document.line)?;
     Ok(())
 }
 
 // The value of a text. The two calls that read it agree on it.
-fn either(alloc: Global, bytes: &[u8]) -> Result<String, Fault> {
+fn either(alloc: Global, bytes: &[u8]) -> Result<String, YamlFault> {
     let value = read_json_or_yaml(alloc, bytes)?.to_string(alloc)?;
     match json_of(alloc, bytes)? {
         Some(json) if json != value => Ok(String::from_str(alloc, "!two values")?),
@@ -87,7 +87,7 @@ fn either(alloc: Global, bytes: &[u8]) -> Result<String, Fault> {
 }
 
 // The line and column of a part.
-fn place(alloc: Global, list: &[Value]) -> Result<String, Fault> {
+fn place(alloc: Global, list: &[Value]) -> Result<String, YamlFault> {
     let text = list.first().and_then(|text| text.as_str()).unwrap_or("");
     let line = list.get(1).and_then(|line| line.as_u64()).unwrap_or(1) as usize;
     let mut steps = Vec::new(alloc);
@@ -99,15 +99,15 @@ fn place(alloc: Global, list: &[Value]) -> Result<String, Fault> {
 }
 
 // The step that this value is: a text is a key, a number is a place of a sequence.
-fn step_of(step: &Value) -> Step<'_> {
+fn step_of(step: &Value) -> PathStep<'_> {
     match step.as_str() {
-        Some(key) => Step::Key(key),
-        None => Step::Entry(step.as_u64().unwrap_or(0) as usize),
+        Some(key) => PathStep::Key(key),
+        None => PathStep::Entry(step.as_u64().unwrap_or(0) as usize),
     }
 }
 
 // The bytes that hexadecimal digits spell, two digits each.
-fn bytes_of(alloc: Global, digits: &[u8]) -> Result<Vec<u8>, Fault> {
+fn bytes_of(alloc: Global, digits: &[u8]) -> Result<Vec<u8>, YamlFault> {
     let mut bytes = Vec::new(alloc);
     for pair in digits.chunks(2) {
         bytes.push(digit(pair.first()) << 4 | digit(pair.get(1)))?;

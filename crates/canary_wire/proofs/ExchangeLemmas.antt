@@ -8,9 +8,9 @@ use Rattle.canary_once.specs.declared.event.Event.{Event}
 use Rattle.canary_once.specs.declared.event.Answer.{Answer}
 use Rattle.canary_once.specs.declared.event.Answer.TheVariants.{Replied, Unavailable}
 use Rattle.canary_once.specs.Contents.{Contents}
-use Rattle.canary_once.specs.Answers.{heard, replies_in, answers_of, after}
+use Rattle.canary_once.specs.Answers.{answered_events, replies_in, answers_of, after}
 use Rattle.canary_once.specs.Laws.{RunsOn}
-use Rattle.canary_wire.specs.Exchanges.{Handling, rejected, no_memory, posted, viewed, IsSureHandling, Exchange, IsExchange, moments_of, event_in, answer_in, events_of, answers_in, Point, AreFirst, Holds, IsHandled, AreHandled, Exchanges, Went}
+use Rattle.canary_wire.specs.Dispositions.{Disposition, rejected, no_memory, posted, viewed, IsSureDisposition, Exchange, IsExchange, moments_of, event_in, answer_in, events_of, answers_in, DeskState, AreFirst, AnsweredInOrder, IsHandled, AreHandled, HandledOne, HandledAll}
 
 -- ---- lists
 
@@ -63,11 +63,11 @@ handled-append : (c d e : Contents) (xs ys : List Exchange) → AreHandled c xs 
 handled-append c d e [] ys p q = let P : Contents → Type 0 = λ t. AreHandled t ys e in subst P p q
 handled-append c d e (x ∷ xs) ys p q = (p.0, p.1, handled-append p.0 d e xs ys p.2 q)
 
-sure_as : (s t : Bool) (xs : List Exchange) → s ≡ t → AllByRecursion (λ x. IsSureHandling s x.handling) xs → AllByRecursion (λ x. IsSureHandling t x.handling) xs
-sure_as s t xs e h = let P : Bool → Type 0 = λ b. AllByRecursion (λ x. IsSureHandling b x.handling) xs in subst P e h
+sure_as : (s t : Bool) (xs : List Exchange) → s ≡ t → AllByRecursion (λ x. IsSureDisposition s x.disposition) xs → AllByRecursion (λ x. IsSureDisposition t x.disposition) xs
+sure_as s t xs e h = let P : Bool → Type 0 = λ b. AllByRecursion (λ x. IsSureDisposition b x.disposition) xs in subst P e h
 
 -- nothing was answered
-pub went_none : (p : Point) → Went p p []
+pub went_none : (p : DeskState) → HandledAll p p []
 went_none p = record {
   each = tt;
   moments = λ says h. (λ k inside. absurd (omega arith), subst p.clock (first_is says) h);
@@ -79,7 +79,7 @@ went_none p = record {
 }
 
 -- one message was answered
-pub went_one : (p q : Point) (x : Exchange) → Exchanges p q x → Went p q (x ∷ [])
+pub went_one : (p q : DeskState) (x : Exchange) → HandledOne p q x → HandledAll p q (x ∷ [])
 went_one p q x e = record {
   each = (e.is, tt);
   moments = λ says h. (let m = e.moment says h in (λ k inside. first_one says x.moment m.0 k inside, m.1));
@@ -90,7 +90,7 @@ went_one p q x e = record {
   receipts = e.books.receipts;
 }
 
-pub went_then : (p q r : Point) (xs ys : List Exchange) → Went p q xs → Went q r ys → Went p r (xs ++ ys)
+pub went_then : (p q r : DeskState) (xs ys : List Exchange) → HandledAll p q xs → HandledAll q r ys → HandledAll p r (xs ++ ys)
 went_then p q r xs ys a b = record {
   each = all-append IsExchange xs ys a.each b.each;
   moments = λ says h.
@@ -102,7 +102,7 @@ went_then p q r xs ys a b = record {
         subst r.clock (later_is says (length xs) (length ys) (length (xs ++ ys)) (len_is xs ys)) n.1,
       );
   honest = λ h. a.honest (b.honest h);
-  sure = (b.sure.0 ∙ a.sure.0, all-append (λ x. IsSureHandling p.book.is_sure x.handling) xs ys a.sure.1 (sure_as q.book.is_sure p.book.is_sure ys a.sure.0 b.sure.1));
+  sure = (b.sure.0 ∙ a.sure.0, all-append (λ x. IsSureDisposition p.book.is_sure x.disposition) xs ys a.sure.1 (sure_as q.book.is_sure p.book.is_sure ys a.sure.0 b.sure.1));
   sound = λ h sound. b.sound h (a.sound (b.honest h) sound);
   handled = λ h. handled-append p.book.contents q.book.contents r.book.contents xs ys (a.handled (b.honest h)) (b.handled h);
   receipts = λ h caller number receipt e. b.receipts h caller number receipt (a.receipts (b.honest h) caller number receipt e);
@@ -111,7 +111,7 @@ went_then p q r xs ys a b = record {
 -- ---- the whole list
 
 -- what one message is told and leaves is that of its event, if it is one
-one_is : (d mid : Contents) (o : Handling) → IsHandled d o mid → (replies_in (answer_in o) ≡ answers_of d (heard (event_in o) (answer_in o))) × (mid ≡ after d (heard (event_in o) (answer_in o)))
+one_is : (d mid : Contents) (o : Disposition) → IsHandled d o mid → (replies_in (answer_in o) ≡ answers_of d (answered_events (event_in o) (answer_in o))) × (mid ≡ after d (answered_events (event_in o) (answer_in o)))
 one_is d mid (rejected r) h = (refl, h)
 one_is d mid no_memory h = (refl, h)
 one_is d mid (posted r (Replied reply)) h = (ap (λ (x : Reply). x ∷ []) h.0, h.1)
@@ -119,7 +119,7 @@ one_is d mid (posted r (Unavailable fault)) h = (refl, h)
 one_is d mid (viewed at q (Replied reply)) h = (ap (λ (x : Reply). x ∷ []) h.0, h.1)
 one_is d mid (viewed at q (Unavailable fault)) h = (refl, h)
 
-replies_first : (o : Handling) (gs : List Answer) → replies_in (answer_in o ++ gs) ≡ replies_in (answer_in o) ++ replies_in gs
+replies_first : (o : Disposition) (gs : List Answer) → replies_in (answer_in o ++ gs) ≡ replies_in (answer_in o) ++ replies_in gs
 replies_first (rejected r) gs = refl
 replies_first no_memory gs = refl
 replies_first (posted r (Replied reply)) gs = refl
@@ -127,7 +127,7 @@ replies_first (posted r (Unavailable fault)) gs = refl
 replies_first (viewed at q (Replied reply)) gs = refl
 replies_first (viewed at q (Unavailable fault)) gs = refl
 
-heard_first : (o : Handling) (es : List Event) (gs : List Answer) → heard (event_in o ++ es) (answer_in o ++ gs) ≡ heard (event_in o) (answer_in o) ++ heard es gs
+heard_first : (o : Disposition) (es : List Event) (gs : List Answer) → answered_events (event_in o ++ es) (answer_in o ++ gs) ≡ answered_events (event_in o) (answer_in o) ++ answered_events es gs
 heard_first (rejected r) es gs = refl
 heard_first no_memory es gs = refl
 heard_first (posted r (Replied reply)) es gs = refl
@@ -136,12 +136,12 @@ heard_first (viewed at q (Replied reply)) es gs = refl
 heard_first (viewed at q (Unavailable fault)) es gs = refl
 
 handled_are : RunsOn → (d new : Contents) (xs : List Exchange) → AreHandled d xs new
-    → (replies_in (answers_in xs) ≡ answers_of d (heard (events_of xs) (answers_in xs))) × (new ≡ after d (heard (events_of xs) (answers_in xs)))
+    → (replies_in (answers_in xs) ≡ answers_of d (answered_events (events_of xs) (answers_in xs))) × (new ≡ after d (answered_events (events_of xs) (answers_in xs)))
 handled_are goes d new [] h = (refl, h)
 handled_are goes d new (x ∷ xs) h =
-    let o = x.handling in
-    let first = heard (event_in o) (answer_in o) in
-    let rest = heard (events_of xs) (answers_in xs) in
+    let o = x.disposition in
+    let first = answered_events (event_in o) (answer_in o) in
+    let rest = answered_events (events_of xs) (answers_in xs) in
     let one = one_is d h.0 o h.1 in
     let others = handled_are goes h.0 new xs h.2 in
     let both = goes d first rest in
@@ -151,7 +151,7 @@ handled_are goes d new (x ∷ xs) h =
     )
 
 -- what was answered step by step is what the small machine answers as a whole
-pub holds_of : RunsOn → (p q : Point) (xs : List Exchange) → Went p q xs → Holds p q xs
+pub holds_of : RunsOn → (p q : DeskState) (xs : List Exchange) → HandledAll p q xs → AnsweredInOrder p q xs
 holds_of goes p q xs went = record {
   each = went.each;
   moments = went.moments;

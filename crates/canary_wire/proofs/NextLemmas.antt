@@ -7,11 +7,11 @@ use Rattle.canary_wire.specs.declared.serve.Turn.{Turn}
 use Rattle.canary_wire.specs.declared.serve.Turn.TheVariants.{Continues, Ends}
 use Rattle.canary_wire.specs.Cut.{IsRejected, rejecting}
 use Rattle.canary_wire.specs.Writes.{Known}
-use Rattle.canary_wire.specs.Exchanges.{Point}
+use Rattle.canary_wire.specs.Dispositions.{DeskState}
 use Rattle.canary_wire.specs.Serving.{last_reply, AnswersAll, AnswersUntil, RejectsAll}
 use Rattle.canary_wire.proofs.ServeLemmas.{answers_none, answers_rejected}
 
-module _ (w w1 : Known) (p : Point) (bytes : List ℕ) (r : Rejection) (bare : Bool) (is : IsRejected bytes r bare) where
+module _ (w w1 : Known) (p : DeskState) (bytes : List ℕ) (r : Rejection) (bare : Bool) (is : IsRejected bytes r bare) where
   -- with its reply whole
   pub rejected_whole : (turn : Turn) → RejectsAll w w1 (last_reply (rejecting r bare)) (Ok turn) → AnswersAll w w1 p p bytes
   rejected_whole Continues wrote = absurd wrote

@@ -3,13 +3,13 @@ use Rattle.std.proofs.Common.{◌≡◌, ◌⊎◌, inl, inr, ℕ, List, [], ◌
 use Rattle.std.specs.Prelude.{Some, flat_map}
 use Rattle.std.specs.Io.KnownBytes.{Appends, Consumes}
 use Rattle.std.proofs.lemmas.List.{append-nil, append_assoc}
-use Rattle.canary_wire.specs.declared.conversation.Stage.{Stage}
-use Rattle.canary_wire.specs.declared.conversation.Stage.TheVariants.{Open, Over, Broken}
-use Rattle.canary_wire.specs.declared.conversation.Step.{Step}
-use Rattle.canary_wire.specs.declared.conversation.Step.TheVariants.{Answered, Waits, Closed, Broke}
+use Rattle.canary_wire.specs.declared.conversation.ConversationState.{ConversationState}
+use Rattle.canary_wire.specs.declared.conversation.ConversationState.TheVariants.{Open, Over, Broken}
+use Rattle.canary_wire.specs.declared.conversation.StepResult.{StepResult}
+use Rattle.canary_wire.specs.declared.conversation.StepResult.TheVariants.{Answered, Waits, Closed, Broke}
 use Rattle.canary_wire.specs.Cut.{Message, Begins, IsCut}
 use Rattle.canary_wire.specs.Writes.{Known}
-use Rattle.canary_wire.specs.Exchanges.{Exchange, messages_of, reply_bytes, Point}
+use Rattle.canary_wire.specs.Dispositions.{Exchange, messages_of, reply_bytes, DeskState}
 use Rattle.canary_wire.specs.Serving.{last_reply, Answers, AnswersAll, AnswersUntil}
 use Rattle.canary_wire.specs.Conversing.{Talk, talk, IsInOrder, so_far, to_the_end, broken_off, InOrder, KeepsOrder, Receives, Sends, AnswersMore, StandsAt, AnswersNext}
 use Rattle.canary_wire.proofs.ExchangeLemmas.{went_none, went_then}
@@ -39,104 +39,104 @@ keeps_then a b c got more put further held others x y read written xs o =
 pub receives_none : (r r1 : Known) (t : Talk) → Consumes r r1 [] → Receives r r1 t t
 receives_none r r1 t c = record { got = []; read = c; order = keeps_none t }
 
-received : (read written got : List ℕ) (xs : List Exchange) (held new owed : List ℕ) → new ≡ held ++ got → IsInOrder read written xs held owed Open → IsInOrder (read ++ got) written xs new owed Open
-received read written got xs held new owed e (so_far begins replies) =
+received : (read written got : List ℕ) (xs : List Exchange) (held new unsent : List ℕ) → new ≡ held ++ got → IsInOrder read written xs held unsent Open → IsInOrder (read ++ got) written xs new unsent Open
+received read written got xs held new unsent e (so_far begins replies) =
     so_far (begins_as (read ++ got) (held ++ got) new (messages_of xs) (sym e) (begins_more read held got (messages_of xs) begins)) replies
 
 -- more was read
-pub receives_more : (r r1 : Known) (held new owed got : List ℕ) (s : Stage) → s ≡ Open → new ≡ held ++ got → Consumes r r1 got → Receives r r1 (talk held owed s) (talk new owed s)
-receives_more r r1 held new owed got s is e c = record {
+pub receives_more : (r r1 : Known) (held new unsent got : List ℕ) (s : ConversationState) → s ≡ Open → new ≡ held ++ got → Consumes r r1 got → Receives r r1 (talk held unsent s) (talk new unsent s)
+receives_more r r1 held new unsent got s is e c = record {
   got = got;
   read = c;
   order = λ read written xs o.
-      let P : Stage → Type 0 = λ t. IsInOrder read written xs held owed t in
-      let Q : Stage → Type 0 = λ t. IsInOrder (read ++ got) written xs new owed t in
-      order_as (read ++ got) (read ++ got) written (written ++ []) xs (xs ++ []) (talk new owed s) refl (sym (append-nil written)) (sym (append-nil xs))
-      (subst Q (sym is) (received read written got xs held new owed e (subst P is o)));
+      let P : ConversationState → Type 0 = λ t. IsInOrder read written xs held unsent t in
+      let Q : ConversationState → Type 0 = λ t. IsInOrder (read ++ got) written xs new unsent t in
+      order_as (read ++ got) (read ++ got) written (written ++ []) xs (xs ++ []) (talk new unsent s) refl (sym (append-nil written)) (sym (append-nil xs))
+      (subst Q (sym is) (received read written got xs held new unsent e (subst P is o)));
 }
 
 -- ---- writing
 
-moved : (written put owed new : List ℕ) → owed ≡ put ++ new → written ++ put ++ new ≡ written ++ owed
-moved written put owed new e = append_assoc written put new ∙ ap (λ t. written ++ t) (sym e)
+moved : (written put unsent new : List ℕ) → unsent ≡ put ++ new → written ++ put ++ new ≡ written ++ unsent
+moved written put unsent new e = append_assoc written put new ∙ ap (λ t. written ++ t) (sym e)
 
-sent : (put held owed new : List ℕ) (s : Stage) → owed ≡ put ++ new → (read written : List ℕ) (xs : List Exchange) → IsInOrder read written xs held owed s → IsInOrder read (written ++ put) xs held new s
-sent put held owed new Open e read written xs (so_far b r) = so_far b (moved written put owed new e ∙ r)
-sent put held owed new Over e read written xs (to_the_end end shut cut r) = to_the_end end shut cut (moved written put owed new e ∙ r)
-sent put held owed new Broken e read written xs (broken_off text cut r) = broken_off text cut (moved written put owed new e ∙ r)
+sent : (put held unsent new : List ℕ) (s : ConversationState) → unsent ≡ put ++ new → (read written : List ℕ) (xs : List Exchange) → IsInOrder read written xs held unsent s → IsInOrder read (written ++ put) xs held new s
+sent put held unsent new Open e read written xs (so_far b r) = so_far b (moved written put unsent new e ∙ r)
+sent put held unsent new Over e read written xs (to_the_end end shut cut r) = to_the_end end shut cut (moved written put unsent new e ∙ r)
+sent put held unsent new Broken e read written xs (broken_off text cut r) = broken_off text cut (moved written put unsent new e ∙ r)
 
-pub sends_some : (w w1 : Known) (held owed new : List ℕ) (s : Stage) → (put : List ℕ) × (owed ≡ put ++ new) × Appends w w1 put → Sends w w1 (talk held owed s) (talk held new s)
-sends_some w w1 held owed new s wrote = record {
+pub sends_some : (w w1 : Known) (held unsent new : List ℕ) (s : ConversationState) → (put : List ℕ) × (unsent ≡ put ++ new) × Appends w w1 put → Sends w w1 (talk held unsent s) (talk held new s)
+sends_some w w1 held unsent new s wrote = record {
   put = wrote.0;
   written = wrote.2;
   order = λ read written xs o.
       order_as read (read ++ []) (written ++ wrote.0) (written ++ wrote.0) xs (xs ++ []) (talk held new s) (sym (append-nil read)) refl (sym (append-nil xs))
-      (sent wrote.0 held owed new s wrote.1 read written xs o);
+      (sent wrote.0 held unsent new s wrote.1 read written xs o);
   same = (refl, refl);
 }
 
 -- ---- answering
 
 -- nothing more was answered
-pub more_none : (p : Point) (t : Talk) → AnswersMore p p t t
+pub more_none : (p : DeskState) (t : Talk) → AnswersMore p p t t
 more_none p t = record { held = []; went = went_none p; order = keeps_none t }
 
-pub more_then : (p q s : Point) (a b c : Talk) → AnswersMore p q a b → AnswersMore q s b c → AnswersMore p s a c
+pub more_then : (p q s : DeskState) (a b c : Talk) → AnswersMore p q a b → AnswersMore q s b c → AnswersMore p s a c
 more_then p q s a b c x y = record {
   held = x.held ++ y.held;
   went = went_then p q s x.held y.held x.went y.went;
   order = keeps_then a b c [] [] [] [] x.held y.held x.order y.order;
 }
 
-replies_more : (written owed new : List ℕ) (xs ys : List Exchange) (last : List ℕ) → written ++ owed ≡ flat_map reply_bytes xs → new ≡ owed ++ (flat_map reply_bytes ys ++ last)
+replies_more : (written unsent new : List ℕ) (xs ys : List Exchange) (last : List ℕ) → written ++ unsent ≡ flat_map reply_bytes xs → new ≡ unsent ++ (flat_map reply_bytes ys ++ last)
     → written ++ new ≡ flat_map reply_bytes (xs ++ ys) ++ last
-replies_more written owed new xs ys last before e =
+replies_more written unsent new xs ys last before e =
     ap (λ t. written ++ t) e
-    ∙ sym (append_assoc written owed (flat_map reply_bytes ys ++ last))
+    ∙ sym (append_assoc written unsent (flat_map reply_bytes ys ++ last))
     ∙ ap (λ t. t ++ (flat_map reply_bytes ys ++ last)) before
     ∙ sym (append_assoc (flat_map reply_bytes xs) (flat_map reply_bytes ys) last)
     ∙ ap (λ t. t ++ last) (sym (replies-append xs ys))
 
-module _ (p q : Point) (held new owed owing : List ℕ) where
-  open_order : (a : Answers (Some owed) (Some owing) p q held new) → (read written : List ℕ) (xs : List Exchange) → IsInOrder read written xs held owed Open → IsInOrder read written (xs ++ a.exchanges) new owing Open
+module _ (p q : DeskState) (held new unsent owing : List ℕ) where
+  open_order : (a : Answers (Some unsent) (Some owing) p q held new) → (read written : List ℕ) (xs : List Exchange) → IsInOrder read written xs held unsent Open → IsInOrder read written (xs ++ a.exchanges) new owing Open
   open_order a read written xs (so_far b r) =
       let Q : List Message → Type 0 = λ t. Begins read t new in
       so_far (subst Q (sym (messages-append xs a.exchanges)) (begins_then read held new (messages_of xs) (messages_of a.exchanges) b a.begins))
-      (ap (λ t. written ++ t) a.written ∙ sym (append_assoc written owed (flat_map reply_bytes a.exchanges)) ∙ ap (λ t. t ++ flat_map reply_bytes a.exchanges) r ∙ sym (replies-append xs a.exchanges))
+      (ap (λ t. written ++ t) a.written ∙ sym (append_assoc written unsent (flat_map reply_bytes a.exchanges)) ∙ ap (λ t. t ++ flat_map reply_bytes a.exchanges) r ∙ sym (replies-append xs a.exchanges))
 
-  over_order : (a : AnswersAll (Some owed) (Some owing) p q held) → (read written : List ℕ) (xs : List Exchange) → IsInOrder read written xs held owed Open → IsInOrder read written (xs ++ a.exchanges) new owing Over
+  over_order : (a : AnswersAll (Some unsent) (Some owing) p q held) → (read written : List ℕ) (xs : List Exchange) → IsInOrder read written xs held unsent Open → IsInOrder read written (xs ++ a.exchanges) new owing Over
   over_order a read written xs (so_far b r) =
       let Q : List Message → Type 0 = λ t. IsCut read t a.end in
       to_the_end a.end a.shut (subst Q (sym (messages-append xs a.exchanges)) (cut_then read held (messages_of xs) (messages_of a.exchanges) a.end b a.cut))
-      (replies_more written owed owing xs a.exchanges (last_reply a.end) r a.written)
+      (replies_more written unsent owing xs a.exchanges (last_reply a.end) r a.written)
 
-  broken_order : (a : AnswersUntil (Some owed) (Some owing) p q held) → (read written : List ℕ) (xs : List Exchange) → IsInOrder read written xs held owed Open → IsInOrder read written (xs ++ a.exchanges) new owing Broken
+  broken_order : (a : AnswersUntil (Some unsent) (Some owing) p q held) → (read written : List ℕ) (xs : List Exchange) → IsInOrder read written xs held unsent Open → IsInOrder read written (xs ++ a.exchanges) new owing Broken
   broken_order a read written xs (so_far b r) =
       broken_off (flat_map reply_bytes xs ++ a.text) (cut_short_then read held a.text xs a.exchanges b a.cut)
-      (ap (λ t. written ++ t) a.written ∙ sym (append_assoc written owed a.text) ∙ ap (λ t. t ++ a.text) r)
+      (ap (λ t. written ++ t) a.written ∙ sym (append_assoc written unsent a.text) ∙ ap (λ t. t ++ a.text) r)
 
   -- of a conversation that was open, by where it stands then
-  more_of : (s t : Stage) (xs : List Exchange)
-      → ((read written : List ℕ) (before : List Exchange) → IsInOrder read written before held owed Open → IsInOrder read written (before ++ xs) new owing t)
-      → s ≡ Open → KeepsOrder (talk held owed s) (talk new owing t) [] [] xs
+  more_of : (s t : ConversationState) (xs : List Exchange)
+      → ((read written : List ℕ) (before : List Exchange) → IsInOrder read written before held unsent Open → IsInOrder read written (before ++ xs) new owing t)
+      → s ≡ Open → KeepsOrder (talk held unsent s) (talk new owing t) [] [] xs
   more_of s t xs order is read written before o =
-      let P : Stage → Type 0 = λ k. IsInOrder read written before held owed k in
+      let P : ConversationState → Type 0 = λ k. IsInOrder read written before held unsent k in
       order_as read (read ++ []) written (written ++ []) (before ++ xs) (before ++ xs) (talk new owing t) (sym (append-nil read)) (sym (append-nil written)) refl
       (order read written before (subst P is o))
 
-  pub more_open : (s t : Stage) → s ≡ Open → t ≡ Open → Answers (Some owed) (Some owing) p q held new → AnswersMore p q (talk held owed s) (talk new owing t)
+  pub more_open : (s t : ConversationState) → s ≡ Open → t ≡ Open → Answers (Some unsent) (Some owing) p q held new → AnswersMore p q (talk held unsent s) (talk new owing t)
   more_open s t is still a =
-      let P : Stage → Type 0 = λ k. KeepsOrder (talk held owed s) (talk new owing k) [] [] a.exchanges in
+      let P : ConversationState → Type 0 = λ k. KeepsOrder (talk held unsent s) (talk new owing k) [] [] a.exchanges in
       record { held = a.exchanges; went = a.went; order = subst P (sym still) (more_of s Open a.exchanges (open_order a) is) }
 
-  pub more_over : (s : Stage) → s ≡ Open → AnswersAll (Some owed) (Some owing) p q held → AnswersMore p q (talk held owed s) (talk new owing Over)
+  pub more_over : (s : ConversationState) → s ≡ Open → AnswersAll (Some unsent) (Some owing) p q held → AnswersMore p q (talk held unsent s) (talk new owing Over)
   more_over s is a = record { held = a.exchanges; went = a.went; order = more_of s Over a.exchanges (over_order a) is }
 
-  pub more_broken : (s : Stage) → s ≡ Open → AnswersUntil (Some owed) (Some owing) p q held → AnswersMore p q (talk held owed s) (talk new owing Broken)
+  pub more_broken : (s : ConversationState) → s ≡ Open → AnswersUntil (Some unsent) (Some owing) p q held → AnswersMore p q (talk held unsent s) (talk new owing Broken)
   more_broken s is a = record { held = a.exchanges; went = a.went; order = more_of s Broken a.exchanges (broken_order a) is }
 
   -- a step behind which it is still open
-  pub more_on : (s : Stage) (step : Step) → (step ≡ Answered) ⊎ (step ≡ Waits) → s ≡ Open → AnswersNext (Some owed) (Some owing) p q held new step → AnswersMore p q (talk held owed s) (talk new owing s)
+  pub more_on : (s : ConversationState) (step : StepResult) → (step ≡ Answered) ⊎ (step ≡ Waits) → s ≡ Open → AnswersNext (Some unsent) (Some owing) p q held new step → AnswersMore p q (talk held unsent s) (talk new owing s)
   more_on s Answered on is a = more_open s s is is a
   more_on s Waits on is a = more_open s s is is a.0
   more_on s Closed (inl e) is a = absurd (cc e)
@@ -144,7 +144,7 @@ module _ (p q : Point) (held new owed owing : List ℕ) where
   more_on s Broke (inl e) is a = absurd (cc e)
   more_on s Broke (inr e) is a = absurd (cc e)
 
-  pub stands_on : (s : Stage) (step : Step) → (step ≡ Answered) ⊎ (step ≡ Waits) → s ≡ Open → AnswersNext (Some owed) (Some owing) p q held new step → StandsAt (talk new owing s) step
+  pub stands_on : (s : ConversationState) (step : StepResult) → (step ≡ Answered) ⊎ (step ≡ Waits) → s ≡ Open → AnswersNext (Some unsent) (Some owing) p q held new step → StandsAt (talk new owing s) step
   stands_on s Answered on is a = is
   stands_on s Waits on is a = (is, a.1)
   stands_on s Closed (inl e) is a = absurd (cc e)

@@ -14,7 +14,7 @@ use Rattle.canary_once.specs.declared.book.BookFault.TheVariants.{Memory, Storag
 use Rattle.canary_once.specs.declared.event.Answer.TheVariants.{Replied, Unavailable}
 use Rattle.canary_once.specs.declared.event.Query.TheVariants as query
 use Rattle.canary_wire.specs.declared.rejection.Allowed.TheVariants.{Put, Get}
-use Rattle.canary_wire.specs.declared.routes.Asked.TheVariants as asked
+use Rattle.canary_wire.specs.declared.routes.Wanted.TheVariants as asked
 use Rattle.canary_wire.specs.declared.rejection.Rejection.TheVariants.{Malformed, Length, TooLong, Method, BadName, Unsupported}
 use Rattle.canary_wire.specs.declared.framing.Framing.TheVariants.{Body, Rejected}
 use Rattle.canary_wire.specs.declared.reply.Response.TheVariants as response

@@ -6,7 +6,7 @@ use Rattle.std.specs.Io.KnownBytes.{Appends, Consumes, IsAtEnd}
 use Rattle.std.proofs.lemmas.List.{append-nil, append_assoc, length-append, map-append}
 use Rattle.std.proofs.lemmas.Grind.{flat_map-append}
 use Rattle.canary_wire.specs.declared.rejection.Rejection.{Rejection}
-use Rattle.canary_wire.specs.declared.cut.Parts.{Parts}
+use Rattle.canary_wire.specs.declared.cut.MessageSpans.{MessageSpans}
 use Rattle.canary_wire.specs.declared.reply.WriteFault.{WriteFault}
 use Rattle.canary_wire.specs.declared.serve.Ended.TheVariants.{EndOfInput, Closed, Truncated, TurnsSpent}
 use Rattle.canary_wire.specs.declared.serve.Turn.{Turn}
@@ -15,7 +15,7 @@ use Rattle.canary_wire.specs.Cut.{Message, message_bytes, IsMessage, IsFirst, Is
 use Rattle.canary_wire.specs.Cut.{KeepsOpen}
 use Rattle.canary_wire.specs.Writes.{Known, Writes}
 use Rattle.canary_once.specs.Laws.{RunsOn}
-use Rattle.canary_wire.specs.Exchanges.{Exchange, messages_of, reply_bytes, Point, Exchanges, Went}
+use Rattle.canary_wire.specs.Dispositions.{Exchange, messages_of, reply_bytes, DeskState, HandledOne, HandledAll}
 use Rattle.canary_wire.specs.Serving.{last_reply, end_of, IsOpen, EndsAs, Serves, ServesTo, ServesSome, ServesUntil, IsCutShort, in_reply, in_rejection, IsSoFar, Answers, AnswersAll, AnswersUntil, AnswersHeld, RejectsAll}
 use Rattle.canary_wire.proofs.CutLemmas.{unfinished_empty}
 use Rattle.canary_wire.proofs.WriteLemmas.{appends_none, appends_more, consumes_none, consumes_more, writes_all}
@@ -75,7 +75,7 @@ cut_short_then bytes mid text xs ys b (in_rejection ks rest front r bare c is cu
 
 -- ---- what is held was answered
 
-pub answers_none : (w : Known) (p : Point) (bytes : List ℕ) → Answers w w p p bytes bytes
+pub answers_none : (w : Known) (p : DeskState) (bytes : List ℕ) → Answers w w p p bytes bytes
 answers_none w p bytes = record { exchanges = []; begins = begins_none bytes; went = went_none p; written = appends_none w }
 
 one_reply : (w w1 w2 : Known) (xs : List Exchange) (x : Exchange) → Appends w w1 (flat_map reply_bytes xs) → Appends w1 w2 (reply_bytes x) → Appends w w2 (flat_map reply_bytes (xs ++ x ∷ []))
@@ -84,8 +84,8 @@ one_reply w w1 w2 xs x a b =
     let e : flat_map reply_bytes xs ++ reply_bytes x ≡ flat_map reply_bytes (xs ++ x ∷ []) = sym (replies-append xs (x ∷ []) ∙ ap (λ t. flat_map reply_bytes xs ++ t) (append-nil (reply_bytes x))) in
     subst P e (appends_more w w1 w2 (flat_map reply_bytes xs) (reply_bytes x) a b)
 
-pub answers_more : (w w1 w2 : Known) (p p1 p2 : Point) (bytes rest : List ℕ) (parts : Parts) (m : Message) (x : Exchange)
-    → Answers w w1 p p1 bytes rest → IsFirst rest parts m → x.message ≡ m → Exchanges p1 p2 x → Writes {E = WriteFault} w1 w2 (reply_bytes x) (Ok tt) → parts.is_last ≡ false
+pub answers_more : (w w1 w2 : Known) (p p1 p2 : DeskState) (bytes rest : List ℕ) (parts : MessageSpans) (m : Message) (x : Exchange)
+    → Answers w w1 p p1 bytes rest → IsFirst rest parts m → x.message ≡ m → HandledOne p1 p2 x → Writes {E = WriteFault} w1 w2 (reply_bytes x) (Ok tt) → parts.is_last ≡ false
     → Answers w w2 p p2 bytes (drop parts.end rest)
 answers_more w w1 w2 p p1 p2 bytes rest parts m x so first same e wrote on =
     let Q : List Message → Type 0 = λ t. Begins bytes t (drop parts.end rest) in
@@ -98,8 +98,8 @@ answers_more w w1 w2 p p1 p2 bytes rest parts m x so first same e wrote on =
       written = one_reply w w1 w2 so.exchanges x so.written (writes_all w1 w2 (reply_bytes x) wrote);
     }
 
-pub answers_last : (w w1 w2 : Known) (p p1 p2 : Point) (bytes rest : List ℕ) (parts : Parts) (m : Message) (x : Exchange)
-    → Answers w w1 p p1 bytes rest → IsFirst rest parts m → x.message ≡ m → Exchanges p1 p2 x → Writes {E = WriteFault} w1 w2 (reply_bytes x) (Ok tt) → parts.is_last ≡ true
+pub answers_last : (w w1 w2 : Known) (p p1 p2 : DeskState) (bytes rest : List ℕ) (parts : MessageSpans) (m : Message) (x : Exchange)
+    → Answers w w1 p p1 bytes rest → IsFirst rest parts m → x.message ≡ m → HandledOne p1 p2 x → Writes {E = WriteFault} w1 w2 (reply_bytes x) (Ok tt) → parts.is_last ≡ true
     → AnswersAll w w2 p p2 bytes
 answers_last w w1 w2 p p1 p2 bytes rest parts m x so first same e wrote last =
     let P : List ℕ → Type 0 = λ t. Appends w w2 t in
@@ -114,8 +114,8 @@ answers_last w w1 w2 p p1 p2 bytes rest parts m x so first same e wrote last =
       written = subst P (sym (append-nil (flat_map reply_bytes (so.exchanges ++ x ∷ [])))) (one_reply w w1 w2 so.exchanges x so.written (writes_all w1 w2 (reply_bytes x) wrote));
     }
 
-pub answers_until : (w w1 w2 : Known) (p p1 p2 : Point) (bytes rest : List ℕ) (parts : Parts) (m : Message) (x : Exchange) (fault : WriteFault)
-    → Answers w w1 p p1 bytes rest → IsFirst rest parts m → x.message ≡ m → Exchanges p1 p2 x → Writes w1 w2 (reply_bytes x) (Err fault)
+pub answers_until : (w w1 w2 : Known) (p p1 p2 : DeskState) (bytes rest : List ℕ) (parts : MessageSpans) (m : Message) (x : Exchange) (fault : WriteFault)
+    → Answers w w1 p p1 bytes rest → IsFirst rest parts m → x.message ≡ m → HandledOne p1 p2 x → Writes w1 w2 (reply_bytes x) (Err fault)
     → AnswersUntil w w2 p p2 bytes
 answers_until w w1 w2 p p1 p2 bytes rest parts m x fault so first same e wrote =
     let whole : rest ≡ message_bytes x.message ++ drop parts.end rest = first.whole ∙ ap (λ (t : Message). message_bytes t ++ drop parts.end rest) (sym same) in
@@ -128,7 +128,7 @@ answers_until w w1 w2 p p1 p2 bytes rest parts m x fault so first same e wrote =
       written = appends_more w w1 w2 (flat_map reply_bytes so.exchanges) wrote.front so.written wrote.written;
     }
 
-pub answers_rejected : (w w1 w2 : Known) (p p1 : Point) (bytes rest left : List ℕ) (r : Rejection) (bare : Bool) (result : Result Turn WriteFault)
+pub answers_rejected : (w w1 w2 : Known) (p p1 : DeskState) (bytes rest left : List ℕ) (r : Rejection) (bare : Bool) (result : Result Turn WriteFault)
     → Answers w w1 p p1 bytes rest → IsRejected rest r bare → RejectsAll w1 w2 (last_reply (rejecting r bare)) result → AnswersHeld w w2 p p1 bytes left result
 answers_rejected w w1 w2 p p1 bytes rest left r bare (Ok Continues) so is wrote = absurd wrote
 answers_rejected w w1 w2 p p1 bytes rest left r bare (Ok Ends) so is wrote = record {
@@ -149,7 +149,7 @@ answers_rejected w w1 w2 p p1 bytes rest left r bare (Err fault) so is wrote = r
 
 -- ---- what was read was answered
 
-pub so_far_none : (r w : Known) (p : Point) (held : List ℕ) → held ≡ [] → IsSoFar r r w w p p 0 held
+pub so_far_none : (r w : Known) (p : DeskState) (held : List ℕ) → held ≡ [] → IsSoFar r r w w p p 0 held
 so_far_none r w p held e = record {
   bytes = held;
   exchanges = [];
@@ -162,14 +162,14 @@ so_far_none r w p held e = record {
 }
 
 -- the front that was read before, and what was read now
-module _ (goes : RunsOn) (r r1 r2 w w1 : Known) (p p1 : Point) (n : ℕ) (old new got : List ℕ) (so : IsSoFar r r1 w w1 p p1 n old) (e : new ≡ old ++ got) (more : Consumes r1 r2 got) where
+module _ (goes : RunsOn) (r r1 r2 w w1 : Known) (p p1 : DeskState) (n : ℕ) (old new got : List ℕ) (so : IsSoFar r r1 w w1 p p1 n old) (e : new ≡ old ++ got) (more : Consumes r1 r2 got) where
   begins_new : Begins (so.bytes ++ got) (messages_of so.exchanges) new
   begins_new = begins_as (so.bytes ++ got) (old ++ got) new (messages_of so.exchanges) (sym e) (begins_more so.bytes old got (messages_of so.exchanges) so.begins)
 
   read_new : Consumes r r2 (so.bytes ++ got)
   read_new = consumes_more r r1 r2 so.bytes got so.read more
 
-  pub so_far_more : (w2 : Known) (p2 : Point) (rest : List ℕ) → 0 < length got → Answers w1 w2 p1 p2 new rest → IsUnfinished rest → IsSoFar r r2 w w2 p p2 (n + 1) rest
+  pub so_far_more : (w2 : Known) (p2 : DeskState) (rest : List ℕ) → 0 < length got → Answers w1 w2 p1 p2 new rest → IsUnfinished rest → IsSoFar r r2 w w2 p p2 (n + 1) rest
   so_far_more w2 p2 rest some a u =
       let Q : List Message → Type 0 = λ t. Begins (so.bytes ++ got) t rest in
       let P : List ℕ → Type 0 = λ t. Appends w w2 t in
@@ -184,7 +184,7 @@ module _ (goes : RunsOn) (r r1 r2 w w1 : Known) (p p1 : Point) (n : ℕ) (old ne
         many = (let m = so.many in omega (arith, length-append so.bytes got));
       }
 
-  pub so_far_all : (w2 : Known) (p2 : Point) → AnswersAll w1 w2 p1 p2 new → ServesTo r r2 w w2 p p2 Closed
+  pub so_far_all : (w2 : Known) (p2 : DeskState) → AnswersAll w1 w2 p1 p2 new → ServesTo r r2 w w2 p p2 Closed
   so_far_all w2 p2 a =
       let Q : List Message → Type 0 = λ t. IsCut (so.bytes ++ got) t a.end in
       let P : List ℕ → Type 0 = λ t. Appends w w2 t in
@@ -202,7 +202,7 @@ module _ (goes : RunsOn) (r r1 r2 w w1 : Known) (p p1 : Point) (n : ℕ) (old ne
         },
       )
 
-  pub so_far_until : (w2 : Known) (p2 : Point) → AnswersUntil w1 w2 p1 p2 new → ServesUntil r r2 w w2 p p2
+  pub so_far_until : (w2 : Known) (p2 : DeskState) → AnswersUntil w1 w2 p1 p2 new → ServesUntil r r2 w w2 p p2
   so_far_until w2 p2 a = record {
     bytes = so.bytes ++ got;
     text = flat_map reply_bytes so.exchanges ++ a.text;
@@ -222,7 +222,7 @@ is_open : (b : Bool) → IsOpen (if b then idle else cut_off)
 is_open true = tt
 is_open false = tt
 
-serves_open : RunsOn → (r r1 w w1 : Known) (p p1 : Point) (bytes rest : List ℕ) (xs : List Exchange) → Consumes r r1 bytes → Begins bytes (messages_of xs) rest → IsUnfinished rest → Went p p1 xs → Appends w w1 (flat_map reply_bytes xs)
+serves_open : RunsOn → (r r1 w w1 : Known) (p p1 : DeskState) (bytes rest : List ℕ) (xs : List Exchange) → Consumes r r1 bytes → Begins bytes (messages_of xs) rest → IsUnfinished rest → HandledAll p p1 xs → Appends w w1 (flat_map reply_bytes xs)
     → Serves r r1 w w1 p p1 bytes (if list_all is_newline rest then idle else cut_off)
 serves_open goes r r1 w w1 p p1 bytes rest xs read begins u went wrote =
     let P : List ℕ → Type 0 = λ t. Appends w w1 t in record {
@@ -233,7 +233,7 @@ serves_open goes r r1 w w1 p p1 bytes rest xs read begins u went wrote =
       written = subst P (sym (ap (λ t. flat_map reply_bytes xs ++ t) (no_last (list_all is_newline rest)) ∙ append-nil (flat_map reply_bytes xs))) wrote;
     }
 
-pub so_far_open : RunsOn → (r r1 r2 w w1 : Known) (p p1 : Point) (n : ℕ) (old : List ℕ) → IsSoFar r r1 w w1 p p1 n old → Consumes r1 r2 [] → ServesSome r r2 w w1 p p1
+pub so_far_open : RunsOn → (r r1 r2 w w1 : Known) (p p1 : DeskState) (n : ℕ) (old : List ℕ) → IsSoFar r r1 w w1 p p1 n old → Consumes r1 r2 [] → ServesSome r r2 w w1 p p1
 so_far_open goes r r1 r2 w w1 p p1 n old so more =
     let P : List ℕ → Type 0 = λ t. Consumes r r2 t in
     let read = subst P (append-nil so.bytes) (consumes_more r r1 r2 so.bytes [] so.read more) in (
@@ -243,7 +243,7 @@ so_far_open goes r r1 r2 w w1 p p1 n old so more =
       serves_open goes r r2 w w1 p p1 so.bytes old so.exchanges read so.begins so.unfinished so.went so.written,
     )
 
-pub so_far_spent : RunsOn → (r r1 w w1 : Known) (p p1 : Point) (n : ℕ) (old : List ℕ) → IsSoFar r r1 w w1 p p1 n old → 1000000000 ≤ n → ServesTo r r1 w w1 p p1 TurnsSpent
+pub so_far_spent : RunsOn → (r r1 w w1 : Known) (p p1 : DeskState) (n : ℕ) (old : List ℕ) → IsSoFar r r1 w w1 p p1 n old → 1000000000 ≤ n → ServesTo r r1 w w1 p p1 TurnsSpent
 so_far_spent goes r r1 w w1 p p1 n old so spent = (
   so.bytes,
   (if list_all is_newline old then idle else cut_off),
@@ -259,7 +259,7 @@ ends_at : (b : Bool) (bytes : List ℕ) (left : Known) → IsAtEnd left → Ends
 ends_at true bytes left h = (refl, h)
 ends_at false bytes left h = (refl, h)
 
-pub so_far_end : RunsOn → (r r1 r2 w w1 : Known) (p p1 : Point) (n : ℕ) (old new got : List ℕ) → IsSoFar r r1 w w1 p p1 n old → new ≡ old ++ got → Consumes r1 r2 got → length got ≡ 0 → IsAtEnd r2
+pub so_far_end : RunsOn → (r r1 r2 w w1 : Known) (p p1 : DeskState) (n : ℕ) (old new got : List ℕ) → IsSoFar r r1 w w1 p p1 n old → new ≡ old ++ got → Consumes r1 r2 got → length got ≡ 0 → IsAtEnd r2
     → ServesTo r r2 w w1 p p1 (end_of new)
 so_far_end goes r r1 r2 w w1 p p1 n old new got so e more none at =
     let nothing = empty got none in

@@ -3,17 +3,17 @@ use Rattle.std.specs.Prelude.{◌≡◌, ◌≢◌, ℕ, ◌<◌, true, false, L
 use Rattle.std.specs.Prelude.{if◌then◌else◌}
 use Rattle.std.specs.List.{list_all}
 use Rattle.std.specs.Io.KnownBytes.{Appends, Consumes, IsAtEnd}
-use Rattle.canary_wire.specs.declared.conversation.Stage.{Stage}
-use Rattle.canary_wire.specs.declared.conversation.Stage.TheVariants.{Open, Over, Broken}
-use Rattle.canary_wire.specs.declared.conversation.Step.{Step}
-use Rattle.canary_wire.specs.declared.conversation.Step.TheVariants.{Answered, Waits, Closed, Broke}
+use Rattle.canary_wire.specs.declared.conversation.ConversationState.{ConversationState}
+use Rattle.canary_wire.specs.declared.conversation.ConversationState.TheVariants.{Open, Over, Broken}
+use Rattle.canary_wire.specs.declared.conversation.StepResult.{StepResult}
+use Rattle.canary_wire.specs.declared.conversation.StepResult.TheVariants.{Answered, Waits, Closed, Broke}
 use Rattle.canary_wire.specs.declared.conversation.Wants.{Wants}
 use Rattle.canary_wire.specs.declared.conversation.Wants.TheVariants as wants
 use Rattle.canary_wire.specs.declared.conversation.Cause.{Cause}
 use Rattle.canary_wire.specs.declared.conversation.Cause.TheVariants as cause
 use Rattle.canary_wire.specs.Cut.{is_newline, Begins, IsUnfinished, Ending, IsCut}
 use Rattle.canary_wire.specs.Writes.{Known}
-use Rattle.canary_wire.specs.Exchanges.{Exchange, messages_of, reply_bytes, Point, Went}
+use Rattle.canary_wire.specs.Dispositions.{Exchange, messages_of, reply_bytes, DeskState, HandledAll}
 use Rattle.canary_wire.specs.Serving.{last_reply, IsShut, IsCutShort}
 use Rattle.canary_wire.specs.Serving.{Answers, AnswersAll, AnswersUntil}
 
@@ -21,11 +21,11 @@ use Rattle.canary_wire.specs.Serving.{Answers, AnswersAll, AnswersUntil}
 -- conversation stands
 pub record Talk : Type 0 where
   pub held : List ℕ
-  pub owed : List ℕ
-  pub stage : Stage
+  pub unsent : List ℕ
+  pub stage : ConversationState
 
-abbrev pub talk : List ℕ → List ℕ → Stage → Talk
-talk held owed stage = record { held = held; owed = owed; stage = stage }
+abbrev pub talk : List ℕ → List ℕ → ConversationState → Talk
+talk held unsent stage = record { held = held; unsent = unsent; stage = stage }
 
 abbrev pub begun : Talk
 begun = talk [] [] Open
@@ -35,18 +35,18 @@ begun = talk [] [] Open
 -- of the bytes that were read these exchanges were held, and what was written with what is owed are
 -- their replies, in order: as far as messages are whole, up to the end with its last reply, or up
 -- to the message for whose reply there was no memory
-pub data IsInOrder (read written : List ℕ) (xs : List Exchange) (held owed : List ℕ)
-    : Stage → Type 0 where
-  so_far : Begins read (messages_of xs) held → written ++ owed ≡ flat_map reply_bytes xs
-      → IsInOrder read written xs held owed Open
+pub data IsInOrder (read written : List ℕ) (xs : List Exchange) (held unsent : List ℕ)
+    : ConversationState → Type 0 where
+  so_far : Begins read (messages_of xs) held → written ++ unsent ≡ flat_map reply_bytes xs
+      → IsInOrder read written xs held unsent Open
   to_the_end : (end : Ending) → IsShut end → IsCut read (messages_of xs) end
-      → written ++ owed ≡ flat_map reply_bytes xs ++ last_reply end
-      → IsInOrder read written xs held owed Over
-  broken_off : (text : List ℕ) → IsCutShort read text xs → written ++ owed ≡ text
-      → IsInOrder read written xs held owed Broken
+      → written ++ unsent ≡ flat_map reply_bytes xs ++ last_reply end
+      → IsInOrder read written xs held unsent Over
+  broken_off : (text : List ℕ) → IsCutShort read text xs → written ++ unsent ≡ text
+      → IsInOrder read written xs held unsent Broken
 
 abbrev pub InOrder : List ℕ → List ℕ → List Exchange → Talk → Type 0
-InOrder read written xs t = IsInOrder read written xs t.held t.owed t.stage
+InOrder read written xs t = IsInOrder read written xs t.held t.unsent t.stage
 
 -- with these further bytes read and written and exchanges held a conversation stays in order,
 -- whatever was said in it before
@@ -56,20 +56,20 @@ KeepsOrder old new got put held =
     → InOrder (read ++ got) (written ++ put) (xs ++ held) new
 
 -- a turn: bytes were read and written, and exchanges held
-pub record TakesTurn (r new_r w new_w : Known) (p q : Point) (old new : Talk) : Type 0 where
+pub record TakesTurn (r new_r w new_w : Known) (p q : DeskState) (old new : Talk) : Type 0 where
   pub got : List ℕ
   pub put : List ℕ
   pub held : List Exchange
   pub read : Consumes r new_r got
   pub written : Appends w new_w put
-  pub went : Went p q held
+  pub went : HandledAll p q held
   pub order : KeepsOrder old new got put held
 
 -- ---- what it waits for
 
 -- it is open, nothing is owed, and no whole message is held
 abbrev pub IsListening : Talk → Type 0
-IsListening t = (t.stage ≡ Open) × (t.owed ≡ []) × IsUnfinished t.held
+IsListening t = (t.stage ≡ Open) × (t.unsent ≡ []) × IsUnfinished t.held
 
 -- the last reply is owed or was written, or there was no memory for one
 abbrev pub IsOver : Talk → Type 0
@@ -86,16 +86,16 @@ IsCause r t cause.EndOfInput =
 IsCause r t cause.Truncated =
     IsListening t × IsAtEnd r × (list_all is_newline t.held ≡ false)
 IsCause r t cause.Read = IsListening t
-IsCause r t cause.Write = 0 < length t.owed
-IsCause r t cause.Memory = (t.stage ≡ Broken) × (t.owed ≡ [])
+IsCause r t cause.Write = 0 < length t.unsent
+IsCause r t cause.Memory = (t.stage ≡ Broken) × (t.unsent ≡ [])
 
 -- what a conversation waits for, with what its reader has left
 abbrev pub Awaits : Known → Talk → Wants → Type 0
 Awaits r t wants.Read = IsListening t
-Awaits r t wants.Write = 0 < length t.owed
-Awaits r t wants.Turn = (t.stage ≡ Open) × (t.owed ≡ [])
-Awaits r t wants.Rest = (t.stage ≡ Over) × (t.owed ≡ [])
-Awaits r t (wants.Nothing cause) = IsCause r t cause
+Awaits r t wants.Write = 0 < length t.unsent
+Awaits r t wants.Yield = (t.stage ≡ Open) × (t.unsent ≡ [])
+Awaits r t wants.Drain = (t.stage ≡ Over) × (t.unsent ≡ [])
+Awaits r t (wants.Close cause) = IsCause r t cause
 
 -- ---- the steps of a turn
 
@@ -113,18 +113,18 @@ pub record Sends (w new_w : Known) (old new : Talk) : Type 0 where
   pub same : (new.held ≡ old.held) × (new.stage ≡ old.stage)
 
 -- further exchanges were held
-pub record AnswersMore (p q : Point) (old new : Talk) : Type 0 where
+pub record AnswersMore (p q : DeskState) (old new : Talk) : Type 0 where
   pub held : List Exchange
-  pub went : Went p q held
+  pub went : HandledAll p q held
   pub order : KeepsOrder old new [] [] held
 
 -- and more was written
-abbrev pub Replies : Known → Known → Point → Point → Talk → Talk → Type 0
+abbrev pub Replies : Known → Known → DeskState → DeskState → Talk → Talk → Type 0
 Replies w new_w p q old new =
     (mid : Talk) × AnswersMore p q old mid × Sends w new_w mid new
 
 -- where a conversation stands behind a step
-abbrev pub StandsAt : Talk → Step → Type 0
+abbrev pub StandsAt : Talk → StepResult → Type 0
 StandsAt t Answered = t.stage ≡ Open
 StandsAt t Waits = (t.stage ≡ Open) × IsUnfinished t.held
 StandsAt t Closed = t.stage ≡ Over
@@ -132,7 +132,8 @@ StandsAt t Broke = t.stage ≡ Broken
 
 -- of held bytes the message that stands first was answered, or what does was rejected, or there is
 -- no whole one, or the writer failed
-abbrev pub AnswersNext : Known → Known → Point → Point → List ℕ → List ℕ → Step → Type 0
+abbrev pub AnswersNext : Known → Known → DeskState → DeskState → List ℕ → List ℕ → StepResult
+    → Type 0
 AnswersNext w new_w p q held rest Answered = Answers w new_w p q held rest
 AnswersNext w new_w p q held rest Waits = Answers w new_w p q held rest × IsUnfinished rest
 AnswersNext w new_w p q held rest Closed = AnswersAll w new_w p q held

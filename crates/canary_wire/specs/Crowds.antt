@@ -2,7 +2,7 @@
 use Rattle.std.specs.Prelude.{◌≡◌, ◌≢◌, ℕ, ◌==◌, List, [], ◌∷◌, ◌++◌, flat_map}
 use Rattle.std.specs.Prelude.{Option, None, Some, if◌then◌else◌}
 use Rattle.std.specs.List.{AllByRecursion}
-use Rattle.canary_wire.specs.Exchanges.{Exchange}
+use Rattle.canary_wire.specs.Dispositions.{Exchange}
 use Rattle.canary_wire.specs.Conversing.{Talk, begun, InOrder, KeepsOrder}
 
 -- ---- turns

@@ -7,9 +7,9 @@ use Rattle.httparse.specs.Spans.{span_bytes, RequestExceeds}
 use Rattle.canary_wire.specs.declared.rejection.Rejection.{Rejection}
 use Rattle.canary_wire.specs.declared.rejection.Rejection.TheVariants.{Malformed}
 use Rattle.canary_wire.specs.declared.framing.Framing.TheVariants.{Body, Rejected}
-use Rattle.canary_wire.specs.declared.cut.Next.{Next}
-use Rattle.canary_wire.specs.declared.cut.Next.TheVariants as next
-use Rattle.canary_wire.specs.declared.cut.Parts.{Parts}
+use Rattle.canary_wire.specs.declared.cut.FirstMessage.{FirstMessage}
+use Rattle.canary_wire.specs.declared.cut.FirstMessage.TheVariants as next
+use Rattle.canary_wire.specs.declared.cut.MessageSpans.{MessageSpans}
 use Rattle.canary_wire.specs.Heads.{head_framing, closes, is_bare}
 
 -- ---- messages
@@ -120,7 +120,7 @@ SameEnding bytes ms e f =
 -- ---- what the code finds first
 
 -- a message with its parts at these places
-pub record IsFirst (bytes : List ℕ) (p : Parts) (m : Message) : Type 0 where
+pub record IsFirst (bytes : List ℕ) (p : MessageSpans) (m : Message) : Type 0 where
   pub is : IsMessage m
   pub whole : bytes ≡ message_bytes m ++ drop p.end bytes
   pub fits : p.end ≤ length bytes
@@ -134,7 +134,7 @@ pub record IsFirst (bytes : List ℕ) (p : Parts) (m : Message) : Type 0 where
   pub is_last : p.is_last ≡ closes m.head
   pub head_alone : p.head_alone ≡ is_bare m.head
 
-abbrev pub Cuts : List ℕ → Next → Type 0
+abbrev pub Cuts : List ℕ → FirstMessage → Type 0
 Cuts bytes (next.Message p) = (m : Message) × IsFirst bytes p m
 Cuts bytes (next.Rejected r bare) = IsRejected bytes r bare
 Cuts bytes next.Unfinished = IsUnfinished bytes

@@ -1,13 +1,13 @@
 pub mod Heads
-pub mod Named
+pub mod FramingFields
 pub mod Cut
 pub mod ReplyTexts
 pub mod Writes
 pub mod Buffers
 pub mod Routes
-pub mod Exchanges
+pub mod Dispositions
 pub mod Serving
-pub mod Owing
+pub mod Unsent
 pub mod Conversing
 pub mod Talks
 pub mod Crowds

@@ -14,8 +14,8 @@ use Rattle.canary_wire.specs.declared.routes.Route.{Route}
 use Rattle.canary_wire.specs.declared.routes.Route.TheVariants as route
 use Rattle.canary_wire.specs.declared.routes.PathParts.{PathParts}
 use Rattle.canary_wire.specs.declared.routes.PathParts.TheVariants as parts
-use Rattle.canary_wire.specs.declared.routes.Asked.{Asked}
-use Rattle.canary_wire.specs.declared.routes.Asked.TheVariants as asked
+use Rattle.canary_wire.specs.declared.routes.Wanted.{Wanted}
+use Rattle.canary_wire.specs.declared.routes.Wanted.TheVariants as asked
 use Rattle.canary_wire.specs.ReplyTexts.{method_name}
 
 -- ---- paths
@@ -90,7 +90,7 @@ name_in (history name) = name
 name_in (run name number) = name
 
 -- the parts are read so
-abbrev pub IsReadAs : Target → Asked → Type 0
+abbrev pub IsReadAs : Target → Wanted → Type 0
 IsReadAs t (asked.Request a) =
     (digits : List ℕ) × (t ≡ request a.caller digits) × IsTrue (is_name a.caller)
     × SpellsNumber digits a.number
@@ -107,14 +107,14 @@ HasBadNumber (history name) = ⊥
 HasBadNumber (run name digits) = (n : ℕ) → ¬ (SpellsNumber digits n)
 
 -- the parts are read so, or the first rejection that holds of them
-abbrev pub IsTargetRead : Target → Result Asked Rejection → Type 0
+abbrev pub IsTargetRead : Target → Result Wanted Rejection → Type 0
 IsTargetRead t (Ok a) = IsReadAs t a
 IsTargetRead t (Err BadName) = ¬ (IsTrue (is_name (name_in t)))
 IsTargetRead t (Err BadNumber) = IsTrue (is_name (name_in t)) × HasBadNumber t
 IsTargetRead t (Err _) = ⊥
 
 -- what a method and a target ask for, or the first rejection that holds
-abbrev pub IsAsked : List ℕ → List ℕ → Result Asked Rejection → Type 0
+abbrev pub IsAsked : List ℕ → List ℕ → Result Wanted Rejection → Type 0
 IsAsked method target (Ok a) = (t : Target) × LeadsTo method target t × IsReadAs t a
 IsAsked method target (Err NoRoute) = HasNoRoute (path_of target)
 IsAsked method target (Err (Method allowed)) =

@@ -14,7 +14,7 @@ use Rattle.canary_wire.specs.declared.reply.WriteFault.{WriteFault}
 use Rattle.canary_wire.specs.Cut.{is_newline, message_bytes, IsMessage, IsRejected, IsUnfinished, Begins, Ending, idle, cut_off, closing, rejecting, IsCut}
 use Rattle.canary_wire.specs.ReplyTexts.{reply_text}
 use Rattle.canary_wire.specs.Writes.{Known}
-use Rattle.canary_wire.specs.Exchanges.{Exchange, messages_of, reply_bytes, Point, Holds, Went}
+use Rattle.canary_wire.specs.Dispositions.{Exchange, messages_of, reply_bytes, DeskState, AnsweredInOrder, HandledAll}
 
 -- how a stream ends whose input ends with these bytes behind the last message
 abbrev pub end_of : List ℕ → Ended
@@ -52,21 +52,21 @@ EndsAs bytes end left TurnsSpent = IsOpen end × (1000000000 ≤ length bytes)
 -- (here `r` is what the reader has left, `w` what the writer holds)
 -- the bytes that were read are cut into messages, and the bytes that were written are the replies
 -- to these, in order, and then that of the rejection that ends the stream
-pub record Serves (r new_r w new_w : Known) (old new : Point) (bytes : List ℕ)
+pub record Serves (r new_r w new_w : Known) (old new : DeskState) (bytes : List ℕ)
     (end : Ending) : Type 0 where
   pub exchanges : List Exchange
   pub read : Consumes r new_r bytes
   pub cut : IsCut bytes (messages_of exchanges) end
-  pub holds : Holds old new exchanges
+  pub holds : AnsweredInOrder old new exchanges
   pub written : Appends w new_w (flat_map reply_bytes exchanges ++ last_reply end)
 
-abbrev pub ServesTo : Known → Known → Known → Known → Point → Point → Ended → Type 0
+abbrev pub ServesTo : Known → Known → Known → Known → DeskState → DeskState → Ended → Type 0
 ServesTo r new_r w new_w old new ended =
     (bytes : List ℕ) × (end : Ending) × EndsAs bytes end new_r ended
     × Serves r new_r w new_w old new bytes end
 
 -- all that was read was answered, up to where more bytes might have gone on
-abbrev pub ServesSome : Known → Known → Known → Known → Point → Point → Type 0
+abbrev pub ServesSome : Known → Known → Known → Known → DeskState → DeskState → Type 0
 ServesSome r new_r w new_w old new =
     (bytes : List ℕ) × (end : Ending) × IsOpen end × Serves r new_r w new_w old new bytes end
 
@@ -90,16 +90,17 @@ pub data IsCutShort (bytes text : List ℕ) : List Exchange → Type 0 where
 
 -- the writer failed: what went out are the first bytes of the replies, and the last message is the
 -- one whose reply did not go out whole
-pub record ServesUntil (r new_r w new_w : Known) (old new : Point) : Type 0 where
+pub record ServesUntil (r new_r w new_w : Known) (old new : DeskState) : Type 0 where
   pub bytes : List ℕ
   pub text : List ℕ
   pub exchanges : List Exchange
   pub read : Consumes r new_r bytes
   pub cut : IsCutShort bytes text exchanges
-  pub holds : Holds old new exchanges
+  pub holds : AnsweredInOrder old new exchanges
   pub written : Appends w new_w text
 
-abbrev pub TurnsTo : Known → Known → Known → Known → Point → Point → Result Ended TurnFault → Type 0
+abbrev pub TurnsTo : Known → Known → Known → Known → DeskState → DeskState → Result Ended TurnFault
+    → Type 0
 TurnsTo r new_r w new_w old new (Ok ended) = ServesTo r new_r w new_w old new ended
 TurnsTo r new_r w new_w old new (Err Read) = ServesSome r new_r w new_w old new
 TurnsTo r new_r w new_w old new (Err Write) = ServesUntil r new_r w new_w old new
@@ -107,43 +108,44 @@ TurnsTo r new_r w new_w old new (Err Write) = ServesUntil r new_r w new_w old ne
 -- ---- step by step
 
 -- bytes were answered as far as these that are held
-pub record IsSoFar (r now_r w now_w : Known) (old now : Point) (turns : ℕ)
+pub record IsSoFar (r now_r w now_w : Known) (old now : DeskState) (turns : ℕ)
     (held : List ℕ) : Type 0 where
   pub bytes : List ℕ
   pub exchanges : List Exchange
   pub read : Consumes r now_r bytes
   pub begins : Begins bytes (messages_of exchanges) held
   pub unfinished : IsUnfinished held
-  pub went : Went old now exchanges
+  pub went : HandledAll old now exchanges
   pub written : Appends w now_w (flat_map reply_bytes exchanges)
   pub many : turns ≤ length bytes
 
 -- the messages that bytes begin with were answered
-pub record Answers (w new_w : Known) (old new : Point) (bytes rest : List ℕ) : Type 0 where
+pub record Answers (w new_w : Known) (old new : DeskState) (bytes rest : List ℕ) : Type 0 where
   pub exchanges : List Exchange
   pub begins : Begins bytes (messages_of exchanges) rest
-  pub went : Went old new exchanges
+  pub went : HandledAll old new exchanges
   pub written : Appends w new_w (flat_map reply_bytes exchanges)
 
 -- and the stream ended
-pub record AnswersAll (w new_w : Known) (old new : Point) (bytes : List ℕ) : Type 0 where
+pub record AnswersAll (w new_w : Known) (old new : DeskState) (bytes : List ℕ) : Type 0 where
   pub exchanges : List Exchange
   pub end : Ending
   pub shut : IsShut end
   pub cut : IsCut bytes (messages_of exchanges) end
-  pub went : Went old new exchanges
+  pub went : HandledAll old new exchanges
   pub written : Appends w new_w (flat_map reply_bytes exchanges ++ last_reply end)
 
 -- or the writer failed
-pub record AnswersUntil (w new_w : Known) (old new : Point) (bytes : List ℕ) : Type 0 where
+pub record AnswersUntil (w new_w : Known) (old new : DeskState) (bytes : List ℕ) : Type 0 where
   pub text : List ℕ
   pub exchanges : List Exchange
   pub cut : IsCutShort bytes text exchanges
-  pub went : Went old new exchanges
+  pub went : HandledAll old new exchanges
   pub written : Appends w new_w text
 
 -- what became of held bytes
-abbrev pub AnswersHeld : Known → Known → Point → Point → List ℕ → List ℕ → Result Turn WriteFault
+abbrev pub AnswersHeld : Known → Known → DeskState → DeskState → List ℕ → List ℕ
+    → Result Turn WriteFault
     → Type 0
 AnswersHeld w new_w old new held rest (Ok Continues) =
     Answers w new_w old new held rest × IsUnfinished rest

@@ -1,16 +1,16 @@
 //! Answering one message.
 ghost use Rattle.std.specs.Prelude.{◌≡◌, ℕ, List, Ok};
 ghost use Rattle.canary_wire.specs.Cut.{Message, IsFirst};
-ghost use Rattle.canary_wire.specs.Exchanges.{Handling, Exchange, Exchanges, Books};
-ghost use Rattle.canary_wire.specs.Exchanges.{response_of, IsRequest, IsHandling};
-ghost use Rattle.canary_wire.specs.Exchanges.{reply_bytes, point};
+ghost use Rattle.canary_wire.specs.Dispositions.{Disposition, Exchange, HandledOne, BookStep};
+ghost use Rattle.canary_wire.specs.Dispositions.{response_of, IsRequest, IsDisposition};
+ghost use Rattle.canary_wire.specs.Dispositions.{reply_bytes, desk_state};
 ghost use Rattle.canary_wire.specs.Routes.{the_rows, IsAsked};
 ghost use Rattle.canary_wire.specs.Writes.{Writes};
 
-use crate::cut::Parts;
+use crate::cut::MessageSpans;
 use crate::rejection::Rejection;
 use crate::reply::{Response, WriteFault, write_reply};
-use crate::routes::{Address, Asked, Route, asked_of};
+use crate::routes::{Address, Route, Wanted, asked_of};
 use canary_base::moments::Moment;
 use canary_manifest::command::{WireFault, command_from_json};
 use canary_once::book::Book;
@@ -28,7 +28,7 @@ pub(crate) fn answer<W: Write, C: Clock, B: Book>(
     alloc: Global,
     router: &Router<Route>,
     bytes: &[u8],
-    parts: Parts,
+    parts: MessageSpans,
     writer: &mut W,
     clock: &mut C,
     book: &mut B,
@@ -36,9 +36,9 @@ pub(crate) fn answer<W: Write, C: Clock, B: Book>(
     requires message { (m : Message) × IsFirst bytes.now parts m }
     requires routes { router.now ≡ the_rows }
     ensures { (m : Message) → IsFirst bytes.now parts m → (x : Exchange) × (x.message ≡ m)
-        × Exchanges
-        (point (C.tells clock.old) (B.state book.old))
-        (point (C.tells clock.new) (B.state book.new)) x
+        × HandledOne
+        (desk_state (C.tells clock.old) (B.state book.old))
+        (desk_state (C.tells clock.new) (B.state book.new)) x
         × Writes (W.contents writer.old) (W.contents writer.new) (reply_bytes x) result }
 {
     let moment = clock.now();
@@ -60,13 +60,13 @@ fn handle<B: Book>(
     book: &mut B,
 ) -> Response
     requires { router.now ≡ the_rows }
-    ensures { (h : Handling) × (result ≡ response_of h)
-        × IsHandling method.now target.now body.now moment h
-        × Books (B.state book.old) (B.state book.new) h }
+    ensures { (h : Disposition) × (result ≡ response_of h)
+        × IsDisposition method.now target.now body.now moment h
+        × BookStep (B.state book.old) (B.state book.new) h }
 {
     match asked_of(router, method, target) {
-        Ok(Asked::Request(address)) => handle_request(alloc, address, body, moment, book),
-        Ok(Asked::Query(query)) => handle_query(alloc, &query, moment, book),
+        Ok(Wanted::Request(address)) => handle_request(alloc, address, body, moment, book),
+        Ok(Wanted::Query(query)) => handle_query(alloc, &query, moment, book),
         Err(rejection) => Response::Rejected(rejection),
     }
 }
@@ -79,9 +79,9 @@ fn handle_request<B: Book>(
     moment: Moment,
     book: &mut B,
 ) -> Response
-    ensures { (method target : List ℕ) → IsRequest method target address → (h : Handling)
-        × (result ≡ response_of h) × IsHandling method target body.now moment h
-        × Books (B.state book.old) (B.state book.new) h }
+    ensures { (method target : List ℕ) → IsRequest method target address → (h : Disposition)
+        × (result ≡ response_of h) × IsDisposition method target body.now moment h
+        × BookStep (B.state book.old) (B.state book.new) h }
 {
     match command_from_json(alloc, body) {
         Ok(command) => {
@@ -103,9 +103,9 @@ fn handle_request<B: Book>(
 
 // The same where the message is a query, whose body says nothing.
 fn handle_query<B: Book>(alloc: Global, query: &Query, moment: Moment, book: &mut B) -> Response
-    ensures { (method target body : List ℕ) → IsAsked method target (Ok (Asked.Query query.now))
-        → (h : Handling) × (result ≡ response_of h) × IsHandling method target body moment h
-        × Books (B.state book.old) (B.state book.new) h }
+    ensures { (method target body : List ℕ) → IsAsked method target (Ok (Wanted.Query query.now))
+        → (h : Disposition) × (result ≡ response_of h) × IsDisposition method target body moment h
+        × BookStep (B.state book.old) (B.state book.new) h }
 {
     Response::Answered(view(alloc, book, moment, query))
 }

@@ -54,7 +54,7 @@ impl Buffer {
     }
 
     // Lets the first bytes go.
-    pub(crate) fn take(&mut self, count: usize)
+    pub(crate) fn consume(&mut self, count: usize)
         requires { count ≤ length (bytes_held self.old) }
         ensures { bytes_held self.new ≡ drop count (bytes_held self.old) }
     {

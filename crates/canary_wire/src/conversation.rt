@@ -6,17 +6,17 @@ ghost use Rattle.canary_wire.specs.Conversing.{begun, IsListening, end_cause, Aw
 ghost use Rattle.canary_wire.specs.Conversing.{IsOver};
 ghost use Rattle.canary_wire.specs.Conversing.{Receives, Sends, AnswersMore, Replies, TakesTurn};
 ghost use Rattle.canary_wire.specs.Conversing.{AnswersNext};
-ghost use Rattle.canary_wire.specs.Exchanges.{point};
-ghost use Rattle.canary_wire.specs.Owing.{HasRoom};
+ghost use Rattle.canary_wire.specs.Dispositions.{desk_state};
+ghost use Rattle.canary_wire.specs.Unsent.{HasRoom};
 ghost use Rattle.canary_wire.specs.Routes.{the_rows};
 ghost use Rattle.canary_wire.specs.Writes.{Known};
 
 use crate::answer::answer;
 use crate::buffer::{Buffer, ReadFault};
-use crate::cut::{Next, first};
-use crate::owed::Owed;
+use crate::cut::{FirstMessage, first_message};
 use crate::routes::{Route, routes};
 use crate::serve::{is_blank, reject};
+use crate::write_buffer::WriteBuffer;
 use canary_base::error::Memory;
 use canary_once::book::Book;
 use canary_once::clock::Clock;
@@ -25,7 +25,7 @@ use std::alloc::Global;
 use std::io::{Read, Write};
 
 // The most messages that are answered at a stretch, so that the others have their turn.
-const MOST_MESSAGES_A_TURN: u32 = 64;
+const MAX_MESSAGES_A_TURN: u32 = 64;
 
 /// How long a turn goes on, and whether it answers queries. Whoever gives the turns decides it.
 pub trait Pace {
@@ -59,7 +59,7 @@ impl Routes {
 
 /// Where a conversation stands.
 #[derive(Clone, Copy, Debug, PartialEq, Eq)]
-pub enum Stage {
+pub enum ConversationState {
     /// More messages may come.
     Open,
     /// The last reply is owed, or was written.
@@ -76,13 +76,13 @@ pub enum Wants {
     /// For the writer to take more of what is owed.
     Write,
     /// For its next turn: it is open, nothing is owed, and more messages may be held. If the first
-    /// of them is a query (`holds_query`), it may be that queries were not answered.
-    Turn,
+    /// of them is a query (`begins_with_query`), it may be that queries were not answered.
+    Yield,
     /// For nothing: the last reply was written. The client may still be sending: what it sends is
     /// to be read and thrown away for a while, so that it can read that reply.
-    Rest,
+    Drain,
     /// For nothing: it ended otherwise.
-    Nothing(Cause),
+    Close(Cause),
 }
 
 /// Why a conversation ended before a last reply.
@@ -108,9 +108,9 @@ pub enum Cause {
 #[derive(Drop)]
 pub struct Conversation {
     buffer: Buffer,
-    owed: Owed,
-    stage: Stage,
-    most_owed: usize,
+    unsent: WriteBuffer,
+    stage: ConversationState,
+    max_unsent: usize,
     answered: u64,
 }
 
@@ -119,51 +119,51 @@ impl Conversation {
 
     /// A conversation in which nothing was said.
     ///
-    /// No further message is answered while at least `most_owed` bytes are owed, and at least one:
-    /// so, if the client does not read, what is owed to it stays below `most_owed` bytes and one
+    /// No further message is answered while at least `max_unsent` bytes are owed, and at least one:
+    /// so, if the client does not read, what is owed to it stays below `max_unsent` bytes and one
     /// reply.
     ///
     /// # Errors
     /// `Memory` where there was none for the buffer of 81,920 bytes, or for a first reply.
-    pub fn new(alloc: Global, most_owed: usize) -> Result<Conversation, Memory>
+    pub fn new(alloc: Global, max_unsent: usize) -> Result<Conversation, Memory>
         ensures { IfOk result (λ conversation. talk_of conversation ≡ begun) }
     {
         let buffer = Buffer::new(alloc)?;
-        let owed = Owed::new(alloc)?;
+        let unsent = WriteBuffer::new(alloc)?;
         Ok(Conversation {
             buffer,
-            owed,
-            stage: Stage::Open,
-            most_owed,
+            unsent,
+            stage: ConversationState::Open,
+            max_unsent,
             answered: 0,
         })
     }
 
     /// One in which nothing was said, with the memory of this one, so that it takes none.
-    pub fn renewed(self, most_owed: usize) -> Conversation
+    pub fn renewed(self, max_unsent: usize) -> Conversation
         ensures { talk_of result ≡ begun }
     {
-        let (mut buffer, mut owed) = (self.buffer, self.owed);
+        let (mut buffer, mut unsent) = (self.buffer, self.unsent);
         buffer.clear();
-        owed.clear();
+        unsent.clear();
         Conversation {
             buffer,
-            owed,
-            stage: Stage::Open,
-            most_owed,
+            unsent,
+            stage: ConversationState::Open,
+            max_unsent,
             answered: 0,
         }
     }
 
     /// How many bytes were read that are not answered yet.
-    pub fn holds(&self) -> usize
+    pub fn unanswered_bytes(&self) -> usize
         ensures { result ≡ length (talk_of self.now).held }
     {
         self.buffer.as_slice().len()
     }
 
     /// Whether the message that stands first is a query, as far as it is held.
-    pub fn holds_query(&self) -> bool {
+    pub fn begins_with_query(&self) -> bool {
         is_query(self.buffer.as_slice())
     }
 
@@ -173,14 +173,14 @@ impl Conversation {
     }
 
     /// How many bytes are still to be written.
-    pub fn owes(&self) -> usize
-        ensures { result ≡ length (talk_of self.now).owed }
+    pub fn unsent_bytes(&self) -> usize
+        ensures { result ≡ length (talk_of self.now).unsent }
     {
-        self.owed.as_slice().len()
+        self.unsent.as_slice().len()
     }
 
     /// Where it stands.
-    pub fn stage(&self) -> Stage
+    pub fn stage(&self) -> ConversationState
         ensures { result ≡ (talk_of self.now).stage }
     {
         self.stage
@@ -217,14 +217,14 @@ impl Conversation {
     ) -> Wants
         ensures turn { TakesTurn (R.remaining reader.old) (R.remaining reader.new)
             (W.contents writer.old) (W.contents writer.new)
-            (point (C.tells clock.old) (B.state book.old))
-            (point (C.tells clock.new) (B.state book.new))
+            (desk_state (C.tells clock.old) (B.state book.old))
+            (desk_state (C.tells clock.new) (B.state book.new))
             (talk_of self.old) (talk_of self.new) }
         ensures awaits { Awaits (R.remaining reader.new) (talk_of self.new) result }
         ensures rest { IsOver (talk_of self.old) → (reader.new ≡ reader.old)
             × (clock.new ≡ clock.old) × (book.new ≡ book.old) }
     {
-        if let Some(wants) = self.write_owed(writer) {
+        if let Some(wants) = self.write_unsent(writer) {
             return wants;
         }
         if let Some(wants) = self.reply(alloc, routes, writer, clock, book, pace) {
@@ -240,16 +240,16 @@ impl Conversation {
     }
 
     // Writes what is owed, once: none where nothing is owed then.
-    fn write_owed<W: Write>(&mut self, writer: &mut W) -> Option<Wants>
+    fn write_unsent<W: Write>(&mut self, writer: &mut W) -> Option<Wants>
         ensures sends { Sends (W.contents writer.old) (W.contents writer.new)
             (talk_of self.old) (talk_of self.new) }
         ensures awaits { (r : Known) → IfSome result (Awaits r (talk_of self.new)) }
-        ensures written { result ≡ None → (talk_of self.new).owed ≡ [] }
+        ensures written { result ≡ None → (talk_of self.new).unsent ≡ [] }
     {
-        if let Err(_) = self.owed.write_to(writer) {
-            return Some(Wants::Nothing(Cause::Write));
+        if let Err(_) = self.unsent.write_to(writer) {
+            return Some(Wants::Close(Cause::Write));
         }
-        if self.owes() > 0 {
+        if self.unsent_bytes() > 0 {
             return Some(Wants::Write);
         }
         None
@@ -263,10 +263,10 @@ impl Conversation {
         ensures awaits { IfSome result (Awaits (R.remaining reader.new) (talk_of self.new)) }
     {
         match self.buffer.fill(reader) {
-            Ok(0) => Some(Wants::Nothing(end_cause(self.buffer.as_slice()))),
+            Ok(0) => Some(Wants::Close(end_cause(self.buffer.as_slice()))),
             Ok(_) => None,
             Err(ReadFault::NotNow) => Some(Wants::Read),
-            Err(ReadFault::Failed) => Some(Wants::Nothing(Cause::Read)),
+            Err(ReadFault::Failed) => Some(Wants::Close(Cause::Read)),
         }
     }
 
@@ -281,8 +281,8 @@ impl Conversation {
         pace: &mut P,
     ) -> Option<Wants>
         ensures replies { Replies (W.contents writer.old) (W.contents writer.new)
-            (point (C.tells clock.old) (B.state book.old))
-            (point (C.tells clock.new) (B.state book.new))
+            (desk_state (C.tells clock.old) (B.state book.old))
+            (desk_state (C.tells clock.new) (B.state book.new))
             (talk_of self.old) (talk_of self.new) }
         ensures awaits { (r : Known) → IfSome result (Awaits r (talk_of self.new)) }
         ensures listens { result ≡ None → IsListening (talk_of self.new) }
@@ -290,14 +290,14 @@ impl Conversation {
             × (clock.new ≡ clock.old) × (book.new ≡ book.old) }
     {
         let step = self.answer_all(alloc, routes, clock, book, pace);
-        if let Some(wants) = self.write_owed(writer) {
+        if let Some(wants) = self.write_unsent(writer) {
             return Some(wants);
         }
         match step {
-            Step::Answered => Some(Wants::Turn),
-            Step::Waits => None,
-            Step::Closed => Some(Wants::Rest),
-            Step::Broke => Some(Wants::Nothing(Cause::Memory)),
+            StepResult::Answered => Some(Wants::Yield),
+            StepResult::Waits => None,
+            StepResult::Closed => Some(Wants::Drain),
+            StepResult::Broke => Some(Wants::Close(Cause::Memory)),
         }
     }
 
@@ -309,18 +309,21 @@ impl Conversation {
         clock: &mut C,
         book: &mut B,
         pace: &mut P,
-    ) -> Step
+    ) -> StepResult
         ensures answers { AnswersMore
-            (point (C.tells clock.old) (B.state book.old))
-            (point (C.tells clock.new) (B.state book.new))
+            (desk_state (C.tells clock.old) (B.state book.old))
+            (desk_state (C.tells clock.new) (B.state book.new))
             (talk_of self.old) (talk_of self.new) }
         ensures stands { StandsAt (talk_of self.new) result }
         ensures rest { IsOver (talk_of self.old) → IsOver (talk_of self.new)
             × (clock.new ≡ clock.old) × (book.new ≡ book.old) }
     {
         let mut step = self.advance(alloc, routes, clock, book, pace);
-        'steps: for _ in 1..MOST_MESSAGES_A_TURN {
-            if step != Step::Answered || self.owes() >= self.most_owed || !pace.goes_on() {
+        'steps: for _ in 1..MAX_MESSAGES_A_TURN {
+            if step != StepResult::Answered
+                || self.unsent_bytes() >= self.max_unsent
+                || !pace.goes_on()
+            {
                 return step;
             }
             step = self.advance(alloc, routes, clock, book, pace);
@@ -338,25 +341,25 @@ impl Conversation {
         clock: &mut C,
         book: &mut B,
         pace: &mut P,
-    ) -> Step
+    ) -> StepResult
         ensures answers { AnswersMore
-            (point (C.tells clock.old) (B.state book.old))
-            (point (C.tells clock.new) (B.state book.new))
+            (desk_state (C.tells clock.old) (B.state book.old))
+            (desk_state (C.tells clock.new) (B.state book.new))
             (talk_of self.old) (talk_of self.new) }
         ensures stands { StandsAt (talk_of self.new) result }
         ensures rest { IsOver (talk_of self.old) → IsOver (talk_of self.new)
             × (clock.new ≡ clock.old) × (book.new ≡ book.old) }
     {
         match self.stage {
-            Stage::Open => {}
-            Stage::Over => return Step::Closed,
-            Stage::Broken => return Step::Broke,
+            ConversationState::Open => {}
+            ConversationState::Over => return StepResult::Closed,
+            ConversationState::Broken => return StepResult::Broke,
         }
-        if self.holds_query() && !pace.answers_queries() {
-            return Step::Answered;
+        if self.begins_with_query() && !pace.answers_queries() {
+            return StepResult::Answered;
         }
         if let Err(_) = self.make_room() {
-            return Step::Answered;
+            return StepResult::Answered;
         }
         self.answer_first(alloc, routes, clock, book)
     }
@@ -364,9 +367,9 @@ impl Conversation {
     // Takes room for the reply to a request; there is some already where nothing is owed.
     fn make_room(&mut self) -> Result<(), Memory>
         ensures same { talk_of self.new ≡ talk_of self.old }
-        ensures room { OnOk result (HasRoom self.new.owed) }
+        ensures room { OnOk result (HasRoom self.new.unsent) }
     {
-        self.owed.make_room()
+        self.unsent.make_room()
     }
 
     // The same, where it is open and has room.
@@ -376,22 +379,22 @@ impl Conversation {
         routes: &Routes,
         clock: &mut C,
         book: &mut B,
-    ) -> Step
-        requires open { (talk_of self.old).stage ≡ Stage.Open }
-        requires room { HasRoom self.old.owed }
+    ) -> StepResult
+        requires open { (talk_of self.old).stage ≡ ConversationState.Open }
+        requires room { HasRoom self.old.unsent }
         ensures answers { AnswersMore
-            (point (C.tells clock.old) (B.state book.old))
-            (point (C.tells clock.new) (B.state book.new))
+            (desk_state (C.tells clock.old) (B.state book.old))
+            (desk_state (C.tells clock.new) (B.state book.new))
             (talk_of self.old) (talk_of self.new) }
         ensures stands { StandsAt (talk_of self.new) result }
     {
-        let (buffer, owed) = (&mut self.buffer, &mut self.owed);
-        let step = answer_next(alloc, &routes.router, buffer, owed, clock, book);
+        let (buffer, unsent) = (&mut self.buffer, &mut self.unsent);
+        let step = answer_next(alloc, &routes.router, buffer, unsent, clock, book);
         self.answered = count_after(self.answered, step);
         match step {
-            Step::Answered | Step::Waits => {}
-            Step::Closed => self.stage = Stage::Over,
-            Step::Broke => self.stage = Stage::Broken,
+            StepResult::Answered | StepResult::Waits => {}
+            StepResult::Closed => self.stage = ConversationState::Over,
+            StepResult::Broke => self.stage = ConversationState::Broken,
         }
         step
     }
@@ -399,7 +402,7 @@ impl Conversation {
 
 // What came of one step.
 #[derive(Clone, Copy, Debug, PartialEq, Eq)]
-pub(crate) enum Step {
+pub(crate) enum StepResult {
     // A message was answered, and the next may be held whole.
     Answered,
     // No whole message is held.
@@ -411,10 +414,10 @@ pub(crate) enum Step {
 }
 
 // How many messages were answered behind this step.
-fn count_after(count: u64, step: Step) -> u64 {
+fn count_after(count: u64, step: StepResult) -> u64 {
     match step {
-        Step::Answered => count.saturating_add(1),
-        Step::Waits | Step::Closed | Step::Broke => count,
+        StepResult::Answered => count.saturating_add(1),
+        StepResult::Waits | StepResult::Closed | StepResult::Broke => count,
     }
 }
 
@@ -451,29 +454,31 @@ fn answer_next<W: Write, C: Clock, B: Book>(
     writer: &mut W,
     clock: &mut C,
     book: &mut B,
-) -> Step
+) -> StepResult
     requires { router.now ≡ the_rows }
     ensures { AnswersNext (W.contents writer.old) (W.contents writer.new)
-        (point (C.tells clock.old) (B.state book.old))
-        (point (C.tells clock.new) (B.state book.new))
+        (desk_state (C.tells clock.old) (B.state book.old))
+        (desk_state (C.tells clock.new) (B.state book.new))
         (bytes_held buffer.old) (bytes_held buffer.new) result }
 {
-    match first(buffer.as_slice()) {
-        Next::Message(parts) => {
+    match first_message(buffer.as_slice()) {
+        FirstMessage::Message(parts) => {
             let bytes = buffer.as_slice();
             if let Err(_) = answer(alloc, router, bytes, parts, writer, clock, book) {
-                return Step::Broke;
+                return StepResult::Broke;
             }
             if parts.is_last {
-                return Step::Closed;
+                return StepResult::Closed;
             }
-            buffer.take(parts.end);
-            Step::Answered
+            buffer.consume(parts.end);
+            StepResult::Answered
         }
-        Next::Rejected(rejection, head_alone) => match reject(writer, rejection, head_alone) {
-            Ok(_) => Step::Closed,
-            Err(_) => Step::Broke,
+        FirstMessage::Rejected(rejection, head_alone) => match reject(
+            writer, rejection, head_alone,
+        ) {
+            Ok(_) => StepResult::Closed,
+            Err(_) => StepResult::Broke,
         },
-        Next::Unfinished => Step::Waits,
+        FirstMessage::Unfinished => StepResult::Waits,
     }
 }

@@ -9,14 +9,14 @@ use httparse::Status;
 use httparse::spans::{EMPTY_HEADER_SPAN, HeaderSpan, RequestSpans, Span, parse_request};
 
 // The most bytes of a head.
-pub(crate) const MOST_HEAD: usize = 16_384;
+pub(crate) const MAX_HEAD: usize = 16_384;
 
 // The most header lines.
-const MOST_LINES: usize = 64;
+const MAX_LINES: usize = 64;
 
 // Where the parts of a message are, and what its head asks of the reply.
 #[derive(Clone, Copy, Debug)]
-pub(crate) struct Parts {
+pub(crate) struct MessageSpans {
     pub method: Span,
     pub target: Span,
     // The length of the head.
@@ -32,46 +32,46 @@ pub(crate) struct Parts {
 // What stands first: a message, a rejection that ends the stream, with whether its reply is its
 // head alone, or less than either.
 #[derive(Clone, Copy, Debug)]
-pub(crate) enum Next {
-    Message(Parts),
+pub(crate) enum FirstMessage {
+    Message(MessageSpans),
     Rejected(Rejection, bool),
     Unfinished,
 }
 
 // What stands first.
-pub(crate) fn first(bytes: &[u8]) -> Next
+pub(crate) fn first_message(bytes: &[u8]) -> FirstMessage
     ensures { Cuts bytes.now result }
 {
-    let mut headers = [EMPTY_HEADER_SPAN; MOST_LINES];
+    let mut headers = [EMPTY_HEADER_SPAN; MAX_LINES];
     match parse_request(bytes, &mut headers) {
         Ok(Status::Complete(head)) => first_with_head(bytes, &headers, head),
-        Ok(Status::Partial) if bytes.len() < MOST_HEAD => Next::Unfinished,
-        Ok(Status::Partial) => Next::Rejected(Rejection::Malformed, false),
-        Err(_) => Next::Rejected(Rejection::Malformed, false),
+        Ok(Status::Partial) if bytes.len() < MAX_HEAD => FirstMessage::Unfinished,
+        Ok(Status::Partial) => FirstMessage::Rejected(Rejection::Malformed, false),
+        Err(_) => FirstMessage::Rejected(Rejection::Malformed, false),
     }
 }
 
 // What stands first where a whole head does.
-fn first_with_head(bytes: &[u8], headers: &[HeaderSpan], head: RequestSpans) -> Next
+fn first_with_head(bytes: &[u8], headers: &[HeaderSpan], head: RequestSpans) -> FirstMessage
     requires within { IsRequestWithin bytes.now headers.now head }
     requires of { IsRequestOf bytes.now headers.now head }
     requires lines { length headers.now ≤ 64 }
     ensures { Cuts bytes.now result }
 {
-    if head.len > MOST_HEAD {
-        return Next::Rejected(Rejection::Malformed, false);
+    if head.len > MAX_HEAD {
+        return FirstMessage::Rejected(Rejection::Malformed, false);
     }
     let method = head.method.of(bytes);
     let fields = &headers[..head.headers];
     let head_alone = is_bare(method);
     match frame(bytes, method, fields) {
-        Framing::Rejected(rejection) => Next::Rejected(rejection, head_alone),
+        Framing::Rejected(rejection) => FirstMessage::Rejected(rejection, head_alone),
         Framing::Body(n) => {
             let end = head.len + n;
             if bytes.len() < end {
-                return Next::Unfinished;
+                return FirstMessage::Unfinished;
             }
-            Next::Message(Parts {
+            FirstMessage::Message(MessageSpans {
                 method: head.method,
                 target: head.path,
                 len: head.len,

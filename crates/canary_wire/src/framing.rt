@@ -7,14 +7,14 @@ ghost use Rattle.std.specs.Str.Parse.{digits_value};
 ghost use Rattle.httparse.specs.Spans.{IsWithin, IsHeaderWithin, header_bytes, span_bytes};
 ghost use Rattle.canary_wire.specs.Heads.{is_digits, values_named, has_any, asks_to_close};
 ghost use Rattle.canary_wire.specs.Heads.{framing_one, framing, framing_of, IsSmall};
-ghost use Rattle.canary_wire.specs.Named.{Shows, IsShown};
+ghost use Rattle.canary_wire.specs.FramingFields.{Shows, IsShown};
 
 use crate::rejection::Rejection;
 use http1::fields::KnownFields;
 use httparse::spans::{HeaderSpan, Span};
 
 // The most bytes of a body.
-pub(crate) const MOST_BODY: usize = 65_536;
+pub(crate) const MAX_BODY: usize = 65_536;
 
 // How long a body is, or why its head is rejected.
 #[derive(Clone, Copy, Debug, PartialEq, Eq)]
@@ -25,7 +25,7 @@ pub(crate) enum Framing {
 
 // The values of the fields of one name: none, one, or more.
 #[derive(Clone, Copy, Debug)]
-pub(crate) enum Named {
+pub(crate) enum FramingFields {
     Zero,
     One(Span),
     Many,
@@ -68,13 +68,13 @@ fn asks_to_close(buf: &[u8], headers: &[HeaderSpan]) -> bool
 }
 
 // The values of the fields with this name, which is in lower case.
-fn scan(buf: &[u8], headers: &[HeaderSpan], name: &[u8]) -> Named
+fn scan(buf: &[u8], headers: &[HeaderSpan], name: &[u8]) -> FramingFields
     requires fits { All (IsHeaderWithin (length buf.now)) headers.now }
     requires lower { map to_ascii_lowercase name.now ≡ name.now }
     ensures { Shows buf.now result
         (values_named name.now (map (header_bytes buf.now) headers.now)) }
 {
-    let mut found = Named::Zero;
+    let mut found = FramingFields::Zero;
     for h in headers {
         let hit = is_named(h.name.of(buf), name);
         found = found.add(hit, h.value);
@@ -90,9 +90,9 @@ fn is_named(field: &[u8], name: &[u8]) -> bool
     field.eq_ignore_ascii_case(name)
 }
 
-impl Named {
+impl FramingFields {
     // Takes one more value, if it is a hit.
-    fn add(self, hit: bool, value: Span) -> Named
+    fn add(self, hit: bool, value: Span) -> FramingFields
         ensures { (buf : List ℕ) (values : List (List ℕ))
             → Shows buf self values → IsWithin (length buf) value
             → Shows buf result (values ++ (if hit then span_bytes buf value ∷ [] else [])) }
@@ -101,8 +101,8 @@ impl Named {
             return self;
         }
         match self {
-            Named::Zero => Named::One(value),
-            _ => Named::Many,
+            FramingFields::Zero => FramingFields::One(value),
+            _ => FramingFields::Many,
         }
     }
 
@@ -111,7 +111,7 @@ impl Named {
         ensures { (buf : List ℕ) (values : List (List ℕ))
             → Shows buf self values → result ≡ has_any values }
     {
-        !matches!(self, Named::Zero)
+        !matches!(self, FramingFields::Zero)
     }
 
     // How long the body is, where these are the values of `Content-Length`.
@@ -122,10 +122,10 @@ impl Named {
         ensures small { IsSmall result }
     {
         match self {
-            Named::Zero if coded || needs => Framing::Rejected(Rejection::Length),
-            Named::Zero => Framing::Body(0),
-            Named::One(span) => frame_one(span.of(buf), coded),
-            Named::Many => Framing::Rejected(Rejection::Malformed),
+            FramingFields::Zero if coded || needs => Framing::Rejected(Rejection::Length),
+            FramingFields::Zero => Framing::Body(0),
+            FramingFields::One(span) => frame_one(span.of(buf), coded),
+            FramingFields::Many => Framing::Rejected(Rejection::Malformed),
         }
     }
 }
@@ -140,7 +140,7 @@ fn frame_one(value: &[u8], coded: bool) -> Framing
     };
     if coded {
         Framing::Rejected(Rejection::Length)
-    } else if n > MOST_BODY {
+    } else if n > MAX_BODY {
         Framing::Rejected(Rejection::TooLong)
     } else {
         Framing::Body(n)
@@ -160,7 +160,7 @@ fn parse_length(digits: &[u8]) -> Option<usize>
         if !b.is_ascii_digit() {
             return None;
         }
-        n = (n * 10 + usize::from(*b - b'0')).min(MOST_BODY + 1);
+        n = (n * 10 + usize::from(*b - b'0')).min(MAX_BODY + 1);
     }
     Some(n)
 }

@@ -2,7 +2,7 @@
 ghost use Rattle.std.specs.Prelude.{◌≡◌, ℕ, List, [], ◌++◌};
 ghost use Rattle.canary_wire.specs.Crowds.{Comes, HasTurn, Goes};
 ghost use Rattle.canary_wire.specs.Cut.{Message, Ending, IsCut, SameEnding};
-ghost use Rattle.canary_wire.specs.Exchanges.{Exchange, Went, Holds, point};
+ghost use Rattle.canary_wire.specs.Dispositions.{Exchange, HandledAll, AnsweredInOrder, desk_state};
 
 use canary_once::book::Book;
 use canary_once::clock::Clock;
@@ -29,14 +29,16 @@ pub fn crowds()
 /// the last, and the answers and the contents then are those of the small machine.
 pub fn going_on<C: Clock, B: Book>()
     ensures none { (c : C) (b : B)
-        → Went (point (C.tells c) (B.state b)) (point (C.tells c) (B.state b)) [] }
+        → HandledAll (desk_state (C.tells c) (B.state b)) (desk_state (C.tells c) (B.state b)) [] }
     ensures then { (c d e : C) (f g h : B) (xs ys : List Exchange)
-        → Went (point (C.tells c) (B.state f)) (point (C.tells d) (B.state g)) xs
-        → Went (point (C.tells d) (B.state g)) (point (C.tells e) (B.state h)) ys
-        → Went (point (C.tells c) (B.state f)) (point (C.tells e) (B.state h)) (xs ++ ys) }
+        → HandledAll (desk_state (C.tells c) (B.state f)) (desk_state (C.tells d) (B.state g)) xs
+        → HandledAll (desk_state (C.tells d) (B.state g)) (desk_state (C.tells e) (B.state h)) ys
+        → HandledAll (desk_state (C.tells c) (B.state f)) (desk_state (C.tells e) (B.state h))
+        (xs ++ ys) }
     ensures holds { (c d : C) (f g : B) (xs : List Exchange)
-        → Went (point (C.tells c) (B.state f)) (point (C.tells d) (B.state g)) xs
-        → Holds (point (C.tells c) (B.state f)) (point (C.tells d) (B.state g)) xs }
+        → HandledAll (desk_state (C.tells c) (B.state f)) (desk_state (C.tells d) (B.state g)) xs
+        → AnsweredInOrder (desk_state (C.tells c) (B.state f))
+        (desk_state (C.tells d) (B.state g)) xs }
 {
     running_on();
 }

@@ -38,7 +38,7 @@ pub(crate) struct Address {
 
 // What a message asks for.
 #[derive(Clone, Copy)]
-pub(crate) enum Asked {
+pub(crate) enum Wanted {
     // What the command in its body says.
     Request(Address),
     // To be shown something.
@@ -65,7 +65,7 @@ pub(crate) fn asked_of(
     router: &Router<Route>,
     method: &[u8],
     target: &[u8],
-) -> Result<Asked, Rejection>
+) -> Result<Wanted, Rejection>
     requires { router.now ≡ the_rows }
     ensures { IsAsked method.now target.now result }
 {
@@ -117,20 +117,20 @@ impl PathParts<'_> {
     }
 
     // What they say, or `BadName` before `BadNumber`.
-    fn read(self) -> Result<Asked, Rejection>
+    fn read(self) -> Result<Wanted, Rejection>
         ensures { IsTargetRead (target_of self.entry) result }
     {
         match self {
             PathParts::Request(caller, number) => {
                 let caller = name_of(caller)?;
                 let number = number_of(number)?;
-                Ok(Asked::Request(Address { caller, number }))
+                Ok(Wanted::Request(Address { caller, number }))
             }
-            PathParts::Service(name) => Ok(Asked::Query(Query::Service(name_of(name)?))),
-            PathParts::History(name) => Ok(Asked::Query(Query::History(name_of(name)?))),
+            PathParts::Service(name) => Ok(Wanted::Query(Query::Service(name_of(name)?))),
+            PathParts::History(name) => Ok(Wanted::Query(Query::History(name_of(name)?))),
             PathParts::Run(name, number) => {
                 let name = name_of(name)?;
-                Ok(Asked::Query(Query::Run(name, number_of(number)?)))
+                Ok(Wanted::Query(Query::Run(name, number_of(number)?)))
             }
         }
     }

@@ -3,7 +3,7 @@ ghost use Rattle.std.specs.Prelude.{◌≡◌, [], ◌++◌, IfOk, Err};
 ghost use Rattle.std.specs.List.{list_all};
 ghost use Rattle.canary_once.specs.Contents.{KeepsReceipts};
 ghost use Rattle.canary_wire.specs.Cut.{is_newline, rejecting};
-ghost use Rattle.canary_wire.specs.Exchanges.{point};
+ghost use Rattle.canary_wire.specs.Dispositions.{desk_state};
 ghost use Rattle.canary_wire.specs.Routes.{the_rows};
 ghost use Rattle.canary_wire.specs.Buffers.{bytes_held};
 ghost use Rattle.canary_wire.specs.Serving.{last_reply, end_of, ServesTo, ServesSome, ServesUntil};
@@ -11,7 +11,7 @@ ghost use Rattle.canary_wire.specs.Serving.{TurnsTo, AnswersHeld, RejectsAll};
 
 use crate::answer::answer;
 use crate::buffer::Buffer;
-use crate::cut::{Next, first};
+use crate::cut::{FirstMessage, first_message};
 use crate::rejection::Rejection;
 use crate::reply::{Response, WriteFault, write_reply};
 use crate::routes::{Route, routes};
@@ -24,7 +24,7 @@ use std::io::{Read, Write};
 use thiserror::Error;
 
 // The most reads of one stream.
-const MOST_READS: u32 = 1_000_000_000;
+const MAX_READS: u32 = 1_000_000_000;
 
 /// How a stream ended.
 #[derive(Clone, Copy, Debug, PartialEq, Eq)]
@@ -83,16 +83,16 @@ pub fn serve<R: Read, W: Write, C: Clock, B: Book>(
 ) -> Result<Ended, ServeFault>
     ensures ok { IfOk result (λ ended. ServesTo (R.remaining reader.old) (R.remaining reader.new)
         (W.contents writer.old) (W.contents writer.new)
-        (point (C.tells clock.old) (B.state book.old))
-        (point (C.tells clock.new) (B.state book.new)) ended) }
+        (desk_state (C.tells clock.old) (B.state book.old))
+        (desk_state (C.tells clock.new) (B.state book.new)) ended) }
     ensures read { result ≡ Err ServeFault.Read → ServesSome (R.remaining reader.old)
         (R.remaining reader.new) (W.contents writer.old) (W.contents writer.new)
-        (point (C.tells clock.old) (B.state book.old))
-        (point (C.tells clock.new) (B.state book.new)) }
+        (desk_state (C.tells clock.old) (B.state book.old))
+        (desk_state (C.tells clock.new) (B.state book.new)) }
     ensures write { result ≡ Err ServeFault.Write → ServesUntil (R.remaining reader.old)
         (R.remaining reader.new) (W.contents writer.old) (W.contents writer.new)
-        (point (C.tells clock.old) (B.state book.old))
-        (point (C.tells clock.new) (B.state book.new)) }
+        (desk_state (C.tells clock.old) (B.state book.old))
+        (desk_state (C.tells clock.new) (B.state book.new)) }
     ensures memory { result ≡ Err ServeFault.Memory → (reader.new ≡ reader.old)
         × (writer.new ≡ writer.old) × (clock.new ≡ clock.old) × (book.new ≡ book.old) }
     ensures honest { (B.state book.new).is_honest → (B.state book.old).is_honest }
@@ -135,11 +135,11 @@ fn serve_turns<R: Read, W: Write, C: Clock, B: Book>(
     requires routes { router.now ≡ the_rows }
     ensures { TurnsTo (R.remaining reader.old) (R.remaining reader.new)
         (W.contents writer.old) (W.contents writer.new)
-        (point (C.tells clock.old) (B.state book.old))
-        (point (C.tells clock.new) (B.state book.new)) result }
+        (desk_state (C.tells clock.old) (B.state book.old))
+        (desk_state (C.tells clock.new) (B.state book.new)) result }
 {
     running_on();
-    'turns: for _turn in 0..MOST_READS {
+    'turns: for _turn in 0..MAX_READS {
         let Ok(count) = buffer.fill(reader) else {
             return Err(TurnFault::Read);
         };
@@ -184,13 +184,13 @@ fn answer_held<W: Write, C: Clock, B: Book>(
 ) -> Result<Turn, WriteFault>
     requires routes { router.now ≡ the_rows }
     ensures { AnswersHeld (W.contents writer.old) (W.contents writer.new)
-        (point (C.tells clock.old) (B.state book.old))
-        (point (C.tells clock.new) (B.state book.new))
+        (desk_state (C.tells clock.old) (B.state book.old))
+        (desk_state (C.tells clock.new) (B.state book.new))
         (bytes_held buffer.old) (bytes_held buffer.new) result }
 {
     'messages: loop {
-        match first(buffer.as_slice()) {
-            Next::Message(parts) => {
+        match first_message(buffer.as_slice()) {
+            FirstMessage::Message(parts) => {
                 if let Err(fault) = answer(
                     alloc,
                     router,
@@ -205,12 +205,12 @@ fn answer_held<W: Write, C: Clock, B: Book>(
                 if parts.is_last {
                     return Ok(Turn::Ends);
                 }
-                buffer.take(parts.end);
+                buffer.consume(parts.end);
             }
-            Next::Rejected(rejection, head_alone) => {
+            FirstMessage::Rejected(rejection, head_alone) => {
                 return reject(writer, rejection, head_alone);
             }
-            Next::Unfinished => return Ok(Turn::Continues),
+            FirstMessage::Unfinished => return Ok(Turn::Continues),
         }
     }
 }

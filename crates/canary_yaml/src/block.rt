@@ -4,7 +4,7 @@ ghost use Rattle.serde_json.specs.Data.{depth as nesting, items_depth, members_d
 ghost use Rattle.serde_json.specs.View.{view, items_view, members_view};
 
 use crate::cursor::Cursor;
-use crate::fault::{Fault, Why};
+use crate::fault::{YamlFault, YamlProblem};
 use crate::flow::{read_flow, read_word, why_not};
 use crate::key::{is_key_here, read_key, skip_colon};
 use crate::literal::read_literal;
@@ -26,18 +26,18 @@ pub(crate) fn read_block(
     c: &mut Cursor<'_>,
     least: usize,
     depth: usize,
-) -> Result<Value, Fault>
+) -> Result<Value, YamlFault>
     ensures { IfOk result (λ v. nesting (view v) ≤ depth) }
 {
     if c.is_mark(b'?') {
-        return Err(c.fault(Why::ComplexKey));
+        return Err(c.fault(YamlProblem::ComplexKey));
     }
     let is_entry = c.is_mark(b'-');
     if !is_entry && !is_key_here(c) {
         return read_scalar(alloc, c, least, depth);
     }
     if depth == 0 {
-        return Err(c.fault(Why::Nesting));
+        return Err(c.fault(YamlProblem::Nesting));
     }
     if is_entry {
         return Ok(Value::Array(read_entries(alloc, c, depth - 1)?));
@@ -56,7 +56,7 @@ pub(crate) fn read_scalar(
     c: &mut Cursor<'_>,
     least: usize,
     depth: usize,
-) -> Result<Value, Fault>
+) -> Result<Value, YamlFault>
     ensures { IfOk result (λ v. nesting (view v) ≤ depth) }
 {
     let begin = *c;
@@ -75,7 +75,7 @@ pub(crate) fn read_scalar(
 // The sequence whose first entry begins here.
 #[cycle(block)]
 #[tactic(auto, using(crate::proofs::Nesting::nests))]
-fn read_entries(alloc: Global, c: &mut Cursor<'_>, depth: usize) -> Result<Vec<Value>, Fault>
+fn read_entries(alloc: Global, c: &mut Cursor<'_>, depth: usize) -> Result<Vec<Value>, YamlFault>
     ensures { IfOk result (λ items. items_depth (items_view items.items) ≤ depth) }
 {
     let column = c.column();
@@ -101,7 +101,7 @@ pub(crate) fn read_entry(
     c: &mut Cursor<'_>,
     column: usize,
     depth: usize,
-) -> Result<Value, Fault>
+) -> Result<Value, YamlFault>
     ensures { IfOk result (λ v. nesting (view v) ≤ depth) }
 {
     c.skip_to_token()?;
@@ -118,7 +118,7 @@ fn read_members(
     alloc: Global,
     c: &mut Cursor<'_>,
     depth: usize,
-) -> Result<Map<String, Value>, Fault>
+) -> Result<Map<String, Value>, YamlFault>
     ensures { IfOk result (λ members. members_depth (members_view members.entries) ≤ depth) }
 {
     let column = c.column();
@@ -132,7 +132,7 @@ fn read_members(
         skip_colon(c)?;
         let value = read_member(alloc, c, column, depth)?;
         if members.insert(key, value)?.is_some() {
-            return Err(place.fault(Why::Duplicate));
+            return Err(place.fault(YamlProblem::Duplicate));
         }
         if !is_next(c, column)? {
             break;
@@ -142,12 +142,12 @@ fn read_members(
 }
 
 // Why no key begins here.
-fn why_no_key(c: &Cursor<'_>) -> Why {
+fn why_no_key(c: &Cursor<'_>) -> YamlProblem {
     if is_plain_here(c, Style::Block(0)) {
-        return Why::NoKey;
+        return YamlProblem::NoKey;
     }
     match why_not(c) {
-        Why::Indicator => Why::NoKey,
+        YamlProblem::Indicator => YamlProblem::NoKey,
         why => why,
     }
 }
@@ -163,7 +163,7 @@ pub(crate) fn read_member(
     c: &mut Cursor<'_>,
     column: usize,
     depth: usize,
-) -> Result<Value, Fault>
+) -> Result<Value, YamlFault>
     ensures { IfOk result (λ v. nesting (view v) ≤ depth) }
 {
     let least = column.saturating_add(1);
@@ -182,13 +182,13 @@ pub(crate) fn read_member(
 ///
 /// # Errors
 /// `Indentation`, if it is after this column; `Tab`.
-pub(crate) fn is_next(c: &mut Cursor<'_>, column: usize) -> Result<bool, Fault> {
+pub(crate) fn is_next(c: &mut Cursor<'_>, column: usize) -> Result<bool, YamlFault> {
     c.skip_to_token()?;
     if c.is_over() || c.column() < column {
         return Ok(false);
     }
     if c.column() > column {
-        return Err(c.fault(Why::Indentation));
+        return Err(c.fault(YamlProblem::Indentation));
     }
     Ok(true)
 }

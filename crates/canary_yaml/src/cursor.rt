@@ -1,7 +1,7 @@
 //! A place in a text, and what is next there.
 //!
 //! LF stands between the lines of the text, and no byte is 0: 0 stands for the end of the text.
-use crate::fault::{Fault, Why};
+use crate::fault::{YamlFault, YamlProblem};
 use crate::places::Place;
 
 /// A place in a text.
@@ -46,9 +46,9 @@ impl<'a> Cursor<'a> {
     }
 
     /// The fault here.
-    pub(crate) fn fault(&self, why: Why) -> Fault {
+    pub(crate) fn fault(&self, why: YamlProblem) -> YamlFault {
         let Place { line, column } = self.place();
-        Fault::Refused { line, column, why }
+        YamlFault::Refused { line, column, why }
     }
 
     /// The line and the column here.
@@ -62,9 +62,9 @@ impl<'a> Cursor<'a> {
 
     /// The fault of a number here that kubectl reads as this one; `Range` if it has more than 64
     /// bits.
-    pub(crate) fn fault_of(&self, reads: Option<i64>) -> Fault {
-        match (self.fault(Why::Range), reads) {
-            (Fault::Refused { line, column, .. }, Some(reads)) => Fault::Number {
+    pub(crate) fn fault_of(&self, reads: Option<i64>) -> YamlFault {
+        match (self.fault(YamlProblem::Range), reads) {
+            (YamlFault::Refused { line, column, .. }, Some(reads)) => YamlFault::Number {
                 line,
                 column,
                 reads,
@@ -178,7 +178,7 @@ impl<'a> Cursor<'a> {
     ///
     /// # Errors
     /// `Colon` or `Trailing`, if it has more.
-    pub(crate) fn end_line(&mut self) -> Result<(), Fault> {
+    pub(crate) fn end_line(&mut self) -> Result<(), YamlFault> {
         if self.is_at_end() {
             return Ok(());
         }
@@ -188,9 +188,9 @@ impl<'a> Cursor<'a> {
         }
         self.skip_white();
         let why = if self.peek() == b':' {
-            Why::Colon
+            YamlProblem::Colon
         } else {
-            Why::Trailing
+            YamlProblem::Trailing
         };
         Err(self.fault(why))
     }
@@ -204,7 +204,7 @@ impl<'a> Cursor<'a> {
     ///
     /// # Errors
     /// `Tab`, if a tab stands before it in its line.
-    pub(crate) fn skip_to_token(&mut self) -> Result<(), Fault> {
+    pub(crate) fn skip_to_token(&mut self) -> Result<(), YamlFault> {
         for _ in 0..self.turns() {
             if self.is_at_end() || !self.is_line_over() {
                 break;
@@ -216,9 +216,9 @@ impl<'a> Cursor<'a> {
     }
 
     /// Refuses a tab here.
-    pub(crate) fn refuse_tab(&self) -> Result<(), Fault> {
+    pub(crate) fn refuse_tab(&self) -> Result<(), YamlFault> {
         if self.peek() == b'\t' {
-            return Err(self.fault(Why::Tab));
+            return Err(self.fault(YamlProblem::Tab));
         }
         Ok(())
     }

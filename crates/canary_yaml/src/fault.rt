@@ -4,7 +4,7 @@ use thiserror::Error;
 
 /// Why a text is not read.
 #[derive(Clone, Copy, Debug, PartialEq, Eq, Error)]
-pub enum Fault {
+pub enum YamlFault {
     /// An allocation was refused.
     #[error("out of memory")]
     Memory,
@@ -14,7 +14,7 @@ pub enum Fault {
     Refused {
         line: usize,
         column: usize,
-        why: Why,
+        why: YamlProblem,
     },
     /// A plain scalar at this line and column is this number to kubectl, and another one or a text
     /// to YAML 1.1 or 1.2: 0644, 0o644 or 0b101.
@@ -28,7 +28,7 @@ pub enum Fault {
 
 /// What is not read. `text` says it in words, with what to write instead.
 #[derive(Clone, Copy, Debug, PartialEq, Eq)]
-pub enum Why {
+pub enum YamlProblem {
     Length,
     Utf8,
     Control,
@@ -62,57 +62,60 @@ pub enum Why {
     Json,
 }
 
-impl Why {
+impl YamlProblem {
     /// What is not read, and what to write instead: one line without a full stop.
     pub fn text(self) -> &'static str {
         match self {
-            Why::Length => "the text is longer than 1,048,576 bytes",
-            Why::Utf8 => "this is not UTF-8",
-            Why::Control => "a control character: write an escape in double quotes, as \\u0007",
-            Why::Tab => "a tab in an indentation: write spaces",
-            Why::Directive => "a directive (%): leave it out",
-            Why::Anchor => "an anchor (&): write the value again where it is used",
-            Why::Alias => "an alias (*): write the value again, or put a text in quotes",
-            Why::Tag => "a tag (!): leave it out, or put a text in quotes",
-            Why::Merge => "a merge key (<<): write the members",
-            Why::ComplexKey => "a complex key: write a key as one text in one line",
-            Why::KeyKind => "a key that is a number, true, false or null: put it in quotes",
-            Why::Duplicate => "a key that this mapping has already: leave one out",
-            Why::Nesting => "mappings and sequences nested more than 127 deep",
-            Why::Indentation => "an indentation that fits no line before it",
-            Why::NoKey => "no key with a colon, as in the lines before it",
-            Why::Colon => "a colon after a value: put a text in quotes, a mapping on its own lines",
-            Why::Indicator => "no text begins with this character: put it in quotes",
-            Why::NoComma => "no comma and no closing bracket: write one before this",
-            Why::Unclosed => "a quote or a bracket that is not closed",
-            Why::Escape => "an escape that YAML does not have: write \\\\ for a backslash",
-            Why::Header => "after | or > stand - or +, a digit of 1 to 9, both, or nothing",
-            Why::Range => "a number out of range: put it in quotes if it is a text",
-            Why::NotFinite => "infinity and NaN, which JSON does not have: put a text in quotes",
-            Why::OldTrue => "YAML 1.1 reads true here: write true, or put it in quotes",
-            Why::OldFalse => "YAML 1.1 reads false here: write false, or put it in quotes",
-            Why::Underscore => {
+            YamlProblem::Length => "the text is longer than 1,048,576 bytes",
+            YamlProblem::Utf8 => "this is not UTF-8",
+            YamlProblem::Control =>
+                "a control character: write an escape in double quotes, as \\u0007",
+            YamlProblem::Tab => "a tab in an indentation: write spaces",
+            YamlProblem::Directive => "a directive (%): leave it out",
+            YamlProblem::Anchor => "an anchor (&): write the value again where it is used",
+            YamlProblem::Alias => "an alias (*): write the value again, or put a text in quotes",
+            YamlProblem::Tag => "a tag (!): leave it out, or put a text in quotes",
+            YamlProblem::Merge => "a merge key (<<): write the members",
+            YamlProblem::ComplexKey => "a complex key: write a key as one text in one line",
+            YamlProblem::KeyKind => "a key that is a number, true, false or null: put it in quotes",
+            YamlProblem::Duplicate => "a key that this mapping has already: leave one out",
+            YamlProblem::Nesting => "mappings and sequences nested more than 127 deep",
+            YamlProblem::Indentation => "an indentation that fits no line before it",
+            YamlProblem::NoKey => "no key with a colon, as in the lines before it",
+            YamlProblem::Colon =>
+                "a colon after a value: put a text in quotes, a mapping on its own lines",
+            YamlProblem::Indicator => "no text begins with this character: put it in quotes",
+            YamlProblem::NoComma => "no comma and no closing bracket: write one before this",
+            YamlProblem::Unclosed => "a quote or a bracket that is not closed",
+            YamlProblem::Escape => "an escape that YAML does not have: write \\\\ for a backslash",
+            YamlProblem::Header => "after | or > stand - or +, a digit of 1 to 9, both, or nothing",
+            YamlProblem::Range => "a number out of range: put it in quotes if it is a text",
+            YamlProblem::NotFinite =>
+                "infinity and NaN, which JSON does not have: put a text in quotes",
+            YamlProblem::OldTrue => "YAML 1.1 reads true here: write true, or put it in quotes",
+            YamlProblem::OldFalse => "YAML 1.1 reads false here: write false, or put it in quotes",
+            YamlProblem::Underscore => {
                 "a number in YAML 1.1 alone: write 1000 for 1_000, or put it in quotes"
             }
-            Why::Base60 => "base 60 in YAML 1.1, as 750 for 12:30: put it in quotes",
-            Why::Trailing => "more text after a value",
-            Why::Empty => "the text has no document",
-            Why::Second => "a second document: keep each in a file of its own",
-            Why::Json => "JSON, as { before it says, ends here: correct it",
+            YamlProblem::Base60 => "base 60 in YAML 1.1, as 750 for 12:30: put it in quotes",
+            YamlProblem::Trailing => "more text after a value",
+            YamlProblem::Empty => "the text has no document",
+            YamlProblem::Second => "a second document: keep each in a file of its own",
+            YamlProblem::Json => "JSON, as { before it says, ends here: correct it",
         }
     }
 }
 
-impl From<AllocError> for Fault {
+impl From<AllocError> for YamlFault {
     // A refused allocation is `Memory`.
-    fn from(_: AllocError) -> Fault {
-        Fault::Memory
+    fn from(_: AllocError) -> YamlFault {
+        YamlFault::Memory
     }
 }
 
-impl<T: Drop> From<AllocFailed<T>> for Fault {
+impl<T: Drop> From<AllocFailed<T>> for YamlFault {
     // The same if a value found no room, which is dropped.
-    fn from(_: AllocFailed<T>) -> Fault {
-        Fault::Memory
+    fn from(_: AllocFailed<T>) -> YamlFault {
+        YamlFault::Memory
     }
 }

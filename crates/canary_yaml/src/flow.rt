@@ -4,7 +4,7 @@ ghost use Rattle.serde_json.specs.Data.{depth as nesting, items_depth, members_d
 ghost use Rattle.serde_json.specs.View.{view, items_view, members_view};
 
 use crate::cursor::Cursor;
-use crate::fault::{Fault, Why};
+use crate::fault::{YamlFault, YamlProblem};
 use crate::key::read_key;
 use crate::plain::{Style, is_plain_here, read_plain};
 use crate::quoted::read_quoted;
@@ -20,12 +20,12 @@ use std::alloc::Global;
 /// `Duplicate` in brackets; `Memory`.
 #[cycle(flow)]
 #[tactic(auto, using(crate::proofs::Nesting::nests))]
-pub(crate) fn read_flow(alloc: Global, c: &mut Cursor<'_>, depth: usize) -> Result<Value, Fault>
+pub(crate) fn read_flow(alloc: Global, c: &mut Cursor<'_>, depth: usize) -> Result<Value, YamlFault>
     ensures { IfOk result (λ v. nesting (view v) ≤ depth) }
 {
     let begin = *c;
     match c.peek() {
-        b'[' | b'{' if depth == 0 => Err(c.fault(Why::Nesting)),
+        b'[' | b'{' if depth == 0 => Err(c.fault(YamlProblem::Nesting)),
         b'[' => Ok(Value::Array(read_items(alloc, c, depth - 1)?)),
         b'{' => Ok(Value::Object(read_members(alloc, c, depth - 1)?)),
         b'"' | b'\'' => Ok(Value::String(string_of(read_quoted(alloc, c)?, &begin)?)),
@@ -37,7 +37,7 @@ pub(crate) fn read_flow(alloc: Global, c: &mut Cursor<'_>, depth: usize) -> Resu
 ///
 /// # Errors
 /// What `why_not` says, if none begins here; what `value_of` refuses; `Memory`.
-pub(crate) fn read_word(alloc: Global, c: &mut Cursor<'_>, style: Style) -> Result<Value, Fault>
+pub(crate) fn read_word(alloc: Global, c: &mut Cursor<'_>, style: Style) -> Result<Value, YamlFault>
     ensures { IfOk result (λ v. nesting (view v) ≡ 0) }
 {
     let begin = *c;
@@ -49,21 +49,21 @@ pub(crate) fn read_word(alloc: Global, c: &mut Cursor<'_>, style: Style) -> Resu
 }
 
 /// Why no value can begin here, if no plain scalar can.
-pub(crate) fn why_not(c: &Cursor<'_>) -> Why {
+pub(crate) fn why_not(c: &Cursor<'_>) -> YamlProblem {
     match c.peek() {
-        b'&' => Why::Anchor,
-        b'*' => Why::Alias,
-        b'!' => Why::Tag,
-        b'?' => Why::ComplexKey,
-        0 => Why::Unclosed,
-        _ => Why::Indicator,
+        b'&' => YamlProblem::Anchor,
+        b'*' => YamlProblem::Alias,
+        b'!' => YamlProblem::Tag,
+        b'?' => YamlProblem::ComplexKey,
+        0 => YamlProblem::Unclosed,
+        _ => YamlProblem::Indicator,
     }
 }
 
 // The values between `[`, which stands here, and `]`.
 #[cycle(flow)]
 #[tactic(auto, using(crate::proofs::Nesting::nests))]
-fn read_items(alloc: Global, c: &mut Cursor<'_>, depth: usize) -> Result<Vec<Value>, Fault>
+fn read_items(alloc: Global, c: &mut Cursor<'_>, depth: usize) -> Result<Vec<Value>, YamlFault>
     ensures { IfOk result (λ items. items_depth (items_view items.items) ≤ depth) }
 {
     let begin = *c;
@@ -78,7 +78,7 @@ fn read_items(alloc: Global, c: &mut Cursor<'_>, depth: usize) -> Result<Vec<Val
         items.push(read_flow(alloc, c, depth)?)?;
         end_item(c, b']')?;
     }
-    Err(begin.fault(Why::Unclosed))
+    Err(begin.fault(YamlProblem::Unclosed))
 }
 
 // The members between `{`, which stands here, and `}`.
@@ -88,7 +88,7 @@ fn read_members(
     alloc: Global,
     c: &mut Cursor<'_>,
     depth: usize,
-) -> Result<Map<String, Value>, Fault>
+) -> Result<Map<String, Value>, YamlFault>
     ensures { IfOk result (λ members. members_depth (members_view members.entries) ≤ depth) }
 {
     let begin = *c;
@@ -104,21 +104,21 @@ fn read_members(
         let key = read_flow_key(alloc, c)?;
         let value = read_flow_member(alloc, c, depth)?;
         if members.insert(key, value)?.is_some() {
-            return Err(place.fault(Why::Duplicate));
+            return Err(place.fault(YamlProblem::Duplicate));
         }
         end_item(c, b'}')?;
     }
-    Err(begin.fault(Why::Unclosed))
+    Err(begin.fault(YamlProblem::Unclosed))
 }
 
 /// The key that begins here.
 ///
 /// # Errors
 /// `ComplexKey`; what `why_not` says, if none begins here; as `read_key`.
-pub(crate) fn read_flow_key(alloc: Global, c: &mut Cursor<'_>) -> Result<String, Fault> {
+pub(crate) fn read_flow_key(alloc: Global, c: &mut Cursor<'_>) -> Result<String, YamlFault> {
     match c.peek() {
         b'"' | b'\'' => {}
-        b'[' | b'{' => return Err(c.fault(Why::ComplexKey)),
+        b'[' | b'{' => return Err(c.fault(YamlProblem::ComplexKey)),
         _ if !is_plain_here(c, Style::Flow) => return Err(c.fault(why_not(c))),
         _ => {}
     }
@@ -134,7 +134,7 @@ pub(crate) fn read_flow_member(
     alloc: Global,
     c: &mut Cursor<'_>,
     depth: usize,
-) -> Result<Value, Fault>
+) -> Result<Value, YamlFault>
     ensures { IfOk result (λ v. nesting (view v) ≤ depth) }
 {
     skip_between(c)?;
@@ -153,13 +153,13 @@ pub(crate) fn read_flow_member(
 ///
 /// # Errors
 /// `Colon`, `Unclosed` or `NoComma`, if neither stands here.
-pub(crate) fn end_item(c: &mut Cursor<'_>, closing: u8) -> Result<(), Fault> {
+pub(crate) fn end_item(c: &mut Cursor<'_>, closing: u8) -> Result<(), YamlFault> {
     skip_between(c)?;
     match c.peek() {
         b',' => c.skip(1),
-        b':' => return Err(c.fault(Why::Colon)),
-        0 => return Err(c.fault(Why::Unclosed)),
-        byte if byte != closing => return Err(c.fault(Why::NoComma)),
+        b':' => return Err(c.fault(YamlProblem::Colon)),
+        0 => return Err(c.fault(YamlProblem::Unclosed)),
+        byte if byte != closing => return Err(c.fault(YamlProblem::NoComma)),
         _ => {}
     }
     Ok(())
@@ -169,14 +169,14 @@ pub(crate) fn end_item(c: &mut Cursor<'_>, closing: u8) -> Result<(), Fault> {
 ///
 /// # Errors
 /// `Unclosed`, if the document ends before.
-pub(crate) fn skip_between(c: &mut Cursor<'_>) -> Result<(), Fault> {
+pub(crate) fn skip_between(c: &mut Cursor<'_>) -> Result<(), YamlFault> {
     for _ in 0..c.turns() {
         if c.is_at_end() || !c.is_line_over() {
             break;
         }
         c.next_line();
         if c.is_over() {
-            return Err(c.fault(Why::Unclosed));
+            return Err(c.fault(YamlProblem::Unclosed));
         }
     }
     c.skip_white();

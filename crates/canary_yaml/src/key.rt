@@ -1,9 +1,9 @@
 //! Keys.
 use crate::cursor::Cursor;
-use crate::fault::{Fault, Why};
+use crate::fault::{YamlFault, YamlProblem};
 use crate::plain::{Style, is_plain_here, plain_part};
 use crate::quoted::read_quoted;
-use crate::schema::{Meaning, meaning_of, string_of};
+use crate::schema::{PlainScalar, meaning_of, string_of};
 use std::alloc::Global;
 
 const BLOCK: Style = Style::Block(0);
@@ -45,7 +45,11 @@ fn quoted_len(line: &[u8], quote: u8) -> usize {
 /// # Errors
 /// `Merge`; `KeyKind`, if it is a number, a boolean or null; what `value_of` refuses a plain scalar
 /// for, or `read_quoted` a text in quotes; `Memory`.
-pub(crate) fn read_key(alloc: Global, c: &mut Cursor<'_>, style: Style) -> Result<String, Fault> {
+pub(crate) fn read_key(
+    alloc: Global,
+    c: &mut Cursor<'_>,
+    style: Style,
+) -> Result<String, YamlFault> {
     let begin = *c;
     if c.peek() == b'"' || c.peek() == b'\'' {
         return string_of(read_quoted(alloc, c)?, &begin);
@@ -57,15 +61,15 @@ pub(crate) fn read_key(alloc: Global, c: &mut Cursor<'_>, style: Style) -> Resul
 }
 
 // Refuses a plain scalar that is no key. It began here.
-fn refuse_key(part: &[u8], begin: &Cursor<'_>) -> Result<(), Fault> {
+fn refuse_key(part: &[u8], begin: &Cursor<'_>) -> Result<(), YamlFault> {
     if part == b"<<".as_slice() {
-        return Err(begin.fault(Why::Merge));
+        return Err(begin.fault(YamlProblem::Merge));
     }
     match meaning_of(part) {
-        Meaning::Text => Ok(()),
-        Meaning::Refused(why) => Err(begin.fault(why)),
-        Meaning::InOtherBase(number) => Err(begin.fault_of(number)),
-        _ => Err(begin.fault(Why::KeyKind)),
+        PlainScalar::Text => Ok(()),
+        PlainScalar::Refused(why) => Err(begin.fault(why)),
+        PlainScalar::InOtherBase(number) => Err(begin.fault_of(number)),
+        _ => Err(begin.fault(YamlProblem::KeyKind)),
     }
 }
 
@@ -73,10 +77,10 @@ fn refuse_key(part: &[u8], begin: &Cursor<'_>) -> Result<(), Fault> {
 ///
 /// # Errors
 /// `NoKey`, if there is none.
-pub(crate) fn skip_colon(c: &mut Cursor<'_>) -> Result<(), Fault> {
+pub(crate) fn skip_colon(c: &mut Cursor<'_>) -> Result<(), YamlFault> {
     c.skip_white();
     if !c.is_mark(b':') {
-        return Err(c.fault(Why::NoKey));
+        return Err(c.fault(YamlProblem::NoKey));
     }
     c.skip(1);
     Ok(())

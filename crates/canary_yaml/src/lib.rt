@@ -15,7 +15,7 @@
 //!     match json_of(alloc, text.as_bytes()) {
 //!         Ok(None) => Ok(text),
 //!         Ok(Some(json)) => Ok(json),
-//!         Err(yaml::Fault::Memory) => Err(Stop::Memory),
+//!         Err(yaml::YamlFault::Memory) => Err(Stop::Memory),
 //!         Err(_) => Err(Stop::Manifest),
 //!     }
 #![tactic(auto)]

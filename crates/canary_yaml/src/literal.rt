@@ -1,6 +1,6 @@
 //! Block scalars: literal (`|`), and folded (`>`).
 use crate::cursor::{Cursor, count_of, is_white};
-use crate::fault::{Fault, Why};
+use crate::fault::{YamlFault, YamlProblem};
 use crate::folded::{push_break, push_lines};
 use std::alloc::Global;
 
@@ -16,7 +16,7 @@ struct Header {
 
 // How a text ends so far.
 #[derive(Clone, Copy)]
-struct Ending {
+struct TrailingBreaks {
     // How many lines ended since its last byte.
     breaks: usize,
     // Whether it has no line, or the last one begins with white space: its end is not folded.
@@ -33,14 +33,14 @@ pub(crate) fn read_literal(
     alloc: Global,
     c: &mut Cursor<'_>,
     least: usize,
-) -> Result<Vec<u8>, Fault> {
+) -> Result<Vec<u8>, YamlFault> {
     let mut text = Vec::new(alloc);
     push_literal(&mut text, c, least)?;
     Ok(text)
 }
 
 // Adds the block scalar that begins here.
-fn push_literal(text: &mut Vec<u8>, c: &mut Cursor<'_>, least: usize) -> Result<(), Fault> {
+fn push_literal(text: &mut Vec<u8>, c: &mut Cursor<'_>, least: usize) -> Result<(), YamlFault> {
     let header = read_header(c)?;
     c.end_line()?;
     let column = match header.digit {
@@ -57,8 +57,8 @@ fn push_body(
     c: &mut Cursor<'_>,
     column: usize,
     is_folded: bool,
-) -> Result<Ending, Fault> {
-    let mut ending = Ending {
+) -> Result<TrailingBreaks, YamlFault> {
+    let mut ending = TrailingBreaks {
         breaks: 0,
         is_fixed: true,
     };
@@ -73,7 +73,7 @@ fn push_body(
 }
 
 // What the line that begins with `|` or `>` says.
-fn read_header(c: &mut Cursor<'_>) -> Result<Header, Fault> {
+fn read_header(c: &mut Cursor<'_>) -> Result<Header, YamlFault> {
     let mut header = Header {
         is_folded: c.peek() == b'>',
         chomp: None,
@@ -91,14 +91,14 @@ fn read_header(c: &mut Cursor<'_>) -> Result<Header, Fault> {
         c.skip(1);
     }
     if !c.is_line_over() {
-        return Err(c.fault(Why::Header));
+        return Err(c.fault(YamlProblem::Header));
     }
     Ok(header)
 }
 
 // How far the lines are indented, by the first one that has more than spaces; if there is none, by
 // the longest one.
-fn first_column(c: &Cursor<'_>, least: usize) -> Result<usize, Fault> {
+fn first_column(c: &Cursor<'_>, least: usize) -> Result<usize, YamlFault> {
     let mut ahead = *c;
     let mut longest = least;
     for _ in 0..c.turns() {
@@ -109,7 +109,7 @@ fn first_column(c: &Cursor<'_>, least: usize) -> Result<usize, Fault> {
         }
         if column < line.len() && column < longest {
             ahead.skip(column);
-            return Err(ahead.fault(Why::Indentation));
+            return Err(ahead.fault(YamlProblem::Indentation));
         }
         if column < line.len() {
             return Ok(column);
@@ -134,9 +134,9 @@ fn line_at<'a>(c: &Cursor<'a>, column: usize) -> Option<&'a [u8]> {
 fn push_line(
     text: &mut Vec<u8>,
     line: &[u8],
-    ending: Ending,
+    ending: TrailingBreaks,
     is_folded: bool,
-) -> Result<Ending, Fault> {
+) -> Result<TrailingBreaks, YamlFault> {
     let Some(first) = line.first() else {
         return Ok(ending);
     };
@@ -147,21 +147,21 @@ fn push_line(
         push_break(text, ending.breaks.saturating_sub(1))?;
     }
     text.extend_from_slice(line)?;
-    Ok(Ending {
+    Ok(TrailingBreaks {
         breaks: 0,
         is_fixed: is_white,
     })
 }
 
-impl Ending {
+impl TrailingBreaks {
     // With the end of a line, if it has one: the last line of a text may have none.
-    fn with_line(self, is_last: bool) -> Ending {
+    fn with_line(self, is_last: bool) -> TrailingBreaks {
         let breaks = if is_last {
             self.breaks
         } else {
             self.breaks.saturating_add(1)
         };
-        Ending { breaks, ..self }
+        TrailingBreaks { breaks, ..self }
     }
 
     // How many ends of lines are kept: none by `-`, all by `+`, else one.

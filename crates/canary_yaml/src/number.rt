@@ -6,7 +6,7 @@ use std::alloc::{AllocError, Global};
 
 /// A number in base 10, in its parts. As in YAML 1.1, `_` may stand among its digits.
 #[derive(Clone, Copy)]
-pub(crate) struct Decimal<'a> {
+pub(crate) struct DecimalScalar<'a> {
     is_negative: bool,
     // The digits before the point.
     whole: &'a [u8],
@@ -16,9 +16,9 @@ pub(crate) struct Decimal<'a> {
     exponent: &'a [u8],
 }
 
-impl<'a> Decimal<'a> {
+impl<'a> DecimalScalar<'a> {
     /// The number that a text spells.
-    pub(crate) fn read(text: &'a [u8]) -> Option<Decimal<'a>> {
+    pub(crate) fn read(text: &'a [u8]) -> Option<DecimalScalar<'a>> {
         let number = after_sign(text);
         let (whole, rest) = split_digits(number);
         let (fraction, rest) = split_fraction(rest);
@@ -33,7 +33,7 @@ impl<'a> Decimal<'a> {
         if !is_number || !is_exponent(rest) {
             return None;
         }
-        Some(Decimal {
+        Some(DecimalScalar {
             is_negative: text.first() == Some(&b'-'),
             whole,
             fraction,

@@ -1,6 +1,6 @@
 //! Plain scalars: texts without quotes, of one line or of more.
 use crate::cursor::{Cursor, is_gap, is_white};
-use crate::fault::{Fault, Why};
+use crate::fault::{YamlFault, YamlProblem};
 use crate::folded::push_break;
 use std::alloc::Global;
 
@@ -60,14 +60,14 @@ pub(crate) fn read_plain(
     alloc: Global,
     c: &mut Cursor<'_>,
     style: Style,
-) -> Result<Vec<u8>, Fault> {
+) -> Result<Vec<u8>, YamlFault> {
     let mut text = Vec::new(alloc);
     push_plain(&mut text, c, style)?;
     Ok(text)
 }
 
 // Adds the plain scalar that begins here.
-fn push_plain(text: &mut Vec<u8>, c: &mut Cursor<'_>, style: Style) -> Result<(), Fault> {
+fn push_plain(text: &mut Vec<u8>, c: &mut Cursor<'_>, style: Style) -> Result<(), YamlFault> {
     push_part(text, c, style)?;
     for _ in 0..c.turns() {
         let Some((next, blank)) = next_part(c, style)? else {
@@ -81,7 +81,7 @@ fn push_plain(text: &mut Vec<u8>, c: &mut Cursor<'_>, style: Style) -> Result<()
 }
 
 // Adds what the scalar takes of the line here.
-fn push_part(text: &mut Vec<u8>, c: &mut Cursor<'_>, style: Style) -> Result<(), Fault> {
+fn push_part(text: &mut Vec<u8>, c: &mut Cursor<'_>, style: Style) -> Result<(), YamlFault> {
     let part = plain_part(c.rest(), style);
     text.extend_from_slice(part)?;
     c.skip(part.len());
@@ -89,7 +89,7 @@ fn push_part(text: &mut Vec<u8>, c: &mut Cursor<'_>, style: Style) -> Result<(),
 }
 
 // Where the scalar goes on in a later line, and how many blank lines are before that one.
-fn next_part<'a>(c: &Cursor<'a>, style: Style) -> Result<Option<(Cursor<'a>, usize)>, Fault> {
+fn next_part<'a>(c: &Cursor<'a>, style: Style) -> Result<Option<(Cursor<'a>, usize)>, YamlFault> {
     let mut next = *c;
     next.skip_white();
     if next.peek() != b'\n' {
@@ -103,7 +103,7 @@ fn next_part<'a>(c: &Cursor<'a>, style: Style) -> Result<Option<(Cursor<'a>, usi
 }
 
 // Whether the scalar goes on in the line that begins here.
-fn goes_on(next: &mut Cursor<'_>, style: Style) -> Result<bool, Fault> {
+fn goes_on(next: &mut Cursor<'_>, style: Style) -> Result<bool, YamlFault> {
     if next.is_over() {
         return Ok(false);
     }

@@ -1,6 +1,6 @@
 //! Texts in quotes, of one line or of more.
 use crate::cursor::{Cursor, is_white};
-use crate::fault::{Fault, Why};
+use crate::fault::{YamlFault, YamlProblem};
 use crate::folded::{push_break, push_lines};
 use crate::number::hexadecimal;
 use std::alloc::Global;
@@ -9,14 +9,14 @@ use std::alloc::Global;
 ///
 /// # Errors
 /// `Unclosed`, `Escape` or `Memory`.
-pub(crate) fn read_quoted(alloc: Global, c: &mut Cursor<'_>) -> Result<Vec<u8>, Fault> {
+pub(crate) fn read_quoted(alloc: Global, c: &mut Cursor<'_>) -> Result<Vec<u8>, YamlFault> {
     let mut text = Vec::new(alloc);
     push_quoted(&mut text, c)?;
     Ok(text)
 }
 
 // Adds the text in the quotes that begin here.
-fn push_quoted(text: &mut Vec<u8>, c: &mut Cursor<'_>) -> Result<(), Fault> {
+fn push_quoted(text: &mut Vec<u8>, c: &mut Cursor<'_>) -> Result<(), YamlFault> {
     let begin = *c;
     let quote = c.peek();
     // The length of the text up to the last escape: white space before it is not dropped.
@@ -42,11 +42,11 @@ fn push_quoted(text: &mut Vec<u8>, c: &mut Cursor<'_>) -> Result<(), Fault> {
             c.skip(1);
         }
     }
-    Err(begin.fault(Why::Unclosed))
+    Err(begin.fault(YamlProblem::Unclosed))
 }
 
 // Joins the line that ends here with the next one that is not blank.
-fn read_break(c: &mut Cursor<'_>, text: &mut Vec<u8>, kept: usize) -> Result<(), Fault> {
+fn read_break(c: &mut Cursor<'_>, text: &mut Vec<u8>, kept: usize) -> Result<(), YamlFault> {
     drop_white(text, kept);
     let blank = c.skip_break();
     go_on(c)?;
@@ -64,16 +64,16 @@ fn drop_white(text: &mut Vec<u8>, kept: usize) {
 }
 
 // Goes to what comes first in the line that begins here.
-fn go_on(c: &mut Cursor<'_>) -> Result<(), Fault> {
+fn go_on(c: &mut Cursor<'_>) -> Result<(), YamlFault> {
     if c.is_over() {
-        return Err(c.fault(Why::Unclosed));
+        return Err(c.fault(YamlProblem::Unclosed));
     }
     c.skip_white();
     Ok(())
 }
 
 // Adds what the escape here stands for.
-fn read_escape(c: &mut Cursor<'_>, text: &mut Vec<u8>) -> Result<(), Fault> {
+fn read_escape(c: &mut Cursor<'_>, text: &mut Vec<u8>) -> Result<(), YamlFault> {
     let begin = *c;
     let letter = c.peek_at(1);
     c.skip(1);
@@ -91,7 +91,7 @@ fn read_escape(c: &mut Cursor<'_>, text: &mut Vec<u8>) -> Result<(), Fault> {
     };
     match code.and_then(char::from_u32) {
         Some(char) => push_char(text, char),
-        None => Err(begin.fault(Why::Escape)),
+        None => Err(begin.fault(YamlProblem::Escape)),
     }
 }
 
@@ -141,7 +141,7 @@ fn paired(high: u32, low: u32) -> u32 {
 }
 
 // Adds a character in UTF-8.
-fn push_char(text: &mut Vec<u8>, char: char) -> Result<(), Fault> {
+fn push_char(text: &mut Vec<u8>, char: char) -> Result<(), YamlFault> {
     let mut bytes = [0; 4];
     let bytes = char.encode_utf8(&mut bytes);
     text.extend_from_slice(bytes.as_bytes())?;

@@ -9,38 +9,38 @@ ghost use Rattle.serde_json.specs.Data.{depth as nesting};
 ghost use Rattle.serde_json.specs.View.{view};
 
 use crate::cursor::Cursor;
-use crate::fault::{Fault, Why};
-use crate::number::{Decimal, has_base, in_base_16, is_in_base_60, number_of_kubectl};
+use crate::fault::{YamlFault, YamlProblem};
+use crate::number::{DecimalScalar, has_base, in_base_16, is_in_base_60, number_of_kubectl};
 use serde_json::{Number, Value};
 use std::alloc::Global;
 
 /// What a plain scalar means.
 #[derive(Clone, Copy)]
-pub(crate) enum Meaning<'a> {
+pub(crate) enum PlainScalar<'a> {
     Null,
     Bool(bool),
-    Decimal(Decimal<'a>),
+    Decimal(DecimalScalar<'a>),
     Whole(u64),
     Text,
-    Refused(Why),
+    Refused(YamlProblem),
     // A number to kubectl, and another one or a text to others; None if 64 bits do not hold it.
     InOtherBase(Option<i64>),
 }
 
 /// What a plain scalar means.
-pub(crate) fn meaning_of(text: &[u8]) -> Meaning<'_> {
+pub(crate) fn meaning_of(text: &[u8]) -> PlainScalar<'_> {
     if text.is_empty() || is_word(text, "~ null Null NULL") {
-        Meaning::Null
+        PlainScalar::Null
     } else if is_word(text, "true True TRUE") {
-        Meaning::Bool(true)
+        PlainScalar::Bool(true)
     } else if is_word(text, "false False FALSE") {
-        Meaning::Bool(false)
+        PlainScalar::Bool(false)
     } else if is_word(text, "y Y yes Yes YES on On ON") {
-        Meaning::Refused(Why::OldTrue)
+        PlainScalar::Refused(YamlProblem::OldTrue)
     } else if is_word(text, "n N no No NO off Off OFF") {
-        Meaning::Refused(Why::OldFalse)
+        PlainScalar::Refused(YamlProblem::OldFalse)
     } else if is_word(text, NOT_FINITE) {
-        Meaning::Refused(Why::NotFinite)
+        PlainScalar::Refused(YamlProblem::NotFinite)
     } else {
         meaning_of_number(text)
     }
@@ -59,39 +59,39 @@ fn is_word(text: &[u8], words: &str) -> bool {
 }
 
 // What a plain scalar means that is no word.
-fn meaning_of_number(text: &[u8]) -> Meaning<'_> {
-    if let Some(number) = Decimal::read(text) {
+fn meaning_of_number(text: &[u8]) -> PlainScalar<'_> {
+    if let Some(number) = DecimalScalar::read(text) {
         return meaning_of_decimal(text, number);
     }
     if let Some(number) = in_base_16(text) {
         return match number {
-            Some(number) => Meaning::Whole(number),
-            None => Meaning::Refused(Why::Range),
+            Some(number) => PlainScalar::Whole(number),
+            None => PlainScalar::Refused(YamlProblem::Range),
         };
     }
     if has_base(text) {
         return in_other_base(text);
     }
     if is_in_base_60(text) {
-        return Meaning::Refused(Why::Base60);
+        return PlainScalar::Refused(YamlProblem::Base60);
     }
-    Meaning::Text
+    PlainScalar::Text
 }
 
 // What a number in base 10 means, which the text spells.
-fn meaning_of_decimal<'a>(text: &'a [u8], number: Decimal<'a>) -> Meaning<'a> {
+fn meaning_of_decimal<'a>(text: &'a [u8], number: DecimalScalar<'a>) -> PlainScalar<'a> {
     if text.contains(&b'_') || number.has_leading_zero() {
         return in_other_base(text);
     }
-    Meaning::Decimal(number)
+    PlainScalar::Decimal(number)
 }
 
 // What a number means that is one to kubectl, and another one or a text to others.
-fn in_other_base(text: &[u8]) -> Meaning<'_> {
+fn in_other_base(text: &[u8]) -> PlainScalar<'_> {
     if text.contains(&b'_') {
-        return Meaning::Refused(Why::Underscore);
+        return PlainScalar::Refused(YamlProblem::Underscore);
     }
-    Meaning::InOtherBase(number_of_kubectl(text))
+    PlainScalar::InOtherBase(number_of_kubectl(text))
 }
 
 /// The value of a plain scalar, which began here.
@@ -100,37 +100,41 @@ fn in_other_base(text: &[u8]) -> Meaning<'_> {
 /// `OldTrue`, `OldFalse`, `Underscore`, `Base60` or a `Number`, if not all read it as one value;
 /// `NotFinite` or `Range`, if JSON has no such number; `Memory`.
 #[tactic(auto, using(crate::proofs::Nesting::nests))]
-pub(crate) fn value_of(alloc: Global, text: Vec<u8>, begin: &Cursor<'_>) -> Result<Value, Fault>
+pub(crate) fn value_of(alloc: Global, text: Vec<u8>, begin: &Cursor<'_>) -> Result<Value, YamlFault>
     ensures { IfOk result (λ v. nesting (view v) ≡ 0) }
 {
     match meaning_of(text.as_slice()) {
-        Meaning::Null => Ok(Value::Null),
-        Meaning::Bool(truth) => Ok(Value::Bool(truth)),
-        Meaning::Decimal(number) => number_of(alloc, number, begin),
-        Meaning::Whole(number) => Ok(Value::Number(Number::from(number))),
-        Meaning::Refused(why) => Err(begin.fault(why)),
-        Meaning::InOtherBase(number) => Err(begin.fault_of(number)),
-        Meaning::Text => Ok(Value::String(string_of(text, begin)?)),
+        PlainScalar::Null => Ok(Value::Null),
+        PlainScalar::Bool(truth) => Ok(Value::Bool(truth)),
+        PlainScalar::Decimal(number) => number_of(alloc, number, begin),
+        PlainScalar::Whole(number) => Ok(Value::Number(Number::from(number))),
+        PlainScalar::Refused(why) => Err(begin.fault(why)),
+        PlainScalar::InOtherBase(number) => Err(begin.fault_of(number)),
+        PlainScalar::Text => Ok(Value::String(string_of(text, begin)?)),
     }
 }
 
 /// The text of these bytes.
-pub(crate) fn string_of(text: Vec<u8>, begin: &Cursor<'_>) -> Result<String, Fault> {
+pub(crate) fn string_of(text: Vec<u8>, begin: &Cursor<'_>) -> Result<String, YamlFault> {
     match String::from_utf8(text) {
         Ok(text) => Ok(text),
-        Err(_) => Err(begin.fault(Why::Utf8)),
+        Err(_) => Err(begin.fault(YamlProblem::Utf8)),
     }
 }
 
 // The number as JSON has it.
 #[tactic(auto, using(crate::proofs::Nesting::nests))]
-fn number_of(alloc: Global, number: Decimal<'_>, begin: &Cursor<'_>) -> Result<Value, Fault>
+fn number_of(
+    alloc: Global,
+    number: DecimalScalar<'_>,
+    begin: &Cursor<'_>,
+) -> Result<Value, YamlFault>
     ensures { IfOk result (λ v. nesting (view v) ≡ 0) }
 {
     let json = number.to_json(alloc)?;
     match Value::from_slice(alloc, json.as_slice()) {
         Ok(Value::Number(number)) => Ok(Value::Number(number)),
-        Err(fault) if fault.is_memory() => Err(Fault::Memory),
-        _ => Err(begin.fault(Why::Range)),
+        Err(fault) if fault.is_memory() => Err(YamlFault::Memory),
+        _ => Err(begin.fault(YamlProblem::Range)),
     }
 }

@@ -1,4 +1,4 @@
-use Rattle.canary_sending.specs.Networks.{GoesOn}
+use Rattle.canary_client_journal.specs.Networks.{GoesOn}
 use Rattle.canary_client.specs.Promises.{IsQuery}
 use Rattle.canary_agent.proofs.look.look_at_runs.Given as goal
 

@@ -1,7 +1,7 @@
 use Rattle.std.proofs.Common.{Option, IfSome, subst}
 use Rattle.std.proofs.lemmas.Result.{IfOk-weaker}
 use Rattle.canary_plan.specs.declared.report.Report.{Report}
-use Rattle.canary_sending.proofs.NetworkLemmas.{wider}
+use Rattle.canary_client_journal.proofs.NetworkLemmas.{wider}
 use Rattle.canary_agent.specs.Reports.{IsReportOf}
 use Rattle.canary_agent.proofs.reporting.report.Goals as goal
 

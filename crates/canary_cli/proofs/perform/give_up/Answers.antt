@@ -1,5 +1,5 @@
 use Rattle.std.specs.Prelude.{map, string_bytes}
-use Rattle.canary_words.specs.CommandLine.{faults_of, program_of}
+use Rattle.canary_cli_words.specs.CommandLine.{faults_of, program_of}
 use Rattle.canary_cli.proofs.TurnedAway.{given_up, turned_away}
 use Rattle.canary_cli.proofs.perform.give_up.Goals as goal
 

@@ -1,6 +1,6 @@
 use Rattle.std.proofs.Common.{true, false, sym, ap, ◌∙◌}
 use Rattle.std.proofs.lemmas.Result.{IfOk-weaker}
-use Rattle.canary_journal.specs.Journals.{place_of}
+use Rattle.canary_client_journal.specs.Journals.{place_of}
 use Rattle.canary_client.proofs.PromiseLemmas.{is_pending, is_settled, pending_instead, at_place, had_before, of_before}
 use Rattle.canary_client.proofs.ask.settle_asked.Goals as goal
 

@@ -1,5 +1,5 @@
 use Rattle.std.proofs.Common.{◌≡◌}
-use Rattle.canary_sending.specs.Networks.{GoesOn}
+use Rattle.canary_client_journal.specs.Networks.{GoesOn}
 use Rattle.canary_client.specs.Beginning.{probe_text}
 use Rattle.canary_client.proofs.journals.settled_before.Given as goal
 

@@ -1,6 +1,6 @@
 use Rattle.std.proofs.Common.{◌≡◌}
-use Rattle.canary_sending.specs.Messages.{query_text}
-use Rattle.canary_sending.specs.Networks.{GoesOn}
+use Rattle.canary_client_journal.specs.Messages.{query_text}
+use Rattle.canary_client_journal.specs.Networks.{GoesOn}
 use Rattle.canary_client.proofs.query.answer.Given as goal
 
 abbrev pub invariant-loop-tried : goal.invariant-loop-tried

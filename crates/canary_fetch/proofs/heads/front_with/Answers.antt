@@ -4,8 +4,8 @@ use Rattle.canary_fetch.specs.Replies.{is_interim}
 use Rattle.canary_fetch.proofs.FrontLemmas.{long_head, low_status}
 use Rattle.canary_fetch.proofs.heads.front_with.Goals as goal
 
-pub returns-then-head-gt-MOST_REPLY_HEAD-clause-err : goal.returns-then-head-gt-MOST_REPLY_HEAD-clause-err
-returns-then-head-gt-MOST_REPLY_HEAD-clause-err c =
+pub returns-then-head-gt-MAX_REPLY_HEAD-clause-err : goal.returns-then-head-gt-MAX_REPLY_HEAD-clause-err
+returns-then-head-gt-MAX_REPLY_HEAD-clause-err c =
     let h = c.requires.is.0 in
     let x = c.requires.is.1 in
     let len : c.args.head.len ≡ length (print_response h) = x.len in

@@ -1,9 +1,9 @@
 use Rattle.std.proofs.Common.{◌≡◌, Err, arith, rules, sym, ap, subst, ◌∙◌}
 use Rattle.sqlite.specs.Held.{state}
-use Rattle.canary_reads.specs.declared.fault.ReadFault.TheVariants.{Broken}
-use Rattle.canary_reads.specs.Reader.{seen_inside}
-use Rattle.canary_schema.specs.Stores.{IsUsable, IsHeld, Holds}
-use Rattle.canary_schema.specs.Layout.{moved}
+use Rattle.canary_tables_read.specs.declared.fault.ReadFault.TheVariants.{Broken}
+use Rattle.canary_tables_read.specs.Reader.{seen_inside}
+use Rattle.canary_tables_schema.specs.Stores.{IsUsable, IsHeld, Holds}
+use Rattle.canary_tables_schema.specs.Layout.{moved}
 use Rattle.canary_migrate.proofs.Filling.{was_before, filled_so, sound_so, bindings_broken, tallies_broken}
 use Rattle.canary_migrate.proofs.Written.{kept_both}
 use Rattle.canary_migrate.proofs.fill.fill.Goals as goal

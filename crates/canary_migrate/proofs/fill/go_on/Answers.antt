@@ -1,7 +1,7 @@
 use Rattle.std.proofs.Common.{arith, rules}
 use Rattle.sqlite.specs.Held.{state}
 use Rattle.sqlite.specs.State.{HasCleanDisk}
-use Rattle.canary_schema.specs.Stores.{IsReady}
+use Rattle.canary_tables_schema.specs.Stores.{IsReady}
 use Rattle.canary_migrate.proofs.Written.{kept_once, kept_live, kept_both, has_id, ready_again}
 use Rattle.canary_migrate.proofs.fill.go_on.Goals as goal
 

@@ -1,7 +1,7 @@
 use Rattle.std.proofs.Common.{arith, subst, sym, ap, ◌∙◌}
 use Rattle.sqlite.specs.Held.{state}
 use Rattle.sqlite.specs.State.{HasCleanDisk}
-use Rattle.canary_statements.specs.Fills.{HasOneId}
+use Rattle.canary_tables_write.specs.Fills.{HasOneId}
 use Rattle.canary_migrate.proofs.Moved.{one_id, all_made}
 use Rattle.canary_migrate.proofs.fill.make.Goals as goal
 

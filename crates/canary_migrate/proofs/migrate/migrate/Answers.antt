@@ -1,8 +1,8 @@
 use Rattle.std.proofs.Common.{rules, sym, subst, ◌∙◌}
 use Rattle.sqlite.specs.Held.{state}
-use Rattle.canary_schema.specs.Formed.{HasRisingTables}
-use Rattle.canary_schema.specs.Numbered.{IsOpenedAnew}
-use Rattle.canary_schema.specs.Stores.{IsUsable}
+use Rattle.canary_tables_schema.specs.Formed.{HasRisingTables}
+use Rattle.canary_tables_schema.specs.Numbered.{IsOpenedAnew}
+use Rattle.canary_tables_schema.specs.Stores.{IsUsable}
 use Rattle.canary_migrate.proofs.Migrating.{migrated_so, other_so, broken_so, left_so, left_anew}
 use Rattle.canary_migrate.proofs.migrate.migrate.Goals as goal
 

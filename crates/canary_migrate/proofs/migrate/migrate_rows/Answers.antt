@@ -1,9 +1,9 @@
 use Rattle.std.proofs.Common.{◌≡◌, Err, OnOk, OnErr, rules, sym, subst, ◌∙◌}
 use Rattle.sqlite.specs.Held.{state}
 use Rattle.sqlite.specs.Effect.{Database}
-use Rattle.canary_schema.specs.First.{HasFirstMeta}
-use Rattle.canary_reads.specs.declared.fault.ReadFault.TheVariants.{Broken}
-use Rattle.canary_reads.specs.First.{IsFirst}
+use Rattle.canary_tables_schema.specs.First.{HasFirstMeta}
+use Rattle.canary_tables_read.specs.declared.fault.ReadFault.TheVariants.{Broken}
+use Rattle.canary_tables_read.specs.First.{IsFirst}
 use Rattle.canary_migrate.specs.Migrates.{IsRewritten, HasJudgedFirstRows}
 use Rattle.canary_migrate.proofs.Migrating.{alone_row, has_row}
 use Rattle.canary_migrate.proofs.migrate.migrate_rows.Goals as goal

@@ -1,8 +1,8 @@
 use Rattle.std.proofs.Common.{◌≡◌, Err, OnOk, OnErr, rules, sym, ap, subst, ◌∙◌}
 use Rattle.sqlite.specs.Held.{state}
 use Rattle.sqlite.specs.Effect.{Database}
-use Rattle.canary_reads.specs.declared.fault.ReadFault.TheVariants.{Broken}
-use Rattle.canary_reads.specs.First.{IsFirst}
+use Rattle.canary_tables_read.specs.declared.fault.ReadFault.TheVariants.{Broken}
+use Rattle.canary_tables_read.specs.First.{IsFirst}
 use Rattle.canary_migrate.specs.Migrates.{IsRewritten, HasJudgedFirstRows}
 use Rattle.canary_migrate.proofs.Rewriting.{read_so, templates_broken, tallies_broken}
 use Rattle.canary_migrate.proofs.migrate.rewrite.Goals as goal

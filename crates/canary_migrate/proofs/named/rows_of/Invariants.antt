@@ -1,5 +1,5 @@
 use Rattle.std.proofs.Common.{◌≡◌, map, take}
-use Rattle.canary_stored.specs.Values.{binding_row}
+use Rattle.canary_tables_contents.specs.Values.{binding_row}
 use Rattle.canary_migrate.proofs.named.rows_of.Given as goal
 
 abbrev pub invariant-loop-revision : goal.invariant-loop-revision

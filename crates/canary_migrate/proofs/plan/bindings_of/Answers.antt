@@ -1,5 +1,5 @@
 use Rattle.std.proofs.Common.{◌≡◌, Err, rules}
-use Rattle.canary_reads.specs.declared.fault.ReadFault.TheVariants.{Broken}
+use Rattle.canary_tables_read.specs.declared.fault.ReadFault.TheVariants.{Broken}
 use Rattle.canary_migrate.proofs.Standing.{stores_then}
 use Rattle.canary_migrate.proofs.plan.bindings_of.Goals as goal
 

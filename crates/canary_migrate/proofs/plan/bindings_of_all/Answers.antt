@@ -1,6 +1,6 @@
 use Rattle.std.proofs.Common.{◌≡◌, ◌++◌, Err, ap, rules, arith, ◌∙◌}
-use Rattle.canary_rows.specs.Tables.{Tables}
-use Rattle.canary_reads.specs.declared.fault.ReadFault.TheVariants.{Broken}
+use Rattle.canary_tables_rows.specs.Tables.{Tables}
+use Rattle.canary_tables_read.specs.declared.fault.ReadFault.TheVariants.{Broken}
 use Rattle.canary_migrate.specs.Migrated.{bindings_named}
 use Rattle.canary_migrate.proofs.Each.{none_yet, one_more, all_found}
 use Rattle.canary_migrate.proofs.Standing.{stores_then, goes_first, goes_more}

@@ -1,5 +1,5 @@
 use Rattle.std.proofs.Common.{◌≡◌}
-use Rattle.canary_rows.specs.Tables.{Tables}
+use Rattle.canary_tables_rows.specs.Tables.{Tables}
 use Rattle.canary_migrate.specs.Migrated.{bindings_named}
 use Rattle.canary_migrate.proofs.Each.{SoFar}
 use Rattle.canary_migrate.proofs.Standing.{Goes}

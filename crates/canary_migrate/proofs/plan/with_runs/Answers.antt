@@ -1,5 +1,5 @@
 use Rattle.std.proofs.Common.{◌≡◌, ◌++◌, Err, ap, refl, rules, arith, subst, ◌∙◌}
-use Rattle.canary_reads.specs.declared.fault.ReadFault.TheVariants.{Broken}
+use Rattle.canary_tables_read.specs.declared.fault.ReadFault.TheVariants.{Broken}
 use Rattle.canary_migrate.specs.Migrated.{bindings_of_runs}
 use Rattle.canary_migrate.proofs.Each.{no_runs, run_more}
 use Rattle.canary_migrate.proofs.Standing.{stores_then, goes_first, goes_more}

@@ -1,5 +1,5 @@
 use Rattle.std.proofs.Common.{◌≡◌, Err, rules}
-use Rattle.canary_reads.specs.declared.fault.ReadFault.TheVariants.{Broken}
+use Rattle.canary_tables_read.specs.declared.fault.ReadFault.TheVariants.{Broken}
 use Rattle.canary_migrate.proofs.tallies.tally.Goals as goal
 
 pub returns-in_err-measurements-clause-broken : goal.returns-in_err-measurements-clause-broken

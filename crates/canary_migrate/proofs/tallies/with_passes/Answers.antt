@@ -1,7 +1,7 @@
 use Rattle.std.proofs.Common.{◌≡◌, ◌++◌, [], ◌∷◌, Err, ap, rules, arith, ◌∙◌}
-use Rattle.canary_reads.specs.declared.first.FirstTally.{FirstTally}
-use Rattle.canary_reads.specs.declared.fault.ReadFault.TheVariants.{Broken}
-use Rattle.canary_rows.specs.Tables.{Tables}
+use Rattle.canary_tables_read.specs.declared.first.FirstTally.{FirstTally}
+use Rattle.canary_tables_read.specs.declared.fault.ReadFault.TheVariants.{Broken}
+use Rattle.canary_tables_rows.specs.Tables.{Tables}
 use Rattle.canary_migrate.specs.Migrated.{tally_of}
 use Rattle.canary_migrate.proofs.Each.{none_yet, one_more, all_found, one_each}
 use Rattle.canary_migrate.proofs.Passes.{one_within}

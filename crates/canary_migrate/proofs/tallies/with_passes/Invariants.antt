@@ -1,6 +1,6 @@
 use Rattle.std.proofs.Common.{◌≡◌, [], ◌∷◌}
-use Rattle.canary_reads.specs.declared.first.FirstTally.{FirstTally}
-use Rattle.canary_rows.specs.Tables.{Tables}
+use Rattle.canary_tables_read.specs.declared.first.FirstTally.{FirstTally}
+use Rattle.canary_tables_rows.specs.Tables.{Tables}
 use Rattle.canary_migrate.specs.Migrated.{tally_of}
 use Rattle.canary_migrate.proofs.Each.{SoFar}
 use Rattle.canary_migrate.proofs.Standing.{Goes}

@@ -2,7 +2,7 @@ use Rattle.std.proofs.Common.{◌≡◌, ◌≤◌, length, take}
 use Rattle.std.specs.Prelude.{vec_len, vec_capacity, All}
 use Rattle.canary_once.specs.Contents.{KeepsReceipts}
 use Rattle.canary_once.specs.Sound.{AreSoundContents}
-use Rattle.canary_once.specs.Books.{StaysInMemory}
+use Rattle.canary_once.specs.BookCalls.{StaysInMemory}
 use Rattle.canary_once.specs.Single.{IsFaultOf}
 use Rattle.canary_once.proofs.Runs.{IsRun}
 use Rattle.canary_once.proofs.run.run.Given as goal

@@ -11,14 +11,14 @@ in_one p n a s b d w = simp append_assoc refl
 
 pub returns : goal.returns
 returns c =
-    let stand = c.args.stand.now in
+    let service = c.args.service.now in
     let front = codes "{\"code\":\"ok\",\"service\":\"" in
-    let place = front ++ (stand.name ++ (codes "\",\"status\":\"" ++ (status_text (status stand) ++ (codes "\",\"step\":" ++ decimal stand.step)))) in
-    let back = codes ",\"weight\":" ++ (decimal (weight stand) ++ codes "}") in
+    let place = front ++ (service.name ++ (codes "\",\"status\":\"" ++ (status_text (status service) ++ (codes "\",\"step\":" ++ decimal service.step)))) in
+    let back = codes ",\"weight\":" ++ (decimal (weight service) ++ codes "}") in
     let placed : string_bytes c.in_ok-text-2.text ≡ place = c.in_ok-text-2.ensures ∙ (λ i. c.in_ok-text.ensures.bytes i ++ place) in
     IfOk-weaker c.with_weight.result _ _
     (λ body e.
     e
     ∙ (λ i. placed i ++ back)
-    ∙ in_one front stand.name (codes "\",\"status\":\"") (status_text (status stand)) (codes "\",\"step\":") (decimal stand.step) back)
+    ∙ in_one front service.name (codes "\",\"status\":\"") (status_text (status service)) (codes "\",\"step\":") (decimal service.step) back)
     c.with_weight.ensures

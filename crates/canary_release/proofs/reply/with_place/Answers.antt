@@ -11,15 +11,15 @@ after text p n a s b d = simp append_assoc refl
 
 pub returns : goal.returns
 returns c =
-    let stand = c.args.stand.now in
+    let service = c.args.service.now in
     let piece = c.args.piece.now in
-    let word : c.text.result.now ≡ status_text (status stand) = c.text.ensures ∙ (λ i. status_text (c.status.ensures i)) in
-    let named : string_bytes c.in_ok-text.text ≡ string_bytes c.args.text ++ (piece ++ stand.name) = c.in_ok-text.ensures ∙ (λ i. string_bytes c.args.text ++ (piece ++ c.as_str.ensures.value i)) in
-    let told : string_bytes c.in_ok-text-2.text ≡ string_bytes c.in_ok-text.text ++ (codes "\",\"status\":\"" ++ status_text (status stand)) = c.in_ok-text-2.ensures ∙ (λ i. string_bytes c.in_ok-text.text ++ (codes "\",\"status\":\"" ++ word i)) in
+    let word : c.text.result.now ≡ status_text (status service) = c.text.ensures ∙ (λ i. status_text (c.status.ensures i)) in
+    let named : string_bytes c.in_ok-text.text ≡ string_bytes c.args.text ++ (piece ++ service.name) = c.in_ok-text.ensures ∙ (λ i. string_bytes c.args.text ++ (piece ++ c.as_str.ensures.value i)) in
+    let told : string_bytes c.in_ok-text-2.text ≡ string_bytes c.in_ok-text.text ++ (codes "\",\"status\":\"" ++ status_text (status service)) = c.in_ok-text-2.ensures ∙ (λ i. string_bytes c.in_ok-text.text ++ (codes "\",\"status\":\"" ++ word i)) in
     IfOk-weaker c.with_number.result _ _
     (λ all e.
     e
-    ∙ (λ i. told i ++ (codes "\",\"step\":" ++ decimal stand.step))
-    ∙ (λ i. (named i ++ (codes "\",\"status\":\"" ++ status_text (status stand))) ++ (codes "\",\"step\":" ++ decimal stand.step))
-    ∙ after (string_bytes c.args.text) piece stand.name (codes "\",\"status\":\"") (status_text (status stand)) (codes "\",\"step\":") (decimal stand.step))
+    ∙ (λ i. told i ++ (codes "\",\"step\":" ++ decimal service.step))
+    ∙ (λ i. (named i ++ (codes "\",\"status\":\"" ++ status_text (status service))) ++ (codes "\",\"step\":" ++ decimal service.step))
+    ∙ after (string_bytes c.args.text) piece service.name (codes "\",\"status\":\"") (status_text (status service)) (codes "\",\"step\":") (decimal service.step))
     c.with_number.ensures

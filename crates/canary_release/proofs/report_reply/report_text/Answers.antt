@@ -15,11 +15,11 @@ in_one a p b r s n t u v d x q y g = simp append_assoc refl
 pub returns : goal.returns
 returns c =
     let shown = c.args.reported.now in
-    let stand = c.args.stand.now in
+    let service = c.args.service.now in
     let front = codes "{\"code\":\"ok\",\"phases\":" ++ (bracketed (map quoted_phase shown.phases) ++ (codes ",\"run\":" ++ decimal shown.run)) in
-    let place = codes ",\"service\":\"" ++ (stand.name ++ (codes "\",\"status\":\"" ++ (status_text (status stand) ++ (codes "\",\"step\":" ++ decimal stand.step)))) in
+    let place = codes ",\"service\":\"" ++ (service.name ++ (codes "\",\"status\":\"" ++ (status_text (status service) ++ (codes "\",\"step\":" ++ decimal service.step)))) in
     let verdict = codes ",\"verdict\":\"" ++ phase_text shown.verdict in
-    let back = codes "\",\"weight\":" ++ (decimal (weight stand) ++ codes "}") in
+    let back = codes "\",\"weight\":" ++ (decimal (weight service) ++ codes "}") in
     let begun : string_bytes c.in_ok-text-2.text ≡ front = c.in_ok-text-2.ensures ∙ (λ i. c.in_ok-text.ensures.bytes i ++ front) in
     let judged : string_bytes c.in_ok-text-4.text ≡ string_bytes c.in_ok-text-3.text ++ verdict = c.in_ok-text-4.ensures ∙ (λ i. string_bytes c.in_ok-text-3.text ++ (codes ",\"verdict\":\"" ++ c.text.ensures i)) in
     IfOk-weaker c.with_weight.result _ _
@@ -28,6 +28,6 @@ returns c =
     ∙ (λ i. judged i ++ back)
     ∙ (λ i. (c.in_ok-text-3.ensures i ++ verdict) ++ back)
     ∙ (λ i. ((begun i ++ place) ++ verdict) ++ back)
-    ∙ in_one (codes "{\"code\":\"ok\",\"phases\":") (bracketed (map quoted_phase shown.phases)) (codes ",\"run\":") (decimal shown.run) (codes "\"service\":") stand.name (codes ",\"status\":") (status_text (status stand)) (codes ",\"step\":")
-    (decimal stand.step) (codes ",\"verdict\":") (phase_text shown.verdict) (codes ",\"weight\":") (decimal (weight stand) ++ codes "}"))
+    ∙ in_one (codes "{\"code\":\"ok\",\"phases\":") (bracketed (map quoted_phase shown.phases)) (codes ",\"run\":") (decimal shown.run) (codes "\"service\":") service.name (codes ",\"status\":") (status_text (status service)) (codes ",\"step\":")
+    (decimal service.step) (codes ",\"verdict\":") (phase_text shown.verdict) (codes ",\"weight\":") (decimal (weight service) ++ codes "}"))
     c.with_weight.ensures

@@ -1,5 +1,5 @@
 use Rattle.sqlite.specs.Held.{state}
-use Rattle.canary_schema.specs.Cells.{tables_in}
+use Rattle.canary_tables_schema.specs.Cells.{tables_in}
 use Rattle.canary_tables.specs.Desk.{IsDesk}
 use Rattle.canary_tables.proofs.names.names.Goals as goal
 

@@ -2,8 +2,8 @@ use Rattle.std.proofs.Common.{◌∙◌}
 use Rattle.std.proofs.lemmas.Result.{IfOk-weaker}
 use Rattle.sqlite.specs.Held.{state}
 use Rattle.canary_once.specs.Records.{history_of}
-use Rattle.canary_schema.specs.Cells.{tables_in}
-use Rattle.canary_stored.specs.Values.{line_of_row}
+use Rattle.canary_tables_schema.specs.Cells.{tables_in}
+use Rattle.canary_tables_contents.specs.Values.{line_of_row}
 use Rattle.canary_tables.specs.Desk.{IsDesk, contents_in}
 use Rattle.canary_tables.proofs.Sought.{all_found}
 use Rattle.canary_tables.proofs.pages.history.Goals as goal

@@ -1,5 +1,5 @@
 use Rattle.std.proofs.Common.{rules, ◌≡◌, ◌∙◌, ap, get_or, None}
-use Rattle.canary_stored.specs.Values.{line_of_row}
+use Rattle.canary_tables_contents.specs.Values.{line_of_row}
 use Rattle.canary_tables.proofs.Sought.{one_missing}
 use Rattle.canary_tables.proofs.pages.lines_of.Goals as goal
 

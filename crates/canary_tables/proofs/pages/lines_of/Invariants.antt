@@ -1,5 +1,5 @@
 use Rattle.std.proofs.Common.{◌≡◌, Some, map, take}
-use Rattle.canary_stored.specs.Values.{line_of_row}
+use Rattle.canary_tables_contents.specs.Values.{line_of_row}
 use Rattle.canary_tables.proofs.pages.lines_of.Given as goal
 
 -- those so far are read

@@ -1,5 +1,5 @@
 use Rattle.std.proofs.Common.{◌≡◌, ◌+◌, ℤ, length, refl, sym, subst, to_z, of_z, w64, rules}
-use Rattle.canary_reads.specs.Places.{IsMark}
+use Rattle.canary_tables_read.specs.Places.{IsMark}
 use Rattle.canary_tables.proofs.Noted.{marked}
 use Rattle.canary_tables.proofs.pages.mark_of.Goals as goal
 

@@ -1,9 +1,9 @@
 use Rattle.std.proofs.Common.{◌∙◌, map, ap, sym, subst}
 use Rattle.sqlite.specs.Held.{state}
 use Rattle.canary_once.specs.Records.{measurements_of}
-use Rattle.canary_schema.specs.Cells.{tables_in}
-use Rattle.canary_reads.specs.Places.{IsPlacedPage, row_of}
-use Rattle.canary_stored.specs.Values.{measurement_of_row}
+use Rattle.canary_tables_schema.specs.Cells.{tables_in}
+use Rattle.canary_tables_read.specs.Places.{IsPlacedPage, row_of}
+use Rattle.canary_tables_contents.specs.Values.{measurement_of_row}
 use Rattle.canary_tables.specs.Desk.{IsDesk, contents_in}
 use Rattle.canary_tables.proofs.Sought.{all_found}
 use Rattle.canary_tables.proofs.pages.measurements.Goals as goal

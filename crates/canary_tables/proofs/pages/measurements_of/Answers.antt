@@ -1,6 +1,6 @@
 use Rattle.std.proofs.Common.{rules, ◌≡◌, ◌∙◌, ap, get_or, None}
-use Rattle.canary_reads.specs.Places.{row_of}
-use Rattle.canary_stored.specs.Values.{measurement_of_row}
+use Rattle.canary_tables_read.specs.Places.{row_of}
+use Rattle.canary_tables_contents.specs.Values.{measurement_of_row}
 use Rattle.canary_tables.proofs.Sought.{one_missing, mapped}
 use Rattle.canary_tables.proofs.pages.measurements_of.Goals as goal
 

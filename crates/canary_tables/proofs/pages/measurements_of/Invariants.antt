@@ -1,6 +1,6 @@
 use Rattle.std.proofs.Common.{◌≡◌, Some, map, take}
-use Rattle.canary_reads.specs.Places.{row_of}
-use Rattle.canary_stored.specs.Values.{measurement_of_row}
+use Rattle.canary_tables_read.specs.Places.{row_of}
+use Rattle.canary_tables_contents.specs.Values.{measurement_of_row}
 use Rattle.canary_tables.proofs.pages.measurements_of.Given as goal
 
 -- those so far are read

@@ -6,4 +6,4 @@ use Rattle.canary_tables.proofs.settle.has_row.Goals as goal
 
 pub returns-in-Some-clause-found : goal.returns-in-Some-clause-found
 returns-in-Some-clause-found g c = λ usable t stored.
-    sym (row_there c.one_reading.ensures (state g.S.Store c.args.conn.now) t c.args.name.now (option_copied c.args.known) c.in-Some.field-0.now c.requires.desk c.requires.known (ap option_copied c.in-Some.is) usable stored)
+    sym (row_there c.one_reading.ensures (state g.S.Store c.args.conn.now) t c.args.name.now (option_copied c.args.cached) c.in-Some.field-0.now c.requires.desk c.requires.cached (ap option_copied c.in-Some.is) usable stored)

@@ -1,7 +1,7 @@
 use Rattle.std.proofs.Common.{rules, subst, sym}
 use Rattle.std.specs.Prelude.{option_copied}
 use Rattle.sqlite.specs.Held.{state}
-use Rattle.canary_tables.specs.Kept.{IsKnown}
+use Rattle.canary_tables.specs.Caches.{IsKnown}
 use Rattle.canary_tables.proofs.Standing.{desk_stays, contents_stay}
 use Rattle.canary_tables.proofs.Settling.{settles, is_desk, contents_are}
 use Rattle.canary_tables.proofs.settle.settle.Goals as goal
@@ -21,6 +21,6 @@ returns-clause-settled g c = λ usable.
 pub is_bound-requires-clause-desk : goal.is_bound-requires-clause-desk
 is_bound-requires-clause-desk g c = desk_stays (state g.S.Store c.args.conn.now) (state g.S.Store c.is_there.new.conn) c.requires.desk c.is_there.ensures.same
 
-pub is_bound-requires-clause-known : goal.is_bound-requires-clause-known
-is_bound-requires-clause-known g c = λ usable.
-    subst (IsKnown (option_copied c.args.known) c.args.settlement.now.change) (sym (contents_stay (state g.S.Store c.args.conn.now) (state g.S.Store c.is_there.new.conn) c.is_there.ensures.same usable)) (c.requires.known (c.is_there.ensures.same usable).0)
+pub is_bound-requires-clause-cached : goal.is_bound-requires-clause-cached
+is_bound-requires-clause-cached g c = λ usable.
+    subst (IsKnown (option_copied c.args.cached) c.args.settlement.now.change) (sym (contents_stay (state g.S.Store c.args.conn.now) (state g.S.Store c.is_there.new.conn) c.is_there.ensures.same usable)) (c.requires.cached (c.is_there.ensures.same usable).0)

@@ -1,15 +1,15 @@
 use Rattle.std.proofs.Common.{◌∙◌, refl, rules}
-use Rattle.canary_wire.proofs.AnswerLemmas.{handling_as, writes_as}
-use Rattle.canary_wire.specs.Exchanges.{response_of}
+use Rattle.canary_wire.proofs.AnswerLemmas.{disposition_as, writes_as}
+use Rattle.canary_wire.specs.Dispositions.{response_of}
 use Rattle.canary_wire.proofs.answer.answer.Goals as goal
 
 pub returns : goal.returns
 returns g c = λ m first.
     let s = c.handle-response.ensures in (
-      record { message = m; moment = c.now-moment.result; handling = s.0 },
+      record { message = m; moment = c.now-moment.result; disposition = s.0 },
       refl,
       record {
-        is = handling_as c.of-method.result.now m.head.method c.of-target.result.now m.head.target _ m.body c.now-moment.result s.0 (c.of-method.ensures ∙ first.method) (c.of-target.ensures ∙ first.target) first.body s.2;
+        is = disposition_as c.of-method.result.now m.head.method c.of-target.result.now m.head.target _ m.body c.now-moment.result s.0 (c.of-method.ensures ∙ first.method) (c.of-target.ensures ∙ first.target) first.body s.2;
         moment = search rules;
         books = s.3;
       },

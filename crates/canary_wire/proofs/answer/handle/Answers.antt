@@ -1,5 +1,5 @@
 use Rattle.std.proofs.Common.{refl, inl}
-use Rattle.canary_wire.specs.Exchanges.{rejected}
+use Rattle.canary_wire.specs.Dispositions.{rejected}
 use Rattle.canary_wire.proofs.AnswerLemmas.{books_rejected}
 use Rattle.canary_wire.proofs.answer.handle.Goals as goal
 

@@ -1,5 +1,5 @@
 use Rattle.std.proofs.Common.{refl, rules}
-use Rattle.canary_wire.specs.Exchanges.{viewed}
+use Rattle.canary_wire.specs.Dispositions.{viewed}
 use Rattle.canary_wire.proofs.answer.handle_query.Goals as goal
 
 pub returns : goal.returns

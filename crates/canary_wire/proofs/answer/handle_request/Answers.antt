@@ -1,7 +1,7 @@
 use Rattle.std.proofs.Common.{refl, inr, rules}
 use Rattle.canary_once.specs.Single.{request_of}
 use Rattle.canary_wire.specs.declared.rejection.Rejection.TheVariants.{Unsupported, Unreadable}
-use Rattle.canary_wire.specs.Exchanges.{rejected, posted}
+use Rattle.canary_wire.specs.Dispositions.{rejected, posted}
 use Rattle.canary_wire.proofs.AnswerLemmas.{books_rejected}
 use Rattle.canary_wire.proofs.answer.handle_request.Goals as goal
 

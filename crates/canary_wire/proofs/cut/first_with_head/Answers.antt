@@ -4,8 +4,8 @@ use Rattle.canary_wire.specs.declared.framing.Framing.TheVariants.{Body, Rejecte
 use Rattle.canary_wire.proofs.CutLemmas.{rejected_beyond, framed_as, closes_as, bare_as, rejected_by_framing, unfinished_body, first_message}
 use Rattle.canary_wire.proofs.cut.first_with_head.Goals as goal
 
-pub returns-then-head-gt-MOST_HEAD : goal.returns-then-head-gt-MOST_HEAD
-returns-then-head-gt-MOST_HEAD c = rejected_beyond c.args.bytes.now c.args.headers.now c.args.head c.requires.of (omega arith)
+pub returns-then-head-gt-MAX_HEAD : goal.returns-then-head-gt-MAX_HEAD
+returns-then-head-gt-MAX_HEAD c = rejected_beyond c.args.bytes.now c.args.headers.now c.args.head c.requires.of (omega arith)
 
 pub returns-then-bytes-end : goal.returns-then-bytes-end
 returns-then-bytes-end c =

@@ -1,7 +1,7 @@
 use Rattle.std.proofs.Common.{map, take}
 use Rattle.httparse.specs.Spans.{header_bytes}
 use Rattle.canary_wire.specs.Heads.{values_named}
-use Rattle.canary_wire.specs.Named.{Shows}
+use Rattle.canary_wire.specs.FramingFields.{Shows}
 use Rattle.canary_wire.proofs.framing.scan.Given as goal
 
 abbrev pub invariant-loop-h : goal.invariant-loop-h

@@ -1,14 +1,14 @@
 use Rattle.std.proofs.Common.{length}
 use Rattle.canary_wire.specs.Buffers.{bytes_held}
-use Rattle.canary_wire.specs.Exchanges.{point}
+use Rattle.canary_wire.specs.Dispositions.{desk_state}
 use Rattle.canary_wire.specs.Serving.{Answers}
 use Rattle.canary_wire.proofs.serve.answer_held.Given as goal
 
 abbrev pub invariant-messages : goal.invariant-messages
 invariant-messages g l =
     Answers (g.W.Write.contents l.fn.writer) (g.W.Write.contents l.writer)
-    (point (g.C.Clock.tells l.fn.clock) (g.B.Book.state l.fn.book))
-    (point (g.C.Clock.tells l.clock) (g.B.Book.state l.book))
+    (desk_state (g.C.Clock.tells l.fn.clock) (g.B.Book.state l.fn.book))
+    (desk_state (g.C.Clock.tells l.clock) (g.B.Book.state l.book))
     (bytes_held l.fn.buffer) (bytes_held l.buffer)
 
 abbrev pub decreases-messages : goal.decreases-messages

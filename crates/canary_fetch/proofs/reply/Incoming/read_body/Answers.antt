@@ -1,7 +1,7 @@
 use Rattle.std.proofs.Common.{ℕ, ◌≤◌, List, ◌++◌, length, drop, refl, sym, ap, ◌∙◌, subst, arith}
 use Rattle.httparse.specs.Spans.{span_bytes}
 use Rattle.http1.specs.Decoder.{Continues, Starves, Ends, HasNoBody}
-use Rattle.canary_fetch.specs.declared.reply.Stage.TheVariants.{Body as Within}
+use Rattle.canary_fetch.specs.declared.reply.ReplyStage.TheVariants.{Body as Within}
 use Rattle.canary_fetch.specs.Unreads.{bytes_unread}
 use Rattle.canary_fetch.proofs.FrontLemmas.{few_fields}
 use Rattle.canary_fetch.proofs.ReadingLemmas.{none_goes, body_waits, same_part, piece_goes, body_ends, body_refuses, piece_refuses, same_reading}

@@ -1,5 +1,5 @@
 use Rattle.std.proofs.Common.{ℕ, List, refl, sym, ap, ◌∙◌, subst, drop}
-use Rattle.canary_fetch.specs.declared.reply.Stage.TheVariants.{Head, Body as Within}
+use Rattle.canary_fetch.specs.declared.reply.ReplyStage.TheVariants.{Head, Body as Within}
 use Rattle.http1.specs.Decoder.{decoder_for}
 use Rattle.httparse.specs.Grammar.{HasNoResponse}
 use Rattle.canary_fetch.specs.Replies.{limits, NeverReplies}

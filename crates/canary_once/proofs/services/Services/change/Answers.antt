@@ -28,7 +28,7 @@ returns-in-Some-clause-ok c =
     (λ e.
     one_set c.self.inside.services.entries (c.get_mut.follows.lender w).entries c.args.name w ((c.get_mut.follows.holds w).3 (search rules)).0
     ∙ ap (λ m. map.insert m c.args.name w) c.self.view_is
-    ∙ ap (map.insert c.args.self.now c.args.name) (e ∙ ap (λ (o : Option ModelService). after o c.args.service.stand c.args.effects) (sym (there (goal.at.returns-in-Some-clause-ok c).In-Some))))
+    ∙ ap (map.insert c.args.self.now c.args.name) (e ∙ ap (λ (o : Option ModelService). after o c.args.service.service c.args.effects) (sym (there (goal.at.returns-in-Some-clause-ok c).In-Some))))
     c.change.ensures.ok
 
 pub returns-in-Some-clause-err : goal.returns-in-Some-clause-err
@@ -44,4 +44,4 @@ returns-clause-ok c =
     one_set c.get_mut.follows.lender-at-none.entries c.insert.new.self.entries c.args.name kept c.in_ok-insert.ensures.updates.0
     ∙ ap (λ (es : List (List ℕ × ModelService)). map.insert (map.from_entries es) c.args.name kept) (λ i. (c.get_mut.follows.holds-at-none i).entries)
     ∙ ap (λ m. map.insert m c.args.name kept) c.self.view_is
-    ∙ ap (map.insert c.args.self.now c.args.name) (c.in_ok-kept.ensures ∙ ap (λ (o : Option ModelService). after o c.args.service.stand c.args.effects) (sym (none_there (goal.at.returns-clause-ok c).In_default)))
+    ∙ ap (map.insert c.args.self.now c.args.name) (c.in_ok-kept.ensures ∙ ap (λ (o : Option ModelService). after o c.args.service.service c.args.effects) (sym (none_there (goal.at.returns-clause-ok c).In_default)))

@@ -1,29 +1,29 @@
 use Rattle.canary_wire.specs.Buffers.{bytes_held}
-use Rattle.canary_wire.specs.Owing.{bytes_owed}
-use Rattle.canary_wire.specs.Exchanges.{point}
+use Rattle.canary_wire.specs.Unsent.{bytes_unsent}
+use Rattle.canary_wire.specs.Dispositions.{desk_state}
 use Rattle.canary_wire.proofs.OrderLemmas.{more_on, stands_on, more_over, more_broken}
 use Rattle.canary_wire.proofs.conversation.Conversation.answer_first.Goals as goal
 
 pub returns-in-Answered-clause-answers : goal.returns-in-Answered-clause-answers
 returns-in-Answered-clause-answers g c =
-    more_on (point (g.C.Clock.tells c.args.clock.now) (g.B.Book.state c.args.book.now)) (point (g.C.Clock.tells c.answer_next-step.new.clock) (g.B.Book.state c.answer_next-step.new.book))
-    (bytes_held c.args.self.now.buffer) (bytes_held c.answer_next-step.new.buffer) (bytes_owed c.args.self.now.owed) (bytes_owed c.answer_next-step.new.writer)
+    more_on (desk_state (g.C.Clock.tells c.args.clock.now) (g.B.Book.state c.args.book.now)) (desk_state (g.C.Clock.tells c.answer_next-step.new.clock) (g.B.Book.state c.answer_next-step.new.book))
+    (bytes_held c.args.self.now.buffer) (bytes_held c.answer_next-step.new.buffer) (bytes_unsent c.args.self.now.unsent) (bytes_unsent c.answer_next-step.new.writer)
     c.args.self.now.stage c.answer_next-step.result c.in-Answered.is c.requires.open c.answer_next-step.ensures
 
 pub returns-in-Answered-clause-stands : goal.returns-in-Answered-clause-stands
 returns-in-Answered-clause-stands g c =
-    stands_on (point (g.C.Clock.tells c.args.clock.now) (g.B.Book.state c.args.book.now)) (point (g.C.Clock.tells c.answer_next-step.new.clock) (g.B.Book.state c.answer_next-step.new.book))
-    (bytes_held c.args.self.now.buffer) (bytes_held c.answer_next-step.new.buffer) (bytes_owed c.args.self.now.owed) (bytes_owed c.answer_next-step.new.writer)
+    stands_on (desk_state (g.C.Clock.tells c.args.clock.now) (g.B.Book.state c.args.book.now)) (desk_state (g.C.Clock.tells c.answer_next-step.new.clock) (g.B.Book.state c.answer_next-step.new.book))
+    (bytes_held c.args.self.now.buffer) (bytes_held c.answer_next-step.new.buffer) (bytes_unsent c.args.self.now.unsent) (bytes_unsent c.answer_next-step.new.writer)
     c.args.self.now.stage c.answer_next-step.result c.in-Answered.is c.requires.open c.answer_next-step.ensures
 
 pub returns-in-Closed-clause-answers : goal.returns-in-Closed-clause-answers
 returns-in-Closed-clause-answers g c =
-    more_over (point (g.C.Clock.tells c.args.clock.now) (g.B.Book.state c.args.book.now)) (point (g.C.Clock.tells c.answer_next-step.new.clock) (g.B.Book.state c.answer_next-step.new.book))
-    (bytes_held c.args.self.now.buffer) (bytes_held c.answer_next-step.new.buffer) (bytes_owed c.args.self.now.owed) (bytes_owed c.answer_next-step.new.writer)
+    more_over (desk_state (g.C.Clock.tells c.args.clock.now) (g.B.Book.state c.args.book.now)) (desk_state (g.C.Clock.tells c.answer_next-step.new.clock) (g.B.Book.state c.answer_next-step.new.book))
+    (bytes_held c.args.self.now.buffer) (bytes_held c.answer_next-step.new.buffer) (bytes_unsent c.args.self.now.unsent) (bytes_unsent c.answer_next-step.new.writer)
     c.args.self.now.stage c.requires.open c.in-Closed.ensures
 
 pub returns-in-Broke-clause-answers : goal.returns-in-Broke-clause-answers
 returns-in-Broke-clause-answers g c =
-    more_broken (point (g.C.Clock.tells c.args.clock.now) (g.B.Book.state c.args.book.now)) (point (g.C.Clock.tells c.answer_next-step.new.clock) (g.B.Book.state c.answer_next-step.new.book))
-    (bytes_held c.args.self.now.buffer) (bytes_held c.answer_next-step.new.buffer) (bytes_owed c.args.self.now.owed) (bytes_owed c.answer_next-step.new.writer)
+    more_broken (desk_state (g.C.Clock.tells c.args.clock.now) (g.B.Book.state c.args.book.now)) (desk_state (g.C.Clock.tells c.answer_next-step.new.clock) (g.B.Book.state c.answer_next-step.new.book))
+    (bytes_held c.args.self.now.buffer) (bytes_held c.answer_next-step.new.buffer) (bytes_unsent c.args.self.now.unsent) (bytes_unsent c.answer_next-step.new.writer)
     c.args.self.now.stage c.requires.open c.in-Broke.ensures

@@ -1,7 +1,0 @@
-use Rattle.std.proofs.Common.{◌≡◌, false}
-use Rattle.canary_adopting.proofs.JudgedStrategies.{TemplatesSoFar}
-use Rattle.canary_adopting.proofs.Standing.{Goes}
-use Rattle.canary_adopting.proofs.strategies.templates_of.Given as goal
-
-abbrev pub invariant-loop-name : goal.invariant-loop-name
-invariant-loop-name g l = Goes g.Q.Reader.IsReady g.Q.Reader.place g.Q.Reader.below l.initial.conn l.conn × TemplatesSoFar l.names l.name-index (g.Q.Reader.shows l.initial.conn) (g.Q.Reader.shows l.conn) l.found

@@ -1,8 +1,0 @@
-use Rattle.std.proofs.Common.{◌≡◌, false}
-use Rattle.canary_adopting.specs.Templates.{IsJudgedUnder}
-use Rattle.canary_adopting.proofs.Each.{EachSoFar}
-use Rattle.canary_adopting.proofs.Standing.{Goes}
-use Rattle.canary_adopting.proofs.templates.judge_each.Given as goal
-
-abbrev pub invariant-loop-key : goal.invariant-loop-key
-invariant-loop-key g l = Goes g.Q.Reader.IsReady g.Q.Reader.place g.Q.Reader.below l.initial.conn l.conn × EachSoFar IsJudgedUnder l.keys l.key-index (g.Q.Reader.shows l.initial.conn) (g.Q.Reader.shows l.conn)

@@ -1,0 +1,56 @@
+//! `import`: the rows of a measurement file as requests.
+use crate::file::open::DeskFile;
+use crate::file::work::{BookTask, on_file};
+use canary_programs::fault::Fault;
+use std::fs::{self, OpenFile};
+use std::io::{ErrorKind, Read, Write};
+
+// The word that stands for the input.
+const INPUT: &str = "-";
+
+/// Imports a measurement file into the book of a file, by the machine's clock, and writes each
+/// row's line as it goes. The file `csv` is the input where that is `-`. How many bytes are read is
+/// shown on a terminal.
+///
+/// # Errors
+/// `File` where the measurement file cannot be opened: the book is not opened then. What `open` and
+/// canary_programs' `import_rows` answer. `Storage` where the book's file fails as it is closed;
+/// what was settled is settled.
+pub fn import<R: Read, W: Write, F: Write>(
+    rt: &HostRuntime,
+    file: DeskFile<'_>,
+    csv: &str,
+    input: &mut R,
+    output: &mut W,
+    errors: &mut F,
+    is_terminal: bool,
+) -> Result<(), Fault> {
+    if csv == INPUT {
+        let work = BookTask::Import { whole: None };
+        return on_file(rt, file, work, input, output, errors, is_terminal);
+    }
+    let mut rows = match fs::File::open(rt, csv) {
+        Ok(rows) => rows,
+        Err(error) => return Err(file_fault(error.kind())),
+    };
+    let whole = length_of(&rows);
+    let work = BookTask::Import { whole };
+    on_file(rt, file, work, &mut rows, output, errors, is_terminal)
+}
+
+// How many bytes a file has, where that is known.
+fn length_of<O: OpenFile>(file: &O) -> Option<u64> {
+    match file.metadata() {
+        Ok(found) => Some(found.len()),
+        Err(_) => None,
+    }
+}
+
+// Why a measurement file was not opened.
+fn file_fault(kind: ErrorKind) -> Fault {
+    if kind == ErrorKind::OutOfMemory {
+        Fault::Memory
+    } else {
+        Fault::File
+    }
+}

@@ -1,0 +1,169 @@
+//! Looking at a desk in a file, also while it serves.
+use crate::file::open::{FileBook, names_of, open_found};
+use crate::file::progress::ProgressDisplay;
+use crate::file::shelf::{Shelf, fill};
+use canary_backup::folder::OwnCopy;
+use canary_base::moments::Moment;
+use canary_base::names::Name;
+use canary_listen::wall_clock::WallClock;
+use canary_once::book::Book;
+use canary_page::page::View;
+use canary_page::progress::DrawingProgress;
+use canary_programs::fault::Fault;
+use canary_programs::page::draw_page;
+use canary_programs::status::{Drawing, text_of_book};
+use canary_tables::book::TableBook;
+use sqlite::Alter;
+use std::io::Write;
+
+/// What is shown of a desk, as it stands at the present moment.
+#[derive(Clone, Copy)]
+pub(crate) enum Sight<'a> {
+    /// A table of its services, or a JSON value for each.
+    Status(Drawing),
+    /// A page, which loads itself anew after so many seconds, or does not, and the folder, if there
+    /// is one, for a file in JSON of each service.
+    Page {
+        every: Option<u64>,
+        shelf: Option<Shelf<'a>>,
+    },
+}
+
+/// Looks at the desk in a file, once. A page is written to the output meanwhile, part by part, and
+/// a terminal shows how far it has come; then the files of its services, as `fill` says. Of a
+/// status this gives the text, to be drawn once the file is closed; of a page, none. The file is
+/// opened as `open_found` does it, and no row of it is changed. If a desk has it open, a copy is
+/// read, which stands meanwhile where `OwnCopy` of canary_backup says, in a folder that its owner
+/// alone may read.
+///
+/// # Errors
+/// `File` if there is no such file, and nothing is made then, or if no copy can be made.
+/// What `open` answers, but `InUse` only if the file changes too fast to be copied. `Write` if the
+/// output failed.
+pub(crate) fn look<W: Write, F: Write>(
+    rt: &HostRuntime,
+    file: &str,
+    sight: Sight<'_>,
+    output: &mut W,
+    errors: &mut F,
+    is_terminal: bool,
+) -> Result<String, Fault> {
+    match open_found(rt, file, errors, is_terminal) {
+        Ok(book) => look_at_opened(rt, book, sight, output, errors, is_terminal),
+        Err(Fault::InUse) => look_at_copy(rt, file, sight, output, errors, is_terminal),
+        Err(fault) => Err(fault),
+    }
+}
+
+// The same of a file that a desk has open.
+fn look_at_copy<W: Write, F: Write>(
+    rt: &HostRuntime,
+    file: &str,
+    sight: Sight<'_>,
+    output: &mut W,
+    errors: &mut F,
+    is_terminal: bool,
+) -> Result<String, Fault> {
+    let copy = OwnCopy::of(rt, file, "status-copy")?;
+    let looked = look_at_own_copy(rt, &copy, sight, output, errors, is_terminal);
+    copy.remove(rt);
+    looked
+}
+
+// The same of a copy. A function of its own, so that the caller removes the copy after any fault.
+fn look_at_own_copy<W: Write, F: Write>(
+    rt: &HostRuntime,
+    copy: &OwnCopy,
+    sight: Sight<'_>,
+    output: &mut W,
+    errors: &mut F,
+    is_terminal: bool,
+) -> Result<String, Fault> {
+    let book = open_found(rt, copy.database(), errors, is_terminal)?;
+    look_at_opened(rt, book, sight, output, errors, is_terminal)
+}
+
+// The same of the book in a file that was opened, by a function for any type of store.
+fn look_at_opened<W: Write, F: Write>(
+    rt: &HostRuntime,
+    book: FileBook,
+    sight: Sight<'_>,
+    output: &mut W,
+    errors: &mut F,
+    is_terminal: bool,
+) -> Result<String, Fault> {
+    look_at_tables(rt, book, sight, output, errors, is_terminal)
+}
+
+// The same of a book over any store: the text of a status, or a page and no text.
+fn look_at_tables<S: Alter + Drop, W: Write, F: Write>(
+    rt: &HostRuntime,
+    book: TableBook<S>,
+    sight: Sight<'_>,
+    output: &mut W,
+    errors: &mut F,
+    is_terminal: bool,
+) -> Result<String, Fault> {
+    let mut book = book;
+    let now = WallClock::new(rt).tell();
+    match sight {
+        Sight::Status(drawing) => status_of(rt, &mut book, drawing, now),
+        Sight::Page { every, shelf } => {
+            let mut shown = ProgressDisplay::services(rt, errors, is_terminal);
+            let view = View { now, every };
+            let drawn = page_of(rt, &mut book, view, shelf, output, &mut shown);
+            shown.end();
+            drawn?;
+            Ok(String::new(rt.alloc()))
+        }
+    }
+}
+
+// The text of the status of all services, by their names, at that moment.
+fn status_of<S: Alter + Drop>(
+    rt: &HostRuntime,
+    book: &mut TableBook<S>,
+    drawing: Drawing,
+    now: Moment,
+) -> Result<String, Fault> {
+    let names = names_of(book)?;
+    text_of_book(rt.alloc(), book, names.as_slice(), now, drawing.form)
+}
+
+// Draws the page of all services, by their names, and then their files.
+fn page_of<S: Alter + Drop, W: Write, P: DrawingProgress>(
+    rt: &HostRuntime,
+    book: &mut TableBook<S>,
+    view: View,
+    shelf: Option<Shelf<'_>>,
+    output: &mut W,
+    progress: &mut P,
+) -> Result<(), Fault> {
+    let names = names_of(book)?;
+    draw_named(rt, book, names.as_slice(), view, shelf, output, progress)
+}
+
+// Draws the page of these services, and then their files.
+fn draw_named<B: Book, W: Write, P: DrawingProgress>(
+    rt: &HostRuntime,
+    book: &mut B,
+    names: &[Name],
+    view: View,
+    shelf: Option<Shelf<'_>>,
+    output: &mut W,
+    progress: &mut P,
+) -> Result<(), Fault> {
+    let View { now, every } = view;
+    draw_page(
+        rt.alloc(),
+        book,
+        names,
+        View { now, every },
+        output,
+        progress,
+    )?;
+    match shelf {
+        Some(shelf) => fill(rt, book, names, now, &shelf, progress),
+        None => Ok(()),
+    }
+}

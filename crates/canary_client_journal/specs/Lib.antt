@@ -1,0 +1,9 @@
+pub mod Journals
+pub mod Lines
+pub mod Readings
+pub mod Meanings
+pub mod Laws
+pub mod Messages
+pub mod Networks
+pub mod Keeping
+pub mod Sending

@@ -1,5 +1,0 @@
-mod Doing
-mod Happening
-mod Binding
-mod FrontWords
-mod Committing

@@ -1,6 +1,0 @@
-mod LineLemmas
-mod JournalLemmas
-mod Growing
-mod Keys
-mod OneLine
-mod Pairs

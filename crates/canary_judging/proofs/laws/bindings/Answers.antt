@@ -1,8 +1,0 @@
-use Rattle.canary_judging.proofs.NamedRevisions.{attempts_name_revisions, runs_name_revisions}
-use Rattle.canary_judging.proofs.laws.bindings.Goals as goal
-
-pub returns-clause-attempts : goal.returns-clause-attempts
-returns-clause-attempts c = attempts_name_revisions
-
-pub returns-clause-runs : goal.returns-clause-runs
-returns-clause-runs c = runs_name_revisions

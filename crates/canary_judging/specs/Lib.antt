@@ -1,6 +1,0 @@
-pub mod Soundness
-pub mod Judged
-pub mod Counting
-pub mod Services
-pub mod Laws
-pub mod Totals

@@ -1,9 +1,0 @@
-use Rattle.canary_wire.specs.Exchanges.{point}
-use Rattle.canary_listen.specs.Attending.{Attends}
-use Rattle.canary_listen.specs.Crowd.{clients_attendance}
-use Rattle.canary_listen.proofs.attendant.Attendant.attend_all.Given as goal
-
-abbrev pub invariant-events : goal.invariant-events
-invariant-events g l =
-    Attends (point (g.C.Clock.tells l.fn.clock) (g.B.Book.state l.fn.book)) (point (g.C.Clock.tells l.clock) (g.B.Book.state l.book))
-    (clients_attendance l.fn.self.clients) (clients_attendance l.self.clients)

@@ -1,9 +1,0 @@
-use Rattle.canary_wire.specs.Exchanges.{point}
-use Rattle.canary_listen.specs.Crowd.{clients_attendance}
-use Rattle.canary_listen.proofs.Attended.{attends_kept}
-use Rattle.canary_listen.proofs.attendant.Attendant.send_first.Goals as goal
-
-pub returns-in_default-clause-attends : goal.returns-in_default-clause-attends
-returns-in_default-clause-attends g c =
-    let a = clients_attendance c.args.self.now.clients in
-    attends_kept (point (g.C.Clock.tells c.args.clock.now) (g.B.Book.state c.args.book.now)) a a (c.going_on.ensures.none c.args.clock.now c.args.book.now) (λ turns s. s)

@@ -1,0 +1,9 @@
+use Rattle.canary_wire.specs.Dispositions.{desk_state}
+use Rattle.canary_listen.specs.Crowd.{clients_attendance}
+use Rattle.canary_listen.proofs.Attended.{attends_kept}
+use Rattle.canary_listen.proofs.event_loop.EventLoop.send_due.Goals as goal
+
+pub returns-else-len-ge-MAX_HELD : goal.returns-else-len-ge-MAX_HELD
+returns-else-len-ge-MAX_HELD g c =
+    let a = clients_attendance c.args.self.now.clients in
+    attends_kept (desk_state (g.C.Clock.tells c.args.clock.now) (g.B.Book.state c.args.book.now)) a a (c.going_on.ensures.none c.args.clock.now c.args.book.now) (λ turns s. s)

@@ -1,6 +1,0 @@
-use Rattle.std.proofs.Common.{rules}
-use Rattle.canary_markup.proofs.PieceLemmas.{of_one_more}
-use Rattle.canary_markup.proofs.markup.Markup.add.Goals as goal
-
-pub invariant_of-self : goal.invariant_of-self
-invariant_of-self c = of_one_more _ _ c.args.piece _ _ (search rules) (search rules) c.self.invariant

@@ -1,7 +1,0 @@
-use Rattle.std.proofs.Common.{rules}
-use Rattle.canary_reads.proofs.FirstTexts.{one_unheld}
-use Rattle.canary_reads.proofs.first.all.Goals as goal
-
-pub returns-in_err-read-clause-broken : goal.returns-in_err-read-clause-broken
-returns-in_err-read-clause-broken g c e =
-    one_unheld g.R.Told.cells g.R.Told.Within c.args.rows.now c.loop-row.row-index c.row-item.result (search rules) (λ x is within. c.in_err-read.ensures.broken (search rules) x (search rules) within)

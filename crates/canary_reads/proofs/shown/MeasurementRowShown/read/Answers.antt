@@ -1,9 +1,0 @@
-use Rattle.std.proofs.Common.{◌∷◌, ap}
-use Rattle.sqlite.specs.declared.types.Value.TheVariants.{Null, Text as Words}
-use Rattle.canary_reads.proofs.ByColumns.{columns_are}
-use Rattle.canary_reads.proofs.shown.MeasurementRowShown.read.Goals as goal
-
-pub returns-clause-found : goal.returns-clause-found
-returns-clause-found c =
-    ap (λ cells. Null ∷ Words c.args.name.now ∷ cells)
-    (columns_are c.args.row.now _ c.in_ok-has_width.ensures.found (c.in_ok-number_at.ensures.found, (c.in_ok-number_at-2.ensures.found, (c.in_ok-number_at-3.ensures.found, (c.in_ok-moment_at.ensures.found, (c.in_ok-number_at-4.ensures.found, (c.in_ok-text_at.ensures.found, tt)))))))

@@ -1,7 +1,0 @@
-use Rattle.std.proofs.Common.{◌∙◌}
-use Rattle.std.proofs.lemmas.Result.{IfOk-weaker}
-use Rattle.canary_release.specs.Entering.{enter}
-use Rattle.canary_release.proofs.draft.Draft.promote_full.Goals as goal
-
-pub returns-clause-promoted : goal.returns-clause-promoted
-returns-clause-promoted c = IfOk-weaker c.enter.result _ _ (λ draft e. e ∙ (λ i. enter (c.in_ok-told.ensures.told i) (c.end-end.ensures i) c.args.at)) c.enter.ensures.entered

@@ -1,7 +1,0 @@
-use Rattle.sqlite.specs.Held.{state}
-use Rattle.canary_schema.proofs.Making.{table_added}
-use Rattle.canary_schema.proofs.create.add_table.Goals as goal
-
-pub returns-clause-made : goal.returns-clause-made
-returns-clause-made g c schema next makes clean at =
-    table_added (state g.S.Store c.args.tx.now.conn.now) (state g.S.Store c.execute.new.self.conn.now) c.args.text.now c.execute.result schema next makes at (c.execute.ensures.runs clean at.live)

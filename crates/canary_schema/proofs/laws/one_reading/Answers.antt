@@ -1,5 +1,0 @@
-use Rattle.canary_schema.proofs.Readings.{one_reading}
-use Rattle.canary_schema.proofs.laws.one_reading.Goals as goal
-
-pub returns : goal.returns
-returns c = one_reading

@@ -1,5 +1,0 @@
-use Rattle.canary_senders.proofs.Journaled.{begins_step, asks_step, asks_instead_step, hears_step}
-use Rattle.canary_senders.proofs.laws.journals.Goals as goal
-
-pub returns : goal.returns
-returns c = record { begins = begins_step; asks = asks_step; instead = asks_instead_step; hears = hears_step }

@@ -1,5 +1,0 @@
-use Rattle.canary_senders.proofs.Settled.{sends_step, settles_step}
-use Rattle.canary_senders.proofs.laws.sending.Goals as goal
-
-pub returns : goal.returns
-returns c = record { sends = sends_step; settles = settles_step }

@@ -1,3 +1,0 @@
-mod KeptLemmas
-pub mod NetworkLemmas
-mod SettleLemmas

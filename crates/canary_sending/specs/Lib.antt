@@ -1,4 +1,0 @@
-pub mod Messages
-pub mod Networks
-pub mod Keeping
-pub mod Sending

@@ -1,5 +1,0 @@
-use Rattle.canary_stored.proofs.Found.{counts_are_found}
-use Rattle.canary_stored.proofs.laws.counts_found.Goals as goal
-
-pub returns : goal.returns
-returns c = counts_are_found

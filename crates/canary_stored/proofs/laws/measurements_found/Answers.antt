@@ -1,5 +1,0 @@
-use Rattle.canary_stored.proofs.Found.{measurements_are_found}
-use Rattle.canary_stored.proofs.laws.measurements_found.Goals as goal
-
-pub returns : goal.returns
-returns c = measurements_are_found

@@ -1,5 +1,0 @@
-use Rattle.canary_stored.proofs.RunsFound.{open_runs_are_found}
-use Rattle.canary_stored.proofs.laws.open_runs_found.Goals as goal
-
-pub returns : goal.returns
-returns c = open_runs_are_found

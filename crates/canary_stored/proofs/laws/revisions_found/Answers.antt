@@ -1,5 +1,0 @@
-use Rattle.canary_stored.proofs.Found.{revisions_are_found}
-use Rattle.canary_stored.proofs.laws.revisions_found.Goals as goal
-
-pub returns : goal.returns
-returns c = revisions_are_found

@@ -1,5 +1,0 @@
-use Rattle.canary_stored.proofs.RunsFound.{services_are_found}
-use Rattle.canary_stored.proofs.laws.services_found.Goals as goal
-
-pub returns : goal.returns
-returns c = services_are_found

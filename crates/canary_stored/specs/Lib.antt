@@ -1,9 +1,0 @@
-pub mod Numbers
-pub mod Values
-pub mod Tables
-pub mod Reading
-pub mod Reads
-pub mod Settling
-pub mod Ordered
-pub mod Finding
-pub mod Laws

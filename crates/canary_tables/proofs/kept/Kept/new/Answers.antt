@@ -1,6 +1,0 @@
-use Rattle.std.proofs.Common.{rules}
-use Rattle.canary_tables.proofs.KeptLemmas.{nothing_kept}
-use Rattle.canary_tables.proofs.kept.Kept.new.Goals as goal
-
-pub returns-clause-kept : goal.returns-clause-kept
-returns-clause-kept c = λ k. nothing_kept _ k (record { counts = search rules; services = search rules; templates = search rules; receipts = search rules })

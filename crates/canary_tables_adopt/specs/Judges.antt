@@ -1,0 +1,18 @@
+-- What judging tables tells: that what is judged is so, or that it is not.
+use Rattle.std.specs.Prelude.{Result, OnOk}
+use Rattle.sqlite.specs.State.{State}
+use Rattle.canary_tables_rows.specs.Limits.{AreWithin}
+use Rattle.canary_tables_rows.specs.Tables.{Tables}
+use Rattle.canary_tables_schema.specs.Stores.{IsUsable, Stores}
+use Rattle.canary_tables_read.specs.declared.fault.ReadFault.{ReadFault}
+use Rattle.canary_tables_read.specs.Breaks.{BreaksUnless}
+
+-- where it succeeds, this is so of the tables
+abbrev pub FindsThat : {A F : Type 0} → (Tables → Type 0) → State → State → Result A F → Type 0
+FindsThat P old new result = IsUsable new → (t : Tables) → Stores old t → OnOk result (P t)
+
+-- it tells that the tables are broken only where a program cannot hold a row of theirs, or this is
+-- not so of them
+abbrev pub RefusesUnless : {A : Type 0} → (Tables → Type 0) → State → State → Result A ReadFault
+    → Type 0
+RefusesUnless P old new result = BreaksUnless (λ t. AreWithin t × P t) old new result

@@ -1,0 +1,33 @@
+//! Adopting tables: a desk's tables are judged row by row, by reads, before they are believed.
+//!
+//! Callers may rest on this: `validate` is Ok only where the rows are judged, which by
+//! canary_tables_contents are those of sound contents, and `Broken` only where they are not, or a
+//! program cannot hold one of them, and it changes nothing, where the connection is usable then
+//! (canary_tables_schema). `bound_templates` finds the templates to which a run is bound.
+//! `validate` reports to a `JudgingProgress` how many rows there are, and how many it has judged;
+//! no contract mentions that.
+//!
+//! In use (canary_tables, src/adopt.rt):
+//!
+//!     has_rows(conn, is_whole)?;
+//!     validate(conn, alloc, progress)?;
+//!     Ok(())
+#![tactic(auto)]
+
+mod alone;
+pub mod bindings;
+mod callers;
+mod counts;
+mod fault;
+mod histories;
+mod measured;
+mod pages;
+pub mod progress;
+mod remembered;
+mod runs;
+mod service;
+mod services;
+mod strategies;
+mod templates;
+mod totals;
+pub mod validate;

@@ -1,0 +1,16 @@
+pub mod Numbers
+pub mod Values
+pub mod Tables
+pub mod Reading
+pub mod Reads
+pub mod Settling
+pub mod Ordered
+pub mod Finding
+pub mod Laws
+pub mod Soundness
+pub mod Judged
+pub mod Counting
+pub mod Services
+pub mod JudgedLaws
+pub mod Totals
+pub mod Recounted

@@ -1,0 +1,13 @@
+use Rattle.std.proofs.lemmas.Result.{IfOk-weaker}
+use Rattle.canary_tables_schema.specs.Cells.{kept_cells}
+use Rattle.canary_tables_read.proofs.Counting.{count_found}
+use Rattle.canary_tables_read.proofs.CountTexts.{kept_count_text, kept_count_query, kept_counts}
+use Rattle.canary_tables_read.proofs.lists.kept_count.Goals as goal
+
+pub count_of-requires-clause-query : goal.count_of-requires-clause-query
+count_of-requires-clause-query g c = kept_count_query
+
+pub returns-clause-found : goal.returns-clause-found
+returns-clause-found g c usable t has =
+    IfOk-weaker c.count_of.result _ _
+    (λ n told. count_found kept_count_text (λ _. 3) kept_counts kept_cells t.kept (g.Q.Reader.shows c.args.conn.now) (g.Q.Reader.shows c.count_of.new.conn) _ told.0 n has.layout has.holds.schema has.holds.kept told.1 told.2) (c.count_of.ensures.shown usable)

@@ -1,0 +1,19 @@
+use Rattle.std.proofs.Common.{◌∷◌, refl}
+use Rattle.std.proofs.lemmas.Result.{IfOk-weaker}
+use Rattle.sqlite.specs.declared.types.Value.TheVariants.{Text as Words}
+use Rattle.sqlite_keyed.proofs.ListLemmas.{all-filter}
+use Rattle.canary_tables_rows.specs.Tables.{is_revision}
+use Rattle.canary_tables_rows.specs.Limits.{IsRevisionWithin}
+use Rattle.canary_tables_schema.specs.Cells.{revision_cells, revision_in}
+use Rattle.canary_tables_read.proofs.Breaking.{unless_broken}
+use Rattle.canary_tables_read.proofs.TypedRows.{told_all}
+use Rattle.canary_tables_read.proofs.services.revision_rows.Goals as goal
+
+pub returns-clause-found : goal.returns-clause-found
+returns-clause-found g c usable t has =
+    IfOk-weaker c.all.result _ _
+    (λ found read. told_all revision_cells revision_in (λ x. refl) (λ row. Words c.args.name.now ∷ row) c.in_ok-rows.rows.items _ found (c.in_ok-rows.ensures.found usable t has) (rw c.as_slice.ensures.value at read)) c.all.ensures.found
+
+pub returns-clause-broken : goal.returns-clause-broken
+returns-clause-broken g c usable t has is within =
+    unless_broken revision_cells (λ row. Words c.args.name.now ∷ row) IsRevisionWithin _ c.in_ok-rows.rows.items (c.in_ok-rows.ensures.found usable t has) (rw c.as_slice.ensures.value at (c.all.ensures.broken is)) (all-filter IsRevisionWithin (is_revision c.args.name.now c.args.number) t.revisions within)

@@ -1,0 +1,19 @@
+use Rattle.std.proofs.Common.{◌∷◌, refl}
+use Rattle.std.proofs.lemmas.Result.{IfOk-weaker}
+use Rattle.sqlite.specs.declared.types.Value.TheVariants.{Text as Words}
+use Rattle.sqlite_keyed.proofs.ListLemmas.{all-filter}
+use Rattle.canary_tables_rows.specs.Tables.{is_service}
+use Rattle.canary_tables_rows.specs.Limits.{IsServiceWithin}
+use Rattle.canary_tables_schema.specs.Cells.{service_cells, service_in}
+use Rattle.canary_tables_read.proofs.Breaking.{unless_broken}
+use Rattle.canary_tables_read.proofs.TypedRows.{same_first}
+use Rattle.canary_tables_read.proofs.services.service.Goals as goal
+
+pub returns-clause-found : goal.returns-clause-found
+returns-clause-found g c usable t has =
+    IfOk-weaker c.first.result _ _
+    (λ found read. same_first service_cells service_in (λ x. refl) (λ row. Words c.args.name.now ∷ row) c.in_ok-rows.rows.items _ found (c.in_ok-rows.ensures.found usable t has) (rw c.as_slice.ensures.value at read)) c.first.ensures.found
+
+pub returns-clause-broken : goal.returns-clause-broken
+returns-clause-broken g c usable t has is within =
+    unless_broken service_cells (λ row. Words c.args.name.now ∷ row) IsServiceWithin _ c.in_ok-rows.rows.items (c.in_ok-rows.ensures.found usable t has) (rw c.as_slice.ensures.value at (c.first.ensures.broken is)) (all-filter IsServiceWithin (is_service c.args.name.now) t.services within)

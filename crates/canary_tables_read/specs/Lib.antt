@@ -1,0 +1,15 @@
+pub mod Queries
+pub mod Finds
+pub mod Parts
+pub mod Keys
+pub mod Sorts
+pub mod Pages
+pub mod Readable
+pub mod Breaks
+pub mod Faults
+pub mod TreeRows
+pub mod Meta
+pub mod Reader
+pub mod First
+pub mod Metrics
+pub mod Places

@@ -1,0 +1,118 @@
+//! Callers, and what is kept of their requests.
+ghost use Rattle.std.specs.Prelude.{◌≡◌, ◌∷◌, false, filter, option_map};
+ghost use Rattle.std.specs.List.{AllByRecursion};
+ghost use Rattle.sqlite.specs.declared.types.Value.TheVariants.{Text as Words};
+ghost use Rattle.canary_tables_rows.specs.Tables.{is_caller, is_kept};
+ghost use Rattle.canary_tables_rows.specs.Limits.{IsCallerWithin, IsKeptWithin};
+ghost use Rattle.canary_tables_schema.specs.Cells.{caller_cells, kept_cells};
+ghost use Rattle.canary_tables_read.specs.Finds.{IsSame, FindsRows, FindsSuch, TellsCells, first};
+ghost use Rattle.canary_tables_read.specs.Breaks.{BreaksUnless};
+ghost use Rattle.canary_tables_read.specs.Reader.{IsKept};
+
+use crate::fault::ReadFault;
+use crate::from_row;
+use crate::reader::Reader;
+use canary_base::lists::Listed;
+use canary_base::names::Name;
+use canary_tables_rows::rows::{CallerRow, KeptRow};
+use canary_tables_schema::fault::StoreFault;
+use sqlite::{Row, params};
+use std::alloc::Global;
+
+/// How many requests of the caller are settled, if it is known. `Memory` where there is not enough,
+/// `Storage` where the database fails, `Broken` where the caller's row is none that a program can
+/// hold.
+pub fn settled<Q: Reader>(conn: &mut Q, caller: &Name) -> Result<Option<u32>, ReadFault>
+    requires ready { Q.IsReady conn.old }
+    ensures mode { Q.IsReady conn.new }
+    ensures place { Q.place conn.new ≡ Q.place conn.old }
+    ensures kept { IsKept (Q.below conn.old) (Q.below conn.new) }
+    ensures same { IsSame (Q.shows conn.old) (Q.shows conn.new) }
+    ensures found { FindsRows
+        (λ t. option_map (λ row. row.settled) (first (filter (is_caller caller.now) t.callers)))
+        (Q.shows conn.old) (Q.shows conn.new) result }
+    ensures broken { BreaksUnless (λ t. AllByRecursion IsCallerWithin t.callers)
+        (Q.shows conn.old) (Q.shows conn.new) result }
+{
+    let rows = caller_shown(conn, caller)?;
+    let found = from_row::first::<CallerRow>(caller, rows.as_slice())?;
+    Ok(found.map(|row| row.settled))
+}
+
+/// The rows of the caller, of which a desk writes one at most. `Memory` where there is not enough,
+/// `Storage` where the database fails, `Broken` where one is none that a program can hold.
+pub fn caller_rows<Q: Reader>(
+    conn: &mut Q,
+    alloc: Global,
+    name: &Name,
+) -> Result<Listed<CallerRow>, ReadFault>
+    requires ready { Q.IsReady conn.old }
+    ensures mode { Q.IsReady conn.new }
+    ensures place { Q.place conn.new ≡ Q.place conn.old }
+    ensures kept { IsKept (Q.below conn.old) (Q.below conn.new) }
+    ensures same { IsSame (Q.shows conn.old) (Q.shows conn.new) }
+    ensures found { FindsRows (λ t. filter (is_caller name.now) t.callers)
+        (Q.shows conn.old) (Q.shows conn.new) result }
+    ensures broken { BreaksUnless (λ t. AllByRecursion IsCallerWithin t.callers)
+        (Q.shows conn.old) (Q.shows conn.new) result }
+{
+    let rows = caller_shown(conn, name)?;
+    from_row::all(alloc, name, rows.as_slice())
+}
+
+// What is shown of the caller's rows, behind its name.
+fn caller_shown<Q: Reader>(conn: &mut Q, name: &Name) -> Result<Vec<Row>, StoreFault>
+    requires ready { Q.IsReady conn.old }
+    ensures mode { Q.IsReady conn.new }
+    ensures place { Q.place conn.new ≡ Q.place conn.old }
+    ensures kept { IsKept (Q.below conn.old) (Q.below conn.new) }
+    ensures same { IsSame (Q.shows conn.old) (Q.shows conn.new) }
+    ensures found { FindsSuch (λ t rows. TellsCells caller_cells (λ row. Words name.now ∷ row)
+        (filter (is_caller name.now) t.callers) rows.items)
+        (Q.shows conn.old) (Q.shows conn.new) result }
+{
+    conn.ask(
+        "SELECT settled FROM caller WHERE name = ?1 ORDER BY rowid",
+        params![name.as_str()],
+    )
+}
+
+/// What is kept of the caller's request of that number, if it is settled. `Memory` where there is
+/// not enough, `Storage` where the database fails, `Broken` where the row is none that a program
+/// can hold.
+pub fn kept<Q: Reader>(
+    conn: &mut Q,
+    caller: &Name,
+    number: u32,
+) -> Result<Option<KeptRow>, ReadFault>
+    requires ready { Q.IsReady conn.old }
+    ensures mode { Q.IsReady conn.new }
+    ensures place { Q.place conn.new ≡ Q.place conn.old }
+    ensures kept { IsKept (Q.below conn.old) (Q.below conn.new) }
+    ensures same { IsSame (Q.shows conn.old) (Q.shows conn.new) }
+    ensures found { FindsRows (λ t. first (filter (is_kept caller.now number) t.kept))
+        (Q.shows conn.old) (Q.shows conn.new) result }
+    ensures broken { BreaksUnless (λ t. AllByRecursion IsKeptWithin t.kept)
+        (Q.shows conn.old) (Q.shows conn.new) result }
+{
+    let rows = kept_shown(conn, caller, number)?;
+    from_row::first(caller, rows.as_slice())
+}
+
+// What is shown of the request's rows, behind the caller.
+fn kept_shown<Q: Reader>(conn: &mut Q, caller: &Name, number: u32) -> Result<Vec<Row>, StoreFault>
+    requires ready { Q.IsReady conn.old }
+    ensures mode { Q.IsReady conn.new }
+    ensures place { Q.place conn.new ≡ Q.place conn.old }
+    ensures kept { IsKept (Q.below conn.old) (Q.below conn.new) }
+    ensures same { IsSame (Q.shows conn.old) (Q.shows conn.new) }
+    ensures found { FindsSuch (λ t rows. TellsCells kept_cells (λ row. Words caller.now ∷ row)
+        (filter (is_kept caller.now number) t.kept) rows.items)
+        (Q.shows conn.old) (Q.shows conn.new) result }
+{
+    conn.ask(
+        "SELECT number, command, status, body FROM kept \
+         WHERE caller = ?1 AND number = ?2 ORDER BY rowid",
+        params![caller.as_str(), number],
+    )
+}

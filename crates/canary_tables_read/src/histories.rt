@@ -1,0 +1,106 @@
+//! What happened to a service: its history, and the measurements of its runs.
+ghost use Rattle.std.specs.Prelude.{◌≡◌, ◌≤◌, ◌^◌, pos, false, filter, take, drop, IfOk, IfErr};
+ghost use Rattle.std.specs.List.{AllByRecursion};
+ghost use Rattle.canary_tables_rows.specs.Tables.{is_line_of, is_measurement_of};
+ghost use Rattle.canary_tables_rows.specs.Limits.{IsLineWithin, IsMeasurementWithin};
+ghost use Rattle.canary_tables_read.specs.Finds.{IsSame, FindsRows};
+ghost use Rattle.canary_tables_read.specs.Breaks.{BreaksUnless};
+ghost use Rattle.canary_tables_read.specs.Reader.{IsKept};
+
+use crate::fault::ReadFault;
+use crate::from_row;
+use crate::reader::Reader;
+use canary_base::lists::Listed;
+use canary_base::names::Name;
+use canary_tables_rows::rows::{HistoryRow, MeasurementRow};
+use sqlite::params;
+use std::alloc::Global;
+
+/// The lines of the service's history, in their order. `Memory` where there is not enough,
+/// `Storage` where the database fails, `Broken` where a line is none that a program can hold.
+pub fn history<Q: Reader>(
+    conn: &mut Q,
+    alloc: Global,
+    service: &Name,
+) -> Result<Listed<HistoryRow>, ReadFault>
+    requires ready { Q.IsReady conn.old }
+    ensures mode { Q.IsReady conn.new }
+    ensures place { Q.place conn.new ≡ Q.place conn.old }
+    ensures kept { IsKept (Q.below conn.old) (Q.below conn.new) }
+    ensures same { IsSame (Q.shows conn.old) (Q.shows conn.new) }
+    ensures found { FindsRows (λ t. filter (is_line_of service.now) t.history)
+        (Q.shows conn.old) (Q.shows conn.new) result }
+    ensures broken { BreaksUnless (λ t. AllByRecursion IsLineWithin t.history)
+        (Q.shows conn.old) (Q.shows conn.new) result }
+{
+    let rows = conn.ask(
+        "SELECT moment, line FROM history WHERE service = ?1 ORDER BY place",
+        params![service.as_str()],
+    )?;
+    from_row::all(alloc, service, rows.as_slice())
+}
+
+// The number of rows to pass over, as SQLite takes it.
+pub(crate) fn offset_of(from: u64) -> Result<i64, ReadFault>
+    ensures offset { IfOk result (λ offset. offset ≡ pos from) }
+    ensures beyond { IfErr result (λ fault. (fault ≡ ReadFault.Storage) × (2 ^ 63 ≤ from)) }
+{
+    match i64::try_from(from) {
+        Ok(offset) => Ok(offset),
+        Err(_) => Err(ReadFault::Storage),
+    }
+}
+
+/// The lines of the service's history, in their order: from that one on, counted from 0, at most
+/// so many. `Memory` where there is not enough, `Storage` where the database fails, and where
+/// `from` is 2^63 or more, `Broken` where a line of these is none that a program can hold.
+pub fn lines<Q: Reader>(
+    conn: &mut Q,
+    alloc: Global,
+    service: &Name,
+    from: u64,
+    most: u32,
+) -> Result<Listed<HistoryRow>, ReadFault>
+    requires ready { Q.IsReady conn.old }
+    ensures mode { Q.IsReady conn.new }
+    ensures place { Q.place conn.new ≡ Q.place conn.old }
+    ensures kept { IsKept (Q.below conn.old) (Q.below conn.new) }
+    ensures same { IsSame (Q.shows conn.old) (Q.shows conn.new) }
+    ensures found { FindsRows
+        (λ t. take most (drop from (filter (is_line_of service.now) t.history)))
+        (Q.shows conn.old) (Q.shows conn.new) result }
+    ensures broken { BreaksUnless (λ t. AllByRecursion IsLineWithin t.history)
+        (Q.shows conn.old) (Q.shows conn.new) result }
+{
+    let offset = offset_of(from)?;
+    let rows = conn.ask(
+        "SELECT moment, line FROM history WHERE service = ?1 ORDER BY place LIMIT ?3 OFFSET ?2",
+        params![service.as_str(), offset, most],
+    )?;
+    from_row::all(alloc, service, rows.as_slice())
+}
+
+/// All measurements of the service's runs, in their order. `Memory` where there is not enough,
+/// `Storage` where the database fails, `Broken` where one is none that a program can hold.
+pub fn measurement_rows<Q: Reader>(
+    conn: &mut Q,
+    alloc: Global,
+    service: &Name,
+) -> Result<Listed<MeasurementRow>, ReadFault>
+    requires ready { Q.IsReady conn.old }
+    ensures mode { Q.IsReady conn.new }
+    ensures place { Q.place conn.new ≡ Q.place conn.old }
+    ensures kept { IsKept (Q.below conn.old) (Q.below conn.new) }
+    ensures same { IsSame (Q.shows conn.old) (Q.shows conn.new) }
+    ensures found { FindsRows (λ t. filter (is_measurement_of service.now) t.measurements)
+        (Q.shows conn.old) (Q.shows conn.new) result }
+    ensures broken { BreaksUnless (λ t. AllByRecursion IsMeasurementWithin t.measurements)
+        (Q.shows conn.old) (Q.shows conn.new) result }
+{
+    let rows = conn.ask(
+        "SELECT run, metric, ordinal, taken, phase, outcome FROM measurement \
+         WHERE service = ?1 ORDER BY place",
+        params![service.as_str()],
+    )?;
+    from_row::all(alloc, service, rows.as_slice())
+}

@@ -1,0 +1,210 @@
+//! What a desk asks of a file that it adopts: all callers, the keys of all revisions, the names of
+//! all services, and how many rows the other tables have.
+ghost use Rattle.std.specs.Prelude.{◌≡◌, ◌≢◌, false, ℕ, List, [], None, IfOk, IfSome, Err};
+ghost use Rattle.std.specs.Prelude.{length, map, min, slice_index_or};
+ghost use Rattle.std.specs.List.{AllByRecursion};
+ghost use Rattle.sqlite.specs.Order.{Row as Cells, column};
+ghost use Rattle.sqlite.specs.State.{Shown};
+ghost use Rattle.canary_tables_rows.specs.Limits.{IsCallerWithin, IsRevisionWithin, IsServiceWithin};
+ghost use Rattle.canary_tables_schema.specs.Cells.{integer};
+ghost use Rattle.canary_tables_schema.specs.Stores.{IsUsable};
+ghost use Rattle.canary_tables_read.specs.Keys.{key_of};
+ghost use Rattle.canary_tables_read.specs.Queries.{IsQuery};
+ghost use Rattle.canary_tables_read.specs.Finds.{IsSame, FindsRows};
+ghost use Rattle.canary_tables_read.specs.Breaks.{BreaksUnless};
+ghost use Rattle.canary_tables_read.specs.Reader.{IsKept};
+
+use crate::fault::ReadFault;
+use crate::held;
+use crate::reader::Reader;
+use canary_base::lists::Listed;
+use canary_base::names::Name;
+use canary_tables_rows::rows::CallerRow;
+use sqlite::Row;
+use sqlite::types::ValueRef;
+use std::alloc::Global;
+
+/// What a revision of a template is found by: the template's name, and the revision's number.
+#[derive(Clone, Copy)]
+pub struct RevisionKey {
+    pub name: Name,
+    pub revision: u32,
+}
+
+/// All callers, in the order in which they were added. `Memory` where there is not enough,
+/// `Storage` where the database fails, `Broken` where a caller is none that a program can hold.
+pub fn callers<Q: Reader>(conn: &mut Q, alloc: Global) -> Result<Listed<CallerRow>, ReadFault>
+    requires ready { Q.IsReady conn.old }
+    ensures mode { Q.IsReady conn.new }
+    ensures place { Q.place conn.new ≡ Q.place conn.old }
+    ensures kept { IsKept (Q.below conn.old) (Q.below conn.new) }
+    ensures same { IsSame (Q.shows conn.old) (Q.shows conn.new) }
+    ensures found { FindsRows (λ t. t.callers)
+        (Q.shows conn.old) (Q.shows conn.new) result }
+    ensures broken { BreaksUnless (λ t. AllByRecursion IsCallerWithin t.callers)
+        (Q.shows conn.old) (Q.shows conn.new) result }
+{
+    let rows = conn.ask("SELECT name, settled FROM caller ORDER BY rowid", &[])?;
+    held::all(alloc, rows.as_slice())
+}
+
+/// The keys of all revisions, in the order in which they were added. `Memory` where there is not
+/// enough, `Storage` where the database fails, `Broken` where a revision is none that a program can
+/// hold.
+pub fn revision_keys<Q: Reader>(
+    conn: &mut Q,
+    alloc: Global,
+) -> Result<Listed<RevisionKey>, ReadFault>
+    requires ready { Q.IsReady conn.old }
+    ensures mode { Q.IsReady conn.new }
+    ensures place { Q.place conn.new ≡ Q.place conn.old }
+    ensures kept { IsKept (Q.below conn.old) (Q.below conn.new) }
+    ensures same { IsSame (Q.shows conn.old) (Q.shows conn.new) }
+    ensures found { FindsRows (λ t. map key_of t.revisions)
+        (Q.shows conn.old) (Q.shows conn.new) result }
+    ensures broken { BreaksUnless (λ t. AllByRecursion IsRevisionWithin t.revisions)
+        (Q.shows conn.old) (Q.shows conn.new) result }
+{
+    let rows = conn.ask("SELECT name, revision FROM revision ORDER BY rowid", &[])?;
+    held::all(alloc, rows.as_slice())
+}
+
+/// The names of all services, in the order in which they were added. `Memory` where there is not
+/// enough, `Storage` where the database fails, `Broken` where a service is none that a program can
+/// hold.
+pub fn service_names<Q: Reader>(conn: &mut Q, alloc: Global) -> Result<Listed<Name>, ReadFault>
+    requires ready { Q.IsReady conn.old }
+    ensures mode { Q.IsReady conn.new }
+    ensures place { Q.place conn.new ≡ Q.place conn.old }
+    ensures kept { IsKept (Q.below conn.old) (Q.below conn.new) }
+    ensures same { IsSame (Q.shows conn.old) (Q.shows conn.new) }
+    ensures found { FindsRows (λ t. map (λ row. row.name) t.services)
+        (Q.shows conn.old) (Q.shows conn.new) result }
+    ensures broken { BreaksUnless (λ t. AllByRecursion IsServiceWithin t.services)
+        (Q.shows conn.old) (Q.shows conn.new) result }
+{
+    let rows = conn.ask("SELECT name FROM service ORDER BY rowid", &[])?;
+    held::all(alloc, rows.as_slice())
+}
+
+/// How many settled requests there are, of which SQLite counts 2^63 - 1 at most. `Memory` where
+/// there is not enough, `Storage` where the database fails.
+pub fn kept_count<Q: Reader>(conn: &mut Q) -> Result<u64, ReadFault>
+    requires ready { Q.IsReady conn.old }
+    ensures mode { Q.IsReady conn.new }
+    ensures place { Q.place conn.new ≡ Q.place conn.old }
+    ensures kept { IsKept (Q.below conn.old) (Q.below conn.new) }
+    ensures same { IsSame (Q.shows conn.old) (Q.shows conn.new) }
+    ensures found { FindsRows (λ t. min (length t.kept) 9223372036854775807)
+        (Q.shows conn.old) (Q.shows conn.new) result }
+    ensures whole { result ≢ Err ReadFault.Broken }
+{
+    count_of(conn, "SELECT count(*) FROM kept")
+}
+
+/// How many runs there are, of which SQLite counts 2^63 - 1 at most. `Memory` where there is
+/// not enough, `Storage` where the database fails.
+pub fn run_count<Q: Reader>(conn: &mut Q) -> Result<u64, ReadFault>
+    requires ready { Q.IsReady conn.old }
+    ensures mode { Q.IsReady conn.new }
+    ensures place { Q.place conn.new ≡ Q.place conn.old }
+    ensures kept { IsKept (Q.below conn.old) (Q.below conn.new) }
+    ensures same { IsSame (Q.shows conn.old) (Q.shows conn.new) }
+    ensures found { FindsRows (λ t. min (length t.runs) 9223372036854775807)
+        (Q.shows conn.old) (Q.shows conn.new) result }
+    ensures whole { result ≢ Err ReadFault.Broken }
+{
+    count_of(conn, "SELECT count(*) FROM run")
+}
+
+/// How many rows bind runs and attempts to revisions, of which SQLite counts 2^63 - 1 at most.
+/// `Memory` where there is not enough, `Storage` where the database fails.
+pub fn binding_count<Q: Reader>(conn: &mut Q) -> Result<u64, ReadFault>
+    requires ready { Q.IsReady conn.old }
+    ensures mode { Q.IsReady conn.new }
+    ensures place { Q.place conn.new ≡ Q.place conn.old }
+    ensures kept { IsKept (Q.below conn.old) (Q.below conn.new) }
+    ensures same { IsSame (Q.shows conn.old) (Q.shows conn.new) }
+    ensures found { FindsRows (λ t. min (length t.bindings) 9223372036854775807)
+        (Q.shows conn.old) (Q.shows conn.new) result }
+    ensures whole { result ≢ Err ReadFault.Broken }
+{
+    count_of(conn, "SELECT count(*) FROM binding")
+}
+
+/// How many tallies there are, of which SQLite counts 2^63 - 1 at most. `Memory` where there is
+/// not enough, `Storage` where the database fails.
+pub fn tally_count<Q: Reader>(conn: &mut Q) -> Result<u64, ReadFault>
+    requires ready { Q.IsReady conn.old }
+    ensures mode { Q.IsReady conn.new }
+    ensures place { Q.place conn.new ≡ Q.place conn.old }
+    ensures kept { IsKept (Q.below conn.old) (Q.below conn.new) }
+    ensures same { IsSame (Q.shows conn.old) (Q.shows conn.new) }
+    ensures found { FindsRows (λ t. min (length t.tallies) 9223372036854775807)
+        (Q.shows conn.old) (Q.shows conn.new) result }
+    ensures whole { result ≢ Err ReadFault.Broken }
+{
+    count_of(conn, "SELECT count(*) FROM tally")
+}
+
+/// How many measurements there are, of which SQLite counts 2^63 - 1 at most. `Memory` where there
+/// is not enough, `Storage` where the database fails.
+pub fn measurement_count<Q: Reader>(conn: &mut Q) -> Result<u64, ReadFault>
+    requires ready { Q.IsReady conn.old }
+    ensures mode { Q.IsReady conn.new }
+    ensures place { Q.place conn.new ≡ Q.place conn.old }
+    ensures kept { IsKept (Q.below conn.old) (Q.below conn.new) }
+    ensures same { IsSame (Q.shows conn.old) (Q.shows conn.new) }
+    ensures found { FindsRows (λ t. min (length t.measurements) 9223372036854775807)
+        (Q.shows conn.old) (Q.shows conn.new) result }
+    ensures whole { result ≢ Err ReadFault.Broken }
+{
+    count_of(conn, "SELECT count(*) FROM measurement")
+}
+
+/// How many lines of histories there are, of which SQLite counts 2^63 - 1 at most. `Memory` where
+/// there is not enough, `Storage` where the database fails.
+pub fn history_count<Q: Reader>(conn: &mut Q) -> Result<u64, ReadFault>
+    requires ready { Q.IsReady conn.old }
+    ensures mode { Q.IsReady conn.new }
+    ensures place { Q.place conn.new ≡ Q.place conn.old }
+    ensures kept { IsKept (Q.below conn.old) (Q.below conn.new) }
+    ensures same { IsSame (Q.shows conn.old) (Q.shows conn.new) }
+    ensures found { FindsRows (λ t. min (length t.history) 9223372036854775807)
+        (Q.shows conn.old) (Q.shows conn.new) result }
+    ensures whole { result ≢ Err ReadFault.Broken }
+{
+    count_of(conn, "SELECT count(*) FROM history")
+}
+
+// The whole number that stands first in what the query shows.
+fn count_of<Q: Reader>(conn: &mut Q, text: &str) -> Result<u64, ReadFault>
+    requires ready { Q.IsReady conn.old }
+    requires query { IsQuery text.now }
+    ensures mode { Q.IsReady conn.new }
+    ensures place { Q.place conn.new ≡ Q.place conn.old }
+    ensures kept { IsKept (Q.below conn.old) (Q.below conn.new) }
+    ensures same { IsSame (Q.shows conn.old) (Q.shows conn.new) }
+    ensures shown { IsUsable (Q.shows conn.new) → IfOk result (λ count. (rows : List Cells)
+        × Shown text.now [] (Q.shows conn.old) (Q.shows conn.new) rows
+        × (column (slice_index_or rows 0 []) 0 ≡ integer count)) }
+    ensures whole { result ≢ Err ReadFault.Broken }
+{
+    let rows = conn.ask(text, &[])?;
+    match first_number(rows.as_slice()) {
+        Some(count) => Ok(count),
+        None => Err(ReadFault::Storage),
+    }
+}
+
+// The number in the first column of the first row; none if that is no integer from 0 on.
+fn first_number(rows: &[Row]) -> Option<u64>
+    ensures some { IfSome result (λ n. column (slice_index_or rows.now 0 []) 0 ≡ integer n) }
+    ensures none { result ≡ None → (n : ℕ) → column (slice_index_or rows.now 0 []) 0 ≢ integer n }
+{
+    let row = rows.first()?;
+    match row.get_ref(0) {
+        Ok(ValueRef::Int(number)) => u64::try_from(number).ok(),
+        _ => None,
+    }
+}

@@ -1,0 +1,46 @@
+//! The measurements of one metric of a run.
+ghost use Rattle.std.specs.Prelude.{◌≡◌, filter};
+ghost use Rattle.std.specs.List.{AllByRecursion};
+ghost use Rattle.canary_tables_rows.specs.Limits.{IsMeasurementWithin};
+ghost use Rattle.canary_tables_read.specs.Breaks.{BreaksUnless};
+ghost use Rattle.canary_tables_read.specs.Finds.{IsSame, FindsRows};
+ghost use Rattle.canary_tables_read.specs.Metrics.{is_measurement_in};
+ghost use Rattle.canary_tables_read.specs.Reader.{IsKept};
+
+use crate::fault::ReadFault;
+use crate::from_row;
+use crate::reader::Reader;
+use canary_base::lists::Listed;
+use canary_base::names::Name;
+use canary_tables_rows::rows::MeasurementRow;
+use sqlite::params;
+use std::alloc::Global;
+
+/// All measurements of a metric of that run of the service, by the metric's place in the run, in
+/// their order. `Memory` where there is not enough, `Storage` where the database fails, `Broken`
+/// where one is none that a program can hold.
+pub fn measurements<Q: Reader>(
+    conn: &mut Q,
+    alloc: Global,
+    service: &Name,
+    run: u32,
+    metric: u32,
+) -> Result<Listed<MeasurementRow>, ReadFault>
+    requires ready { Q.IsReady conn.old }
+    ensures mode { Q.IsReady conn.new }
+    ensures place { Q.place conn.new ≡ Q.place conn.old }
+    ensures kept { IsKept (Q.below conn.old) (Q.below conn.new) }
+    ensures same { IsSame (Q.shows conn.old) (Q.shows conn.new) }
+    ensures found { FindsRows
+        (λ t. filter (is_measurement_in service.now run metric) t.measurements)
+        (Q.shows conn.old) (Q.shows conn.new) result }
+    ensures broken { BreaksUnless (λ t. AllByRecursion IsMeasurementWithin t.measurements)
+        (Q.shows conn.old) (Q.shows conn.new) result }
+{
+    let rows = conn.ask(
+        "SELECT run, metric, ordinal, taken, phase, outcome FROM measurement \
+         WHERE service = ?1 AND run = ?2 AND metric = ?3 ORDER BY place",
+        params![service.as_str(), run, metric],
+    )?;
+    from_row::all(alloc, service, rows.as_slice())
+}

@@ -1,0 +1,137 @@
+//! Rows in pages, of which each is of so many keys at most.
+ghost use Rattle.std.specs.Prelude.{◌≡◌, filter};
+ghost use Rattle.std.specs.List.{AllByRecursion};
+ghost use Rattle.canary_tables_rows.specs.Limits.{IsKeptWithin, IsRunWithin, IsBindingWithin};
+ghost use Rattle.canary_tables_rows.specs.Limits.{IsTallyWithin};
+ghost use Rattle.canary_tables_read.specs.Breaks.{BreaksUnless};
+ghost use Rattle.canary_tables_read.specs.Finds.{IsSame, FindsRows, FindsSuch};
+ghost use Rattle.canary_tables_read.specs.Pages.{is_kept_between, number_of_kept, is_run_between};
+ghost use Rattle.canary_tables_read.specs.Pages.{is_binding_between, is_tally_between};
+ghost use Rattle.canary_tables_read.specs.Reader.{IsKept};
+ghost use Rattle.canary_tables_read.specs.Sorts.{Sorts};
+
+use crate::fault::ReadFault;
+use crate::from_row;
+use crate::reader::Reader;
+use canary_base::lists::Listed;
+use canary_base::names::Name;
+use canary_tables_rows::rows::{BindingRow, KeptRow, RunRow, TallyRow};
+use sqlite::params;
+use std::alloc::Global;
+
+/// What is kept of the caller's requests whose numbers are above `after` and at most `last`, by
+/// their numbers. `Memory` where there is not enough, `Storage` where the database fails, `Broken`
+/// where a row is none that a program can hold.
+pub fn kept<Q: Reader>(
+    conn: &mut Q,
+    alloc: Global,
+    caller: &Name,
+    after: u32,
+    last: u32,
+) -> Result<Listed<KeptRow>, ReadFault>
+    requires ready { Q.IsReady conn.old }
+    ensures mode { Q.IsReady conn.new }
+    ensures place { Q.place conn.new ≡ Q.place conn.old }
+    ensures kept { IsKept (Q.below conn.old) (Q.below conn.new) }
+    ensures same { IsSame (Q.shows conn.old) (Q.shows conn.new) }
+    ensures found { FindsSuch
+        (λ t. Sorts number_of_kept (filter (is_kept_between caller.now after last) t.kept))
+        (Q.shows conn.old) (Q.shows conn.new) result }
+    ensures broken { BreaksUnless (λ t. AllByRecursion IsKeptWithin t.kept)
+        (Q.shows conn.old) (Q.shows conn.new) result }
+{
+    let rows = conn.ask(
+        "SELECT number, command, status, body FROM kept \
+         WHERE caller = ?1 AND number > ?2 AND number <= ?3 ORDER BY number",
+        params![caller.as_str(), after, last],
+    )?;
+    from_row::all(alloc, caller, rows.as_slice())
+}
+
+/// The runs of the service whose numbers are above `after` and at most `last`, in the order in
+/// which they were added. `Memory` where there is not enough, `Storage` where the database fails,
+/// `Broken` where a row is none that a program can hold.
+pub fn runs<Q: Reader>(
+    conn: &mut Q,
+    alloc: Global,
+    service: &Name,
+    after: u32,
+    last: u32,
+) -> Result<Listed<RunRow>, ReadFault>
+    requires ready { Q.IsReady conn.old }
+    ensures mode { Q.IsReady conn.new }
+    ensures place { Q.place conn.new ≡ Q.place conn.old }
+    ensures kept { IsKept (Q.below conn.old) (Q.below conn.new) }
+    ensures same { IsSame (Q.shows conn.old) (Q.shows conn.new) }
+    ensures found { FindsRows
+        (λ t. filter (is_run_between service.now after last) t.runs)
+        (Q.shows conn.old) (Q.shows conn.new) result }
+    ensures broken { BreaksUnless (λ t. AllByRecursion IsRunWithin t.runs)
+        (Q.shows conn.old) (Q.shows conn.new) result }
+{
+    let rows = conn.ask(
+        "SELECT number, step, started, closed, outside, verdict FROM run \
+         WHERE service = ?1 AND number > ?2 AND number <= ?3 ORDER BY rowid",
+        params![service.as_str(), after, last],
+    )?;
+    from_row::all(alloc, service, rows.as_slice())
+}
+
+/// The revisions of templates to which those runs of the service are bound whose numbers are above
+/// `after` and at most `last`, in the order in which they were added. `Memory` where there is not
+/// enough, `Storage` where the database fails, `Broken` where a row is none that a program can
+/// hold.
+pub fn bindings<Q: Reader>(
+    conn: &mut Q,
+    alloc: Global,
+    service: &Name,
+    after: u32,
+    last: u32,
+) -> Result<Listed<BindingRow>, ReadFault>
+    requires ready { Q.IsReady conn.old }
+    ensures mode { Q.IsReady conn.new }
+    ensures place { Q.place conn.new ≡ Q.place conn.old }
+    ensures kept { IsKept (Q.below conn.old) (Q.below conn.new) }
+    ensures same { IsSame (Q.shows conn.old) (Q.shows conn.new) }
+    ensures found { FindsRows
+        (λ t. filter (is_binding_between service.now after last) t.bindings)
+        (Q.shows conn.old) (Q.shows conn.new) result }
+    ensures broken { BreaksUnless (λ t. AllByRecursion IsBindingWithin t.bindings)
+        (Q.shows conn.old) (Q.shows conn.new) result }
+{
+    let rows = conn.ask(
+        "SELECT run, template, revision FROM binding \
+         WHERE service = ?1 AND run > ?2 AND run <= ?3 ORDER BY rowid",
+        params![service.as_str(), after, last],
+    )?;
+    from_row::all(alloc, service, rows.as_slice())
+}
+
+/// The counts of the metrics of those runs of the service whose numbers are above `after` and at
+/// most `last`, in the order in which they were added. `Memory` where there is not enough,
+/// `Storage` where the database fails, `Broken` where a row is none that a program can hold.
+pub fn tallies<Q: Reader>(
+    conn: &mut Q,
+    alloc: Global,
+    service: &Name,
+    after: u32,
+    last: u32,
+) -> Result<Listed<TallyRow>, ReadFault>
+    requires ready { Q.IsReady conn.old }
+    ensures mode { Q.IsReady conn.new }
+    ensures place { Q.place conn.new ≡ Q.place conn.old }
+    ensures kept { IsKept (Q.below conn.old) (Q.below conn.new) }
+    ensures same { IsSame (Q.shows conn.old) (Q.shows conn.new) }
+    ensures found { FindsRows
+        (λ t. filter (is_tally_between service.now after last) t.tallies)
+        (Q.shows conn.old) (Q.shows conn.new) result }
+    ensures broken { BreaksUnless (λ t. AllByRecursion IsTallyWithin t.tallies)
+        (Q.shows conn.old) (Q.shows conn.new) result }
+{
+    let rows = conn.ask(
+        "SELECT run, metric, counted, failed, inconclusive, errors, consecutive, passes, last \
+         FROM tally WHERE service = ?1 AND run > ?2 AND run <= ?3 ORDER BY rowid",
+        params![service.as_str(), after, last],
+    )?;
+    from_row::all(alloc, service, rows.as_slice())
+}

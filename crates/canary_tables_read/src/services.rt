@@ -1,0 +1,225 @@
+//! Revisions of templates, services, and to which revisions these are bound.
+ghost use Rattle.std.specs.Prelude.{◌≡◌, ◌≢◌, ◌∷◌, false, filter, Err};
+ghost use Rattle.std.specs.List.{list_any, AllByRecursion};
+ghost use Rattle.sqlite.specs.declared.types.Value.TheVariants.{Text as Words};
+ghost use Rattle.canary_tables_rows.specs.Tables.{is_revision, is_revision_of, is_service, is_binding_of};
+ghost use Rattle.canary_tables_rows.specs.Limits.{IsRevisionWithin, IsServiceWithin, IsBindingWithin};
+ghost use Rattle.canary_tables_rows.specs.Newest.{IsNewest};
+ghost use Rattle.canary_tables_schema.specs.Cells.{revision_cells, service_cells};
+ghost use Rattle.canary_tables_read.specs.Finds.{IsSame, FindsRows, FindsSuch, TellsCells, first};
+ghost use Rattle.canary_tables_read.specs.Breaks.{BreaksUnless};
+ghost use Rattle.canary_tables_read.specs.Reader.{IsKept};
+
+use crate::fault::ReadFault;
+use crate::from_row;
+use crate::reader::Reader;
+use canary_base::lists::Listed;
+use canary_base::names::Name;
+use canary_tables_rows::rows::{BindingRow, RevisionRow, ServiceRow};
+use canary_tables_schema::fault::StoreFault;
+use sqlite::{Row, params};
+use std::alloc::Global;
+
+/// The newest revision of the template of that name, which is the one with the greatest number, if
+/// there is one. `Memory` where there is not enough, `Storage` where the database fails, `Broken`
+/// where the revision's row is none that a program can hold.
+pub fn newest<Q: Reader>(conn: &mut Q, name: &Name) -> Result<Option<RevisionRow>, ReadFault>
+    requires ready { Q.IsReady conn.old }
+    ensures mode { Q.IsReady conn.new }
+    ensures place { Q.place conn.new ≡ Q.place conn.old }
+    ensures kept { IsKept (Q.below conn.old) (Q.below conn.new) }
+    ensures same { IsSame (Q.shows conn.old) (Q.shows conn.new) }
+    ensures found { FindsSuch (λ t. IsNewest (filter (is_revision_of name.now) t.revisions))
+        (Q.shows conn.old) (Q.shows conn.new) result }
+    ensures broken { BreaksUnless (λ t. AllByRecursion IsRevisionWithin t.revisions)
+        (Q.shows conn.old) (Q.shows conn.new) result }
+{
+    let rows = conn.ask(
+        "SELECT revision, spec FROM revision WHERE name = ?1 ORDER BY revision DESC LIMIT 1",
+        params![name.as_str()],
+    )?;
+    from_row::first(name, rows.as_slice())
+}
+
+/// The revision of the template of that name under that number, if there is one. `Memory` where
+/// there is not enough, `Storage` where the database fails, `Broken` where the revision's row is
+/// none that a program can hold.
+pub fn revision<Q: Reader>(
+    conn: &mut Q,
+    name: &Name,
+    number: u32,
+) -> Result<Option<RevisionRow>, ReadFault>
+    requires ready { Q.IsReady conn.old }
+    ensures mode { Q.IsReady conn.new }
+    ensures place { Q.place conn.new ≡ Q.place conn.old }
+    ensures kept { IsKept (Q.below conn.old) (Q.below conn.new) }
+    ensures same { IsSame (Q.shows conn.old) (Q.shows conn.new) }
+    ensures found { FindsRows (λ t. first (filter (is_revision name.now number) t.revisions))
+        (Q.shows conn.old) (Q.shows conn.new) result }
+    ensures broken { BreaksUnless (λ t. AllByRecursion IsRevisionWithin t.revisions)
+        (Q.shows conn.old) (Q.shows conn.new) result }
+{
+    let rows = revision_shown(conn, name, number)?;
+    from_row::first(name, rows.as_slice())
+}
+
+/// The rows of that revision of the template, of which a desk writes one at most. `Memory` where
+/// there is not enough, `Storage` where the database fails, `Broken` where one is none that a
+/// program can hold.
+pub fn revision_rows<Q: Reader>(
+    conn: &mut Q,
+    alloc: Global,
+    name: &Name,
+    number: u32,
+) -> Result<Listed<RevisionRow>, ReadFault>
+    requires ready { Q.IsReady conn.old }
+    ensures mode { Q.IsReady conn.new }
+    ensures place { Q.place conn.new ≡ Q.place conn.old }
+    ensures kept { IsKept (Q.below conn.old) (Q.below conn.new) }
+    ensures same { IsSame (Q.shows conn.old) (Q.shows conn.new) }
+    ensures found { FindsRows (λ t. filter (is_revision name.now number) t.revisions)
+        (Q.shows conn.old) (Q.shows conn.new) result }
+    ensures broken { BreaksUnless (λ t. AllByRecursion IsRevisionWithin t.revisions)
+        (Q.shows conn.old) (Q.shows conn.new) result }
+{
+    let rows = revision_shown(conn, name, number)?;
+    from_row::all(alloc, name, rows.as_slice())
+}
+
+// What is shown of the revision's rows, behind the template's name.
+fn revision_shown<Q: Reader>(conn: &mut Q, name: &Name, number: u32) -> Result<Vec<Row>, StoreFault>
+    requires ready { Q.IsReady conn.old }
+    ensures mode { Q.IsReady conn.new }
+    ensures place { Q.place conn.new ≡ Q.place conn.old }
+    ensures kept { IsKept (Q.below conn.old) (Q.below conn.new) }
+    ensures same { IsSame (Q.shows conn.old) (Q.shows conn.new) }
+    ensures found { FindsSuch (λ t rows. TellsCells revision_cells (λ row. Words name.now ∷ row)
+        (filter (is_revision name.now number) t.revisions) rows.items)
+        (Q.shows conn.old) (Q.shows conn.new) result }
+{
+    conn.ask(
+        "SELECT revision, spec FROM revision WHERE name = ?1 AND revision = ?2 ORDER BY rowid",
+        params![name.as_str(), number],
+    )
+}
+
+/// The service of that name, if there is one. `Memory` where there is not enough, `Storage` where
+/// the database fails, `Broken` where the service's row is none that a program can hold.
+pub fn service<Q: Reader>(conn: &mut Q, name: &Name) -> Result<Option<ServiceRow>, ReadFault>
+    requires ready { Q.IsReady conn.old }
+    ensures mode { Q.IsReady conn.new }
+    ensures place { Q.place conn.new ≡ Q.place conn.old }
+    ensures kept { IsKept (Q.below conn.old) (Q.below conn.new) }
+    ensures same { IsSame (Q.shows conn.old) (Q.shows conn.new) }
+    ensures found { FindsRows (λ t. first (filter (is_service name.now) t.services))
+        (Q.shows conn.old) (Q.shows conn.new) result }
+    ensures broken { BreaksUnless (λ t. AllByRecursion IsServiceWithin t.services)
+        (Q.shows conn.old) (Q.shows conn.new) result }
+{
+    let rows = service_shown(conn, name)?;
+    from_row::first(name, rows.as_slice())
+}
+
+/// The rows of the service, of which a desk writes one at most. `Memory` where there is not enough,
+/// `Storage` where the database fails, `Broken` where one is none that a program can hold.
+pub fn service_rows<Q: Reader>(
+    conn: &mut Q,
+    alloc: Global,
+    name: &Name,
+) -> Result<Listed<ServiceRow>, ReadFault>
+    requires ready { Q.IsReady conn.old }
+    ensures mode { Q.IsReady conn.new }
+    ensures place { Q.place conn.new ≡ Q.place conn.old }
+    ensures kept { IsKept (Q.below conn.old) (Q.below conn.new) }
+    ensures same { IsSame (Q.shows conn.old) (Q.shows conn.new) }
+    ensures found { FindsRows (λ t. filter (is_service name.now) t.services)
+        (Q.shows conn.old) (Q.shows conn.new) result }
+    ensures broken { BreaksUnless (λ t. AllByRecursion IsServiceWithin t.services)
+        (Q.shows conn.old) (Q.shows conn.new) result }
+{
+    let rows = service_shown(conn, name)?;
+    from_row::all(alloc, name, rows.as_slice())
+}
+
+// What is shown of the service's rows, behind its name.
+fn service_shown<Q: Reader>(conn: &mut Q, name: &Name) -> Result<Vec<Row>, StoreFault>
+    requires ready { Q.IsReady conn.old }
+    ensures mode { Q.IsReady conn.new }
+    ensures place { Q.place conn.new ≡ Q.place conn.old }
+    ensures kept { IsKept (Q.below conn.old) (Q.below conn.new) }
+    ensures same { IsSame (Q.shows conn.old) (Q.shows conn.new) }
+    ensures found { FindsSuch (λ t rows. TellsCells service_cells (λ row. Words name.now ∷ row)
+        (filter (is_service name.now) t.services) rows.items)
+        (Q.shows conn.old) (Q.shows conn.new) result }
+{
+    conn.ask(
+        "SELECT spec, stable, version, state, step, entered, hold, background, runs, last \
+         FROM service WHERE name = ?1 ORDER BY rowid",
+        params![name.as_str()],
+    )
+}
+
+/// Whether there is a service of that name. `Memory` where there is not enough, `Storage` where the
+/// database fails; never `Broken`.
+pub fn has_service<Q: Reader>(conn: &mut Q, name: &Name) -> Result<bool, ReadFault>
+    requires ready { Q.IsReady conn.old }
+    ensures mode { Q.IsReady conn.new }
+    ensures place { Q.place conn.new ≡ Q.place conn.old }
+    ensures kept { IsKept (Q.below conn.old) (Q.below conn.new) }
+    ensures same { IsSame (Q.shows conn.old) (Q.shows conn.new) }
+    ensures found { FindsRows (λ t. list_any (is_service name.now) t.services)
+        (Q.shows conn.old) (Q.shows conn.new) result }
+    ensures whole { result ≢ Err ReadFault.Broken }
+{
+    let rows = conn.ask(
+        "SELECT name FROM service WHERE name = ?1 ORDER BY rowid",
+        params![name.as_str()],
+    )?;
+    Ok(!rows.is_empty())
+}
+
+/// The revisions of templates to which that run of the service is bound, in the order in which they
+/// were added; those of its present attempt under run 0. `Memory` where there is not enough,
+/// `Storage` where the database fails, `Broken` where a row is none that a program can hold.
+pub fn bindings<Q: Reader>(
+    conn: &mut Q,
+    alloc: Global,
+    service: &Name,
+    run: u32,
+) -> Result<Listed<BindingRow>, ReadFault>
+    requires ready { Q.IsReady conn.old }
+    ensures mode { Q.IsReady conn.new }
+    ensures place { Q.place conn.new ≡ Q.place conn.old }
+    ensures kept { IsKept (Q.below conn.old) (Q.below conn.new) }
+    ensures same { IsSame (Q.shows conn.old) (Q.shows conn.new) }
+    ensures found { FindsRows (λ t. filter (is_binding_of service.now run) t.bindings)
+        (Q.shows conn.old) (Q.shows conn.new) result }
+    ensures broken { BreaksUnless (λ t. AllByRecursion IsBindingWithin t.bindings)
+        (Q.shows conn.old) (Q.shows conn.new) result }
+{
+    let rows = conn.ask(
+        "SELECT run, template, revision FROM binding \
+         WHERE service = ?1 AND run = ?2 ORDER BY rowid",
+        params![service.as_str(), run],
+    )?;
+    from_row::all(alloc, service, rows.as_slice())
+}
+
+/// Whether the service's present attempt is bound to a revision of any template. `Memory` where
+/// there is not enough, `Storage` where the database fails; never `Broken`.
+pub fn has_bindings<Q: Reader>(conn: &mut Q, service: &Name) -> Result<bool, ReadFault>
+    requires ready { Q.IsReady conn.old }
+    ensures mode { Q.IsReady conn.new }
+    ensures place { Q.place conn.new ≡ Q.place conn.old }
+    ensures kept { IsKept (Q.below conn.old) (Q.below conn.new) }
+    ensures same { IsSame (Q.shows conn.old) (Q.shows conn.new) }
+    ensures found { FindsRows (λ t. list_any (is_binding_of service.now 0) t.bindings)
+        (Q.shows conn.old) (Q.shows conn.new) result }
+    ensures whole { result ≢ Err ReadFault.Broken }
+{
+    let rows = conn.ask(
+        "SELECT template FROM binding WHERE service = ?1 AND run = 0 ORDER BY rowid",
+        params![service.as_str()],
+    )?;
+    Ok(!rows.is_empty())
+}

@@ -1,0 +1,21 @@
+use Rattle.std.proofs.Common.{arith, [], ◌∷◌, ◌++◌}
+use Rattle.sqlite.specs.Held.{state}
+use Rattle.sqlite.specs.State.{HasCleanDisk}
+use Rattle.canary_tables_schema.specs.First.{first_schema}
+use Rattle.canary_tables_schema.specs.Layout.{moved}
+use Rattle.canary_tables_schema.specs.Schema.{schema_at}
+use Rattle.canary_tables_schema.specs.Remakes.{without_lines, without_measurements, first_unindexed, without_template, without_tally, moved_with_revision, moved_with_binding, moved_tables, moved_runs_indexed, moved_measurements_indexed, old_trees, new_trees}
+use Rattle.canary_tables_schema.proofs.Remaking.{joined, joined_ok}
+use Rattle.canary_tables_schema.proofs.RemakingTexts.{adds_revision, adds_binding, adds_tally}
+use Rattle.canary_tables_schema.proofs.remake.add_new.Goals as goal
+
+pub returns-clause-made : goal.returns-clause-made
+returns-clause-made g c clean live is =
+    let clean1 : HasCleanDisk (state g.S.Store c.add_table-2.new.tx.conn.now) = omega (arith, c.add_table-3.ensures.survives.clean, clean) in
+    let clean0 : HasCleanDisk (state g.S.Store c.add_table.new.tx.conn.now) = omega (arith, c.add_table-2.ensures.survives.clean, clean1) in
+    let step0 = c.in_ok-add_table.ensures.made without_tally moved_with_revision old_trees 17 adds_revision clean0 live is in
+    let so0 = step0 in
+    let step1 = c.in_ok-add_table-2.ensures.made moved_with_revision moved_with_binding (old_trees ++ (17 ∷ [])) 19 adds_binding clean1 so0.live so0.schema in
+    let so1 = joined moved_with_revision moved_with_binding old_trees (17 ∷ []) (19 ∷ []) (state g.S.Store c.args.tx.now.conn.now) (state g.S.Store c.add_table.new.tx.conn.now) (state g.S.Store c.add_table-2.new.tx.conn.now) so0 step1 in
+    let step2 = c.add_table-3.ensures.made moved_with_binding moved_tables (old_trees ++ (17 ∷ 19 ∷ [])) 21 adds_tally clean so1.live so1.schema in
+    joined_ok c.add_table-3.result moved_with_binding moved_tables old_trees (17 ∷ 19 ∷ []) (21 ∷ []) (state g.S.Store c.args.tx.now.conn.now) (state g.S.Store c.add_table-2.new.tx.conn.now) (state g.S.Store c.add_table-3.new.tx.conn.now) so1 step2
