@@ -14,7 +14,7 @@
 
 enum { CALLER, KEPT, SERVICE, LINE, KEPT_TICK, KEPT_REPORT, MEASUREMENT, TALLY, STATEMENTS };
 /* The last one is asked before a start alone, which is each fourth request. */
-enum { SETTLED, STANDING, BOUND, OPEN_RUNS, IS_THERE, IS_BOUND, QUERIES };
+enum { SETTLED, STANDING, BOUND, OPEN_RUNS, IS_BOUND, QUERIES };
 
 static const char *SCHEMA =
     "CREATE TABLE caller (name TEXT NOT NULL PRIMARY KEY, settled INTEGER NOT NULL) STRICT;"
@@ -91,11 +91,9 @@ static const char *QUERY_TEXTS[QUERIES] = {
     "SELECT run, template, revision FROM binding WHERE service = ?1 AND run = 0 ORDER BY rowid",
     "SELECT number, step, started, closed, outside, verdict FROM run"
     " WHERE service = ?1 ORDER BY closed LIMIT 3",
-    "SELECT name FROM service WHERE name = ?1 ORDER BY rowid",
     "SELECT template FROM binding WHERE service = ?1 AND run = 0 ORDER BY rowid",
 };
-static const char *ASKED[QUERIES] = {"ops",      "checkout", "checkout",
-                                     "checkout", "checkout", "checkout"};
+static const char *ASKED[QUERIES] = {"ops", "checkout", "checkout", "checkout", "checkout"};
 
 static sqlite3 *db;
 

@@ -12,11 +12,11 @@ from story_words import B, Wrong, command, expect, put
 
 ERASED = b"\r\x1b[K"
 CLEARED = b"\x1b[H\x1b[2J"
-# The rows of the desk that cli.py makes: five receipts; the bindings of the attempt and of its run;
-# a run, its tally and its measurement; five lines of web, one of them on the run, and one of help.
-DESK_ROWS = 16
-# The rows of a desk whose one caller adds so many revisions: their receipts.
-RECEIPTS = 260
+# The rows of a desk whose one caller adds so many revisions: their receipts, of which so many are
+# judged at once.
+RECEIPTS, PAGE = 260, 256
+# The bytes of a log in which is no frame.
+LOG, MEGABYTE = 99_000_000, 1_000_000
 HEADER = b"caller,number,service,run,metric,ordinal,taken,result,failure\n"
 MADE = b"canary: made new.db, since there was no such file\n"
 
@@ -65,22 +65,22 @@ def counts(row, shown, line):
     if not re.fullmatch(form, shown):
         raise Wrong(f"{row}: it showed {shown!r}")
     found = [int(count) for count in re.findall(line, shown)]
-    if found != sorted(set(found)):
+    if found != sorted(found):
         raise Wrong(f"{row}: it counted {found}")
     return found
 
 
 def judged(row, shown):
-    """What is shown after the judging of the desk's rows: the receipts of a caller, of which 256 at
-    most are judged at once, four of ops and one of agent; then service by service, web and help."""
+    """What is shown after the judging of the desk's file, of less than a megabyte: the line is drawn
+    behind the receipts of ops and of agent, and then behind each service, web and help."""
     end = shown.find(ERASED) + len(ERASED)
-    found = counts(row, shown[:end], rb"canary: (\d+) of %d rows judged" % DESK_ROWS)
-    expect(f"{row}: rows judged", found, [4, 5, 15, DESK_ROWS])
+    found = counts(row, shown[:end], rb"canary: (\d+) of 1 MB judged")
+    expect(f"{row}: megabytes judged", found, [0, 0, 0, 0])
     return shown[end:]
 
 
 def try_judging(program, place):
-    """The judging of a desk's rows is shown, and the output is as if it were not."""
+    """The judging of a desk's file is shown, and the output is as if it were not."""
     rows = (["history", "--db", "desk.db", "web"], ["status", "--db", "desk.db"],
             ["export", "--db", "desk.db", "--caller", "agent", "web"])
     for words in rows:
@@ -94,21 +94,26 @@ def try_judging(program, place):
 
 
 def try_pages(program, place):
-    """The receipts of a caller who has more than 256 are judged in pages, each counted once."""
+    """The receipts of a caller who has more than 256 are judged in pages, each counted once. What is
+    judged is shown as as large a share of the bytes of the file and its log as of its rows."""
     sent = [put("ops", number, command("template errs m,interval=60"))
             for number in range(1, RECEIPTS + 1)]
     made = subprocess.run([program, "pipe", "--at", str(B), "--step", "1", "--db", "pages.db"],
                           input=b"".join(sent), cwd=place, timeout=60, capture_output=True)
     expect("a caller of many requests", made.stdout.count(b"HTTP/1.1 200 OK"), RECEIPTS)
+    with open(os.path.join(place, "pages.db-wal"), "wb") as log:
+        log.truncate(LOG)
+    size = os.path.getsize(os.path.join(place, "pages.db")) + LOG
     words = ["status", "--db", "pages.db"]
     _, shown = run_showing(program, words, place)
-    found = counts(words, shown, rb"canary: (\d+) of %d rows judged" % RECEIPTS)
-    expect(f"{words}: rows judged", found, [256, RECEIPTS])
+    found = counts(words, shown, rb"canary: (\d+) of %d MB judged" % -(-size // MEGABYTE))
+    expect(f"{words}: megabytes judged", found,
+           [size * PAGE // RECEIPTS // MEGABYTE, size // MEGABYTE])
     return 1
 
 
 def try_drawing(program, place):
-    """How many services of a page are drawn is shown, behind the judging of the desk's rows."""
+    """How many services of a page are drawn is shown, behind the judging of the desk's file."""
     words = ["page", "--db", "desk.db", "desk.html"]
     written, shown = run_showing(program, words, place)
     expect(words, written, b"")

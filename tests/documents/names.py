@@ -5,14 +5,20 @@
 - a name in backquotes that is written as code is (`is_broken`, `BookState`) stands in some source,
   script, test or example of the repository, or is one of another's (NOT_OURS)
 - the first line of each file of specs/ and proofs/ says what it is about
-- a module of proofs/ that another crate cites stands in the first table of docs/ARCHITECTURE.md"""
+- a module of proofs/ that another crate cites stands in the first table of docs/ARCHITECTURE.md,
+  and on the page of its crate; such a module alone is `pub mod`"""
 import re
 
 CRATE = re.compile(r"(?<![\w/.-])(canary_[a-z_]+)\b(?!/)")
 IN_CRATE = re.compile(r"(?<![\w/])(canary_\w+)::(\w+)(?:::(\w+))?(?:::(\w+))?")
 # Words with an underscore or with a capital inside.
 NAME = re.compile(r"[A-Za-z]\w*_\w+|[A-Z]?[a-z]+[A-Z]\w+|[A-Z][a-z]\w*[A-Z]\w*")
-CITED = re.compile(r"^use Rattle\.(canary_\w+)\.proofs\.(\w+)", re.MULTILINE)
+# How a file cites a module of proofs, by its suffix.
+CITED = {
+    ".antt": re.compile(r"^use Rattle\.(canary_\w+)\.proofs\.(\w+)", re.MULTILINE),
+    ".rt": re.compile(r"\b(canary_\w+)::proofs::(\w+)"),
+}
+PUBLIC = re.compile(r"^pub mod (\w+)$")
 EXCEPTIONS = "docs/ARCHITECTURE.md"
 SOURCES = ("crates", "tests", "bench", "examples", ".ci")
 # Programs that are built beside the crates.
@@ -85,19 +91,40 @@ def faults_of_heads(root):
                 yield file.relative_to(root).as_posix(), 1, "its first line does not say what it is"
 
 
-def faults_of_exceptions(root):
+def citations(root):
+    """Each module of proofs that another crate cites, as the file, the crate and its module."""
+    for suffix, form in CITED.items():
+        for file in sorted((root / "crates").glob(f"*/*/**/*{suffix}")):
+            name = file.relative_to(root)
+            for other, module in form.findall(file.read_text(encoding="utf-8")):
+                if other != name.parts[1]:
+                    yield name.as_posix(), other, module
+
+
+def faults_of_exceptions(root, cited):
     """The modules of proofs that another crate cites, and the table of these does not have."""
     text = (root / EXCEPTIONS).read_text(encoding="utf-8")
     rows = [line.strip("| ").split(" | ") for line in text.split("\n")
             if line.startswith("| canary_")]
     named = {(crate, module) for cells in rows for crate in re.findall(r"canary_\w+", cells[0])
              for module in re.split(r", ", cells[1])}
-    for file in sorted((root / "crates").glob("*/*/**/*.antt")):
-        crate = file.relative_to(root).parts[1]
-        for other, module in CITED.findall(file.read_text(encoding="utf-8")):
-            if other != crate and (other, module) not in named:
-                name = file.relative_to(root).as_posix()
-                yield name, 1, f"{EXCEPTIONS} does not say that it cites {module} of {other}"
+    for name, other, module in cited:
+        if (other, module) not in named:
+            yield name, 1, f"{EXCEPTIONS} does not say that it cites {module} of {other}"
+
+
+def faults_of_public(root, cited):
+    """The modules of proofs that are public for nobody, and those that their page does not name."""
+    modules = {(other, module) for _, other, module in cited}
+    for file in sorted((root / "crates").glob("*/proofs/Lib.antt")):
+        crate, name = file.parent.parent, file.relative_to(root).as_posix()
+        page = (crate / "README.md").read_text(encoding="utf-8")
+        for number, line in enumerate(file.read_text(encoding="utf-8").split("\n"), 1):
+            for module in PUBLIC.findall(line):
+                if (crate.name, module) not in modules:
+                    yield name, number, f"no other crate cites {module}, so it is no `pub mod`"
+                elif f"proofs/{module}" not in page:
+                    yield name, number, f"the crate's page does not name proofs/{module}"
 
 
 def faults_of(root, files, pages):
@@ -109,4 +136,6 @@ def faults_of(root, files, pages):
             yield from faults_of_crates(root, name, page)
             yield from faults_of_code(name, page, words)
     yield from faults_of_heads(root)
-    yield from faults_of_exceptions(root)
+    cited = list(citations(root))
+    yield from faults_of_exceptions(root, cited)
+    yield from faults_of_public(root, cited)

@@ -80,13 +80,21 @@ def names_used(line):
     brought = {}
     for item in match[3].split(",") if match else ():
         there, _, here = item.strip().partition(" as ")
-        brought[here or there] = ((match[1], match[2]), there)
+        brought[here or there] = ((match[1], without_folder(match[1], match[2])), there)
     return brought
 
 
+def without_folder(crate, module):
+    """The module of a path in specs/, without the folder in which its file stands."""
+    folder, _, rest = module.partition(".")
+    file = ROOT / "crates" / crate / "specs" / folder / f"{rest.partition('.')[0]}.antt"
+    return rest if rest and file.exists() else module
+
+
 def read_modules():
-    paths = sorted((ROOT / "crates").glob("*/specs/*.antt"))
-    modules = (Module(path.parent.parent.name, path) for path in paths)
+    crates = ROOT / "crates"
+    paths = sorted(crates.glob("*/specs/**/*.antt"))
+    modules = (Module(path.relative_to(crates).parts[0], path) for path in paths)
     return {module.key: module for module in modules}
 
 

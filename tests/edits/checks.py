@@ -8,16 +8,22 @@ import subprocess
 import tempfile
 import threading
 
-# What a check came to: its status, what it said, and its seconds of a processor.
-Ran = collections.namedtuple("Ran", "status lines seconds")
+# What a check came to: its status, what it said, its seconds of a processor, the memory that it
+# took, and whether it was killed beside proofs, most likely for memory.
+Ran = collections.namedtuple("Ran", "status lines seconds memory is_lost")
 
 NO_END = 124
-# A check that waits for others takes longer by the clock than by its processor.
-CLOCK = 4
+# A check that waits for others takes longer by the clock than by its processor; and one that begins
+# in idle time waits for the proofs.
+CLOCK, CLOCK_IDLE = 4, 12
 
 
 class Stopped(Exception):
     """Nothing more can be tried, for a reason that lies in no bug."""
+
+
+class Ended(Stopped):
+    """Nothing more is wanted."""
 
 
 def copied(crate, parts, room, texts, gone):
@@ -33,31 +39,40 @@ def copied(crate, parts, room, texts, gone):
             it.write(text)
 
 
-def room_for(crate):
-    """A new folder for a copy of the crate, where no other check looks."""
-    os.makedirs(f"{crate.folder}/out", exist_ok=True)
-    return tempfile.TemporaryDirectory(prefix=f"together-{os.getpid()}-", dir=f"{crate.folder}/out")
+def room_in(folder):
+    """A new folder for a copy of a crate, where no other check looks."""
+    os.makedirs(folder, exist_ok=True)
+    return tempfile.TemporaryDirectory(prefix=f"together-{os.getpid()}-", dir=folder)
 
 
-def run(words, room, log, limit):
+def run(words, room, log, limit, turn=None):
     """Runs the words in the folder `room`; what they say goes to the file `log`. They end after so
-    many seconds of a processor, also on a busy machine."""
+    many seconds of a processor, also on a busy machine. If it is some `turn`, that says how."""
+    is_idle = turn is not None and turn.is_idle
 
-    def limit_time():
+    def begin():
         resource.setrlimit(resource.RLIMIT_CPU, (limit, limit + 5))
+        if is_idle:
+            turn.begin_idle()
 
     with open(log, "w+", encoding="utf-8", errors="replace") as said:
         # pylint: disable=subprocess-popen-preexec-fn, consider-using-with
         ran = subprocess.Popen(words, cwd=room, stdin=subprocess.DEVNULL, stdout=said,
-                               stderr=subprocess.STDOUT, preexec_fn=limit_time)
-        clock = threading.Timer(CLOCK * limit, ran.kill)
+                               stderr=subprocess.STDOUT, preexec_fn=begin)
+        clock = threading.Timer((CLOCK_IDLE if is_idle else CLOCK) * limit, ran.kill)
         clock.start()
+        if turn:
+            turn.begin(ran)
         _, status, used = os.wait4(ran.pid, 0)
         clock.cancel()
         ran.returncode = status = os.waitstatus_to_exitcode(status)
+        seconds = used.ru_utime + used.ru_stime
+        if turn:
+            turn.end(seconds)
         said.seek(0)
         text = said.read()
         said.write(f"\nstatus {status}\n")
+    is_lost = is_idle and status == -signal.SIGKILL
     if status in (-signal.SIGXCPU, -signal.SIGKILL):
         status, text = NO_END, f"no end within {limit} seconds, or no memory"
-    return Ran(status, text.rstrip("\n").split("\n"), used.ru_utime + used.ru_stime)
+    return Ran(status, text.rstrip("\n").split("\n"), seconds, 1024 * used.ru_maxrss, is_lost)

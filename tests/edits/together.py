@@ -40,9 +40,7 @@ def words_given(words):
     made.add_argument("--limit", type=int, default=900,
                       help="processor seconds of a check, at most")
     made.add_argument("crates", nargs="*", metavar="CRATE[/EDIT]", help="these alone")
-    given = made.parse_intermixed_args(words)
-    given.until = None
-    return given
+    return made.parse_intermixed_args(words)
 
 
 def tried(crate, names, given, rt, root):

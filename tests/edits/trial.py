@@ -1,5 +1,6 @@
 """Tries planted bugs of one crate, many in one check: see tests/edits/together."""
 import collections
+import contextlib
 import os
 import time
 
@@ -24,42 +25,51 @@ class Trial:
     """The source of a crate, and what came of those of its planted bugs that were tried.
 
     A lean trial cuts off the functions that no bug of a group changes, and checks the others alone.
-    Else a check reads the whole crate, over a copy by links of what its own check kept."""
+    Else a check reads the whole crate, over a copy by links of what its own check kept. Each check
+    waits for its `turn`, if that is given."""
 
-    def __init__(self, crate, rt, logs, given):
-        self.crate, self.kit_rt = crate, rt
-        self.limit, self.is_lean, self.until = given.limit, given.lean, given.until
+    def __init__(self, crate, rt, logs, given, turn=contextlib.nullcontext, kept=None):
+        self.crate, self.kit_rt, self.turn = crate, rt, turn
+        self.limit, self.is_lean = given.limit, given.lean
         self.source = planting.Source(crate.folder)
         self.logs = f"{logs}/{crate.name}"
-        # What the checks of a lean trial keep for one another.
-        self.kept = f"{crate.folder}/out/of-cut/{os.path.basename(logs)}"
-        self.checks, self.seconds, self.verdicts, self.is_done = 0, 0.0, {}, False
+        # What the checks of a lean trial keep for one another, and where they run.
+        of_cut = f"of-cut/{os.path.basename(logs)}"
+        self.kept = f"{kept}/{of_cut}/{crate.name}" if kept else f"{crate.folder}/out/{of_cut}"
+        self.room = kept or f"{crate.folder}/out"
+        self.checks, self.seconds, self.memory = 0, 0.0, 0
+        self.verdicts, self.is_done = {}, False
         for folder in (self.logs, self.kept) if given.lean else (self.logs,):
             os.makedirs(folder, exist_ok=True)
 
     def check(self, log, texts, flags=(), gone=(), kept=None):
         """Checks the crate with these texts and without the folders `gone`, over what is in the
-        folder `kept`, if it is given."""
-        if self.until and time.monotonic() > self.until:
-            raise checks.Stopped("there was no time left")
+        folder `kept`, if it is given. One that is lost is run again."""
+        while (ran := self.ran(log, texts, flags, gone, kept)).is_lost:
+            pass
+        # The prover stopped and judged nothing, and says why.
+        errors = [it for it in ran.lines if ran.status == 2 and it.startswith("rattle: error")]
+        return errors or ran.lines
+
+    def ran(self, log, texts, flags, gone, kept):
+        """What a check came to."""
         rtlib = self.kit_rt.rtlib
-        with checks.room_for(self.crate) as room:
+        with self.turn() as turn, checks.room_in(self.room) as room:
             checks.copied(self.crate, rtlib.PARTS, room, texts, gone)
             words = self.crate.words(["--jobs", "1", *flags], keeps=False)
             words += ["--incremental", kept] if kept else []
             words = [*rtlib.guarded(), rtlib.RATTLE, "check", *words]
-            ran = checks.run(words, room, f"{self.logs}/{log}.log", self.limit)
+            ran = checks.run(words, room, f"{self.logs}/{log}.log", self.limit, turn)
         self.checks, self.seconds = self.checks + 1, self.seconds + ran.seconds
-        # The prover stopped and judged nothing, and says why.
-        errors = [it for it in ran.lines if ran.status == 2 and it.startswith("rattle: error")]
-        return errors or ran.lines
+        self.memory = max(self.memory, ran.memory)
+        return ran
 
     def check_whole(self, edit):
         """What a check of the whole crate with one bug says."""
         texts = self.source.planted([edit])
         if self.is_lean:
             return self.check(edit.name, texts)
-        with checks.room_for(self.crate) as room:
+        with checks.room_in(self.room) as room:
             kit.link(f"{self.crate.folder}/out/incremental", f"{room}/kept")
             return self.check(edit.name, texts, kept=f"{room}/kept")
 
@@ -69,7 +79,7 @@ class Trial:
         copy."""
         kept = {it for edit in edits for it in edit.changed} | set(also)
         if not self.is_lean:
-            with checks.room_for(self.crate) as room:
+            with checks.room_in(self.room) as room:
                 kit.link(f"{self.crate.folder}/out/incremental", f"{room}/kept")
                 texts, flags = self.source.planted(edits), words_only(kept, laws)
                 return self.check(log, texts, flags, kept=f"{room}/kept")
@@ -239,4 +249,5 @@ class Trial:
         """How many of the bugs came to what, and how long that took."""
         counts = collections.Counter(verdict for verdict, _, _ in self.verdicts.values())
         told = ", ".join(f"{count} {verdict}" for verdict, count in counts.most_common())
-        return f"{told or 'none tried'}; {self.checks} checks, {self.seconds:.0f} s of a processor"
+        used = f"{self.seconds:.0f} s of a processor, at most {self.memory / 1e9:.1f} GB"
+        return f"{told or 'none tried'}; {self.checks} checks, {used}"

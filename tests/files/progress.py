@@ -15,9 +15,10 @@ from story_words import Wrong, command, expect, put
 
 # So many requests of each of so many callers, and so many services, with a line of a history each.
 CALLERS, EACH, SERVICES = 20, 3, 20
-ROWS = CALLERS * EACH + 2 * SERVICES
-# The milliseconds before the first line, and from one to the next.
-QUIET, BETWEEN = 2_000, 1_000
+# A log of so many bytes, none of which is a frame, so that there are megabytes to be judged.
+LOG, MEGABYTE = 4_900_000, 1_000_000
+# The milliseconds before a line that is the first, or comes behind another one.
+BETWEEN = 1_000
 # The milliseconds from one reading of the clock to the next: rows are judged in 41 parts, and of a
 # measurement file the clock is read once for a megabyte.
 STEP, STEP_OF_BYTES, QUICK = 400, 1_100, 10
@@ -26,9 +27,9 @@ LIMIT = 120
 # A measurement file of almost 4 MB, whose rows are too long to be read.
 LONG_ROWS = 39
 HEADER = b"caller,number,service,run,metric,ordinal,taken,result,failure\n"
-JUDGED, READ, DRAWN = ("rows judged", ROWS), ("MB read", 4), ("services drawn", SERVICES)
+JUDGED, READ, DRAWN = ("MB judged", 5), ("MB read", 4), ("services drawn", SERVICES)
 WRITTEN = re.compile(r"([12]) (\d+)\n((?:(?![12] \d+\n).*\n)*)")
-LINE = re.compile(r"canary: (\d+) of (\d+) (rows judged|MB read|services drawn)\n")
+LINE = re.compile(r"canary: (\d+) of (\d+) (MB judged|MB read|services drawn)\n")
 SERVE = ["serve", "--listen", "127.0.0.1:0", "--connections", "1", "--db", "desk.db"]
 
 
@@ -41,6 +42,8 @@ def make_desk(program, folder):
     words = [program, *STILL_AT_B, "--db", os.path.join(folder, "desk.db")]
     done = subprocess.run(words, input=b"".join(asked), timeout=LIMIT, capture_output=True)
     expect("a desk", done.stdout.count(b"HTTP/1.1 200 OK"), len(asked))
+    size = os.path.getsize(os.path.join(folder, "desk.db")) + LOG
+    expect("megabytes, the last one begun", -(-size // MEGABYTE), JUDGED[1])
     with open(os.path.join(folder, "rows.csv"), "wb") as rows:
         rows.write(HEADER + LONG_ROWS * (100_000 * b"x" + b"\n"))
 
@@ -54,6 +57,8 @@ class Case:
         os.mkdir(self.place)
         for name in ("desk.db", "rows.csv"):
             shutil.copy(os.path.join(above, name), self.place)
+        with open(os.path.join(self.place, "desk.db-wal"), "wb") as log:
+            log.truncate(LOG)
         self.log = os.path.join(self.place, "written")
 
     def run(self, words, errors=subprocess.PIPE, step=STEP, closed=False):
@@ -98,7 +103,7 @@ class Case:
     def check(self, wanted, step):
         """The lines on standard error count these, one behind the other, and each comes as soon as
         it may."""
-        parts, due = [], step + QUIET
+        parts, due = [], step + BETWEEN
         for moment, text in [call[1:] for call in self.calls() if call[0] == 2]:
             line = LINE.fullmatch(text)
             if line is None or moment < due:
@@ -122,7 +127,7 @@ class Case:
             raise Wrong(f"{self.row}: a line comes when the desk listens")
 
     def try_quick(self):
-        """No line of what takes less than two seconds."""
+        """No line of what takes less than a second."""
         self.run(SERVE, step=QUICK)
         expect(f"{self.row}: its lines", [call for call in self.calls() if call[0] == 2], [])
 

@@ -1,8 +1,8 @@
 """How much memory a desk takes for what it keeps of its file: rooms.py PROGRAM FOLDER. With
 `--cache` in different sizes, and each time in a new file, a desk registers services of 64 steps.
 Then services grow as their releases begin: each step is analysed by a template of several metrics.
-Last, 100 callers send long commands, of which each receipt has one. No clause says how much memory
-a program takes."""
+100 callers send long commands, of which each receipt has one. Last, histories are asked for, and
+grow. No clause says how much memory a program takes."""
 import json
 import os
 import re
@@ -11,7 +11,7 @@ import sys
 import time
 
 from conversation import STILL_AT_B
-from story_words import Wrong, put
+from story_words import Wrong, get, put, query
 
 SERVICES, STEPS = 1_500, 64
 # The least bytes that 64 steps take in memory.
@@ -19,7 +19,9 @@ LEAST = 1_024
 # Releases that begin, and the metrics of each step; callers, and the long commands of each.
 RELEASES, METRICS = 60, 8
 CALLERS, COMMANDS, CONDITIONS, LONG = 100, 2, 30, 1_000
-# The room of the releases and the callers, of which services have a half and receipts an eighth.
+# Services with long histories, and the releases of each, of which each tells a line for each step.
+TOLD, PASSED = 80, 16
+# The room of these, of which services have three eighths, and receipts and histories an eighth each.
 ROOM = 2 << 20
 SECONDS = 300
 ACCEPTED = b"HTTP/1.1 200 "
@@ -63,6 +65,19 @@ def long_commands():
                for at in range(CONDITIONS)]
     return [template(f"c{caller}", number, "long", metrics) for caller in range(CALLERS)
             for number in range(1, COMMANDS + 1)]
+
+
+def histories():
+    """Services whose releases end at once; the history of each is asked for once it has begun, and
+    then it grows."""
+    steps, sent, number = [{"setWeight": weight} for weight in range(STEPS)], [], 0
+    for at in range(TOLD):
+        sent.append(registration(number := number + 1, f"s{at}", steps))
+        sent.append(get(query(f"history s{at}")))
+        for release in range(PASSED):
+            start = {"start": {"service": f"s{at}", "version": f"v{release + 2}"}}
+            sent.append(request("ops", number := number + 1, start))
+    return sent
 
 
 def most_memory(process):
@@ -129,6 +144,7 @@ def main():
         try_services(program, folder)
         try_room(program, folder, "services that grow", releases())
         try_room(program, folder, f"receipts of {CALLERS} callers", long_commands())
+        try_room(program, folder, "histories that grow", histories())
     except (Wrong, subprocess.TimeoutExpired) as fault:
         sys.exit(f"files: {fault}")
 

@@ -8,11 +8,11 @@ from story_words import B
 
 AT_B = ["pipe", "--at", str(B), "--step", "1"]
 STILL_AT_B = ["pipe", "--at", str(B), "--step", "0"]
-PROGRESS = re.compile(rb"canary: \d+ (?:of \d+ )?(?:rows judged|MB read|services drawn)\n")
+PROGRESS = re.compile(rb"canary: \d+ (?:of \d+ )?(?:MB judged|MB read|services drawn)\n")
 
 
 def without_progress(errors):
-    """What standard error has but for the lines of a program that takes more than two seconds, as it
+    """What standard error has but for the lines of a program that takes more than a second, as it
     may on a slow machine."""
     return PROGRESS.sub(b"", errors)
 

@@ -14,7 +14,12 @@ fail() {
 # Standard input has to be a redirection of the call.
 run_guarded() {
     "$@" <&0 &
-    guarded=$!
+    wait_guarded $!
+}
+
+# Waits for the process $1, which this shell has begun, and ends it if this script is told to end.
+wait_guarded() {
+    guarded=$1
     guard
     local status=0
     wait "$guarded" || status=$?

@@ -88,7 +88,8 @@ def stamp_libraries(crates, since):
     """Says of each library that `rt ci` has built of these sources since that second that it is
     built of them: `rt ci` leaves it with no stamp, so other commands would not take it."""
     for crate in crates:
-        stamp = f"{crate.folder}/out/rlib/stamp"
-        if os.path.isdir(crate.rlib) and os.stat(crate.rlib).st_mtime >= since:
-            with open(stamp, "w", encoding="utf-8") as file:
+        folder = f"{crate.folder}/out/rlib"
+        library = f"{folder}/{crate.name}.rlib"
+        if os.path.isdir(library) and os.stat(library).st_mtime >= since:
+            with open(f"{folder}/stamp", "w", encoding="utf-8") as file:
                 file.write(crate.stamp())

@@ -4,6 +4,7 @@ import subprocess
 from contextlib import closing
 from datetime import datetime, timezone
 
+from conversation import without_progress
 from first import (
     body_of, bytes_of, connect, fail, in_order, migrated, rows_of, schema_after, schema_of,
 )
@@ -13,13 +14,14 @@ SECONDS = 600
 
 
 def told(program, *words, text=b"", output=subprocess.PIPE, front=(), first=None):
-    """The exit status of a program, its standard output and its standard error."""
+    """The exit status of a program, its standard output, and its standard error but for lines that
+    say how far a slow one is."""
     try:
         done = subprocess.run([*front, program, *words], input=text, stdout=output,
                               stderr=subprocess.PIPE, timeout=SECONDS, preexec_fn=first)
     except subprocess.TimeoutExpired:
         fail(f"{words} does not end within {SECONDS} seconds")
-    return done.returncode, done.stdout, done.stderr
+    return done.returncode, done.stdout, without_progress(done.stderr)
 
 
 def migrate(program, file, *words, **more):

@@ -11,7 +11,7 @@ import subprocess
 import time
 
 import stories
-from conversation import limits_writes
+from conversation import limits_writes, without_progress
 
 LIMIT = 300
 AT = stories.AT
@@ -47,10 +47,10 @@ def value_in(path):
 
 
 def tried(program, *words, **more):
-    """The exit status and the standard error of `page`."""
+    """The exit status of `page`, and its standard error but for lines that say how far it is."""
     done = subprocess.run([program, "page", *words], stdout=subprocess.DEVNULL,
                           stderr=subprocess.PIPE, timeout=LIMIT, check=False, **more)
-    return done.returncode, done.stderr
+    return done.returncode, without_progress(done.stderr)
 
 
 DONE, REFUSED = (0, b""), (1, b"canary: file\n")

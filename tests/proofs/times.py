@@ -1,6 +1,8 @@
-"""Where the time of proofs goes, by crate: times.py ROOT COMMAND.. runs a command and looks, each
-second, at the checks of the prover below it. What they took is in tests/proofs/out/times, of which
-`tests/proofs/prove --times` prints a table."""
+"""Where the time of proofs goes, by crate: times.py ROOT [--told FOLDER] COMMAND.. runs a command
+and looks, each second, at the checks of the prover below it. What they took is in
+tests/proofs/out/times, of which `tests/proofs/prove --times` prints a table. The files of FOLDER
+tell others of the command: `process` has its number, `lines` has what it has printed on standard
+output so far, and `status` comes once it has ended."""
 import collections
 import contextlib
 import os
@@ -142,14 +144,51 @@ def tell_chain(proofs, last):
         link = under
 
 
+def hand_on(ran, file):
+    """Hands on what a process prints, line by line, to standard output and to a file."""
+    with open(file, "wb", buffering=0) as lines:
+        for line in ran.stdout:
+            # The file comes last: whoever reads it may print beside standard output.
+            with contextlib.suppress(OSError):
+                sys.stdout.buffer.write(line)
+                sys.stdout.buffer.flush()
+            lines.write(line)
+
+
+def write(file, number):
+    """Writes a number to a file, all at once."""
+    with open(f"{file}.new", "w", encoding="utf-8") as out:
+        out.write(f"{number}\n")
+    os.replace(f"{file}.new", file)
+
+
+def ended(ran, folder):
+    """The status of a process, once it has ended; the files of the folder, if one is given, tell of
+    it."""
+    if not folder:
+        return ran.wait()
+    write(f"{folder}/process", ran.pid)
+    thread = threading.Thread(target=hand_on, args=(ran, f"{folder}/lines"), daemon=True)
+    thread.start()
+    status = ran.wait()
+    # Something that it has started may still hold its standard output.
+    thread.join(10)
+    write(f"{folder}/status", status)
+    return status
+
+
 def main():
     """Runs a command under a watch. A signal that would end this ends the command."""
     root, *words = sys.argv[1:]
-    with subprocess.Popen(words, stdin=subprocess.DEVNULL) as ran:
+    folder = None
+    if words[0] == "--told":
+        _, folder, *words = words
+    out = subprocess.PIPE if folder else None
+    with subprocess.Popen(words, stdin=subprocess.DEVNULL, stdout=out) as ran:
         for it in (signal.SIGTERM, signal.SIGINT, signal.SIGHUP):
             signal.signal(it, lambda number, _: ran.send_signal(number))
         with watched(ran.pid, f"{root}/{FILE}"):
-            status = ran.wait()
+            status = ended(ran, folder)
     return status if status >= 0 else 128 - status
 
 

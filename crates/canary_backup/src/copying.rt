@@ -11,7 +11,7 @@
 //! Whoever opens the copy reads these frames over the file, and has the commits up to the last one
 //! that the copied log has whole. A log that is missing, or too short for a header, has no frames,
 //! and no checkpoint writes the file before one was written: it has to be as short afterwards.
-ghost use Rattle.std.specs.Prelude.{◌≡◌};
+ghost use Rattle.std.specs.Prelude.{◌≡◌, ◌≢◌};
 ghost use Rattle.canary_backup.specs.declared.fault.BackupFault.TheVariants as fault;
 
 use crate::fault::BackupFault;
@@ -134,7 +134,8 @@ fn unfound(kind: ErrorKind) -> BackupFault
 
 /// Why the system refused a file: for want of memory, or for another cause.
 pub(crate) fn file_fault(kind: ErrorKind) -> BackupFault
-    ensures { kind ≡ ErrorKind.OutOfMemory → result ≡ fault.Memory }
+    ensures memory { kind ≡ ErrorKind.OutOfMemory → result ≡ fault.Memory }
+    ensures file { kind ≢ ErrorKind.OutOfMemory → result ≡ fault.File }
 {
     if kind == ErrorKind::OutOfMemory {
         BackupFault::Memory

@@ -1,10 +1,10 @@
 pub mod Items
-pub mod Members
-pub mod Kept
+mod Members
+mod Kept
 pub mod Regular
-pub mod Limits
-pub mod PlainData
-pub mod Backwards
-pub mod Canonicals
+mod Limits
+mod PlainData
+mod Backwards
+mod Canonicals
 mod Pieces
-pub mod Rows
+mod Rows

@@ -1,6 +1,6 @@
 //! Commands as a store keeps them: by their canonical text.
 ghost use Rattle.std.specs.Prelude.{◌≡◌, IfOk, Some};
-ghost use Rattle.canary_plan.specs.Commands.{same_command};
+ghost use Rattle.canary_plan.specs.Commands.{same_command, kind_of};
 ghost use Rattle.canary_canonical.specs.Texts.{command_text};
 ghost use Rattle.canary_canonical.specs.Readings.{canonical_in};
 ghost use Rattle.canary_canonical.specs.Reads.{IsRead};
@@ -10,26 +10,29 @@ use crate::reading::from_canonical;
 use crate::writing;
 use canary_base::error::Memory;
 use canary_base::lists::Text;
-use canary_plan::command::Command;
+use canary_plan::command::{Command, CommandKind};
 use canary_plan::laws;
 use std::alloc::Global;
 use std::marker::Model;
 
-/// A command, which contracts see as the command, and which holds its canonical text.
+/// A command, which contracts see as the command, and which holds its canonical text and its kind.
 #[derive(Drop)]
 pub struct CanonicalCommand {
     text: Text,
+    kind: CommandKind,
 }
 
 impl Model for CanonicalCommand {
+    ghost use Rattle.std.specs.Prelude.{◌≡◌};
     ghost use Rattle.canary_plan.specs.declared.command.Command.{Command};
+    ghost use Rattle.canary_plan.specs.Commands.{kind_of};
     ghost use Rattle.canary_canonical.specs.Readings.{command_of, IsCanonical};
 
     ghost Value = { Command };
 
     ghost view = { λ c. command_of c.text };
 
-    ghost invariant = { λ c. IsCanonical c.text };
+    ghost invariant = { λ c. IsCanonical c.text × (c.kind ≡ kind_of (command_of c.text)) };
 }
 
 impl CanonicalCommand {
@@ -38,7 +41,8 @@ impl CanonicalCommand {
         ensures { IfOk result (λ canonical. canonical ≡ command.now) }
     {
         let text = writing::text(alloc, command)?;
-        Ok(CanonicalCommand { text })
+        let kind = command.kind();
+        Ok(CanonicalCommand { text, kind })
     }
 
     /// The command with this text, which is kept.
@@ -48,8 +52,15 @@ impl CanonicalCommand {
     pub fn read(alloc: Global, text: Text) -> Result<CanonicalCommand, FormFault>
         ensures { IsRead (canonical_in text) result }
     {
-        let _command = from_canonical(alloc, text.as_str())?;
-        Ok(CanonicalCommand { text })
+        let kind = from_canonical(alloc, text.as_str())?.kind();
+        Ok(CanonicalCommand { text, kind })
+    }
+
+    /// What kind of command it is.
+    pub fn kind(&self) -> CommandKind
+        ensures { result ≡ kind_of self.now }
+    {
+        self.kind
     }
 
     /// Its canonical text.
@@ -65,8 +76,8 @@ impl CanonicalCommand {
     pub fn copy(&self, alloc: Global) -> Result<CanonicalCommand, Memory>
         ensures { IfOk result (λ copy. copy ≡ self.now) }
     {
-        let text = self.text.copy(alloc)?;
-        Ok(CanonicalCommand { text })
+        let (text, kind) = (self.text.copy(alloc)?, self.kind);
+        Ok(CanonicalCommand { text, kind })
     }
 
     /// Whether it is the same command, by the texts alone.

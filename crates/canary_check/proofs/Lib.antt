@@ -1,4 +1,4 @@
-pub mod Labels
-pub mod StandIns
-pub mod Texts
-pub mod Waited
+mod Labels
+mod StandIns
+mod Texts
+mod Waited

@@ -2,7 +2,7 @@
 use Rattle.std.proofs.Common.{◌≡◌, ℕ, List, Bool, true, false, Option, Result, Ok, Err, arith, refl, sym, ◌∙◌, codes}
 use Rattle.std.specs.Prelude.{◌&&◌, IsTrue}
 use Rattle.std.specs.Io.KnownBytes.{Appends}
-use Rattle.canary_wire.specs.Writes.{Known}
+use Rattle.canary_base.specs.Writes.{Known}
 use Rattle.canary_programs.specs.declared.fault.Fault.{Fault}
 use Rattle.canary_cli_words.specs.declared.words.Program.TheVariants.{Check}
 use Rattle.canary_cli.specs.declared.perform.ProgramExit.{ProgramExit}

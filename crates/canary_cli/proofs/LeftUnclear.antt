@@ -1,6 +1,6 @@
 -- What a program comes to whose words leave unclear what is asked.
 use Rattle.std.proofs.Common.{◌≡◌, Some, Ok, refl}
-use Rattle.canary_wire.specs.Writes.{Known}
+use Rattle.canary_base.specs.Writes.{Known}
 use Rattle.canary_cli_words.specs.declared.words.Program.{Program}
 use Rattle.canary_cli_words.specs.declared.words.Program.TheVariants.{Pipe, Serve, Import, History, Export, Status, Page, Backup, Migrate, Succeed, Check, Argo, Ask}
 use Rattle.canary_cli.specs.declared.perform.ProgramExit.TheVariants.{Unclear}

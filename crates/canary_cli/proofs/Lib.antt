@@ -1,4 +1,4 @@
-pub mod Served
-pub mod TurnedAway
-pub mod Checked
-pub mod LeftUnclear
+mod Served
+mod TurnedAway
+mod Checked
+mod LeftUnclear

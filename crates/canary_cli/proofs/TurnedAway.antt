@@ -3,7 +3,7 @@ use Rattle.std.proofs.Common.{◌≡◌, ℕ, [], Option, Some, None, Result, Ok
 use Rattle.std.specs.Prelude.{is_some, IfErr, IfOk}
 use Rattle.clap.specs.Words.{IsAmong, Kinds}
 use Rattle.clap.specs.declared.error.kind.ErrorKind.TheVariants.{DisplayHelp, DisplayVersion}
-use Rattle.canary_wire.specs.Writes.{Known}
+use Rattle.canary_base.specs.Writes.{Known}
 use Rattle.canary_cli_words.specs.declared.words.Program.{Program}
 use Rattle.canary_cli_words.specs.declared.words.WordsFault.{WordsFault}
 use Rattle.canary_cli_words.specs.declared.words.WordsFault.TheVariants.{Help, Usage, Memory}

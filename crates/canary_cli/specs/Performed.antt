@@ -4,9 +4,9 @@ use Rattle.std.specs.Io.KnownBytes.{Appends}
 use Rattle.clap.specs.Words.{Kinds, Text}
 use Rattle.canary_once.specs.Contents.{Contents, no_contents}
 use Rattle.canary_once.specs.Ticks.{TellsSteps}
-use Rattle.canary_wire.specs.Dispositions.{DeskState, desk_state}
+use Rattle.canary_once.specs.Messages.{DeskState, desk_state}
 use Rattle.canary_wire.specs.Serving.{ServesTo, ServesSome, ServesUntil}
-use Rattle.canary_wire.specs.Writes.{Known}
+use Rattle.canary_base.specs.Writes.{Known}
 use Rattle.canary_wire.specs.declared.serve.Ended.{Ended}
 use Rattle.canary_wire.specs.declared.serve.ServeFault.{ServeFault}
 use Rattle.canary_wire.specs.declared.serve.ServeFault.TheVariants.{Read, Write, Memory}

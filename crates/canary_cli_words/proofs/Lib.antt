@@ -1,5 +1,5 @@
-pub mod Walks
-pub mod Chains
-pub mod Given
-pub mod Getting
-pub mod Spelled
+mod Walks
+mod Chains
+mod Given
+mod Getting
+mod Spelled

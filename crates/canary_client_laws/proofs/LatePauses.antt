@@ -5,7 +5,7 @@ use Rattle.canary_plan.specs.declared.step.Step.TheVariants.{Pause}
 use Rattle.canary_release.specs.declared.state.ReleaseState.TheVariants.{InProgress}
 use Rattle.canary_release.specs.Evolutions.{Evolution, evolution_from}
 use Rattle.canary_release.specs.Desks.{new_service_state}
-use Rattle.canary_release.specs.Passing.{next_move, is_by, move_at, judged_at, with_last}
+use Rattle.canary_release.specs.Rules.Passing.{next_move, is_by, move_at, judged_at, with_last}
 use Rattle.canary_release.specs.Services.{step_of, is_pause}
 use Rattle.canary_release.specs.Watching.{no_runs}
 use Rattle.canary_release.proofs.Stories.{web, v1}

@@ -1,14 +1,14 @@
-pub mod Lists
-pub mod Receipts
-pub mod Drawn
-pub mod Replies
-pub mod Last
-pub mod Named
-pub mod Arriving
-pub mod Delivering
-pub mod Journaled
-pub mod Settled
-pub mod Rows
-pub mod DeliveryRows
-pub mod LatePauses
-pub mod Understood
+mod Lists
+mod Receipts
+mod Drawn
+mod Replies
+mod Last
+mod Named
+mod Arriving
+mod Delivering
+mod Journaled
+mod Settled
+mod Rows
+mod DeliveryRows
+mod LatePauses
+mod Understood

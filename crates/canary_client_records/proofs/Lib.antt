@@ -1,6 +1,6 @@
-pub mod Moments
+mod Moments
 mod TextLemmas
-pub mod Rests
+mod Rests
 mod Crash
 mod NewFiles
 mod Kept

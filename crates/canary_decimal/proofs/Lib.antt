@@ -1,11 +1,11 @@
 pub mod Alike
-pub mod Signs
+mod Signs
 pub mod Digits
-pub mod Tens
-pub mod Nearness
+mod Tens
+mod Nearness
 pub mod Scaling
-pub mod ReadsAll
-pub mod Shorts
-pub mod PointLemmas
-pub mod EndingLemmas
-pub mod EndingsApart
+mod ReadsAll
+mod Shorts
+mod PointLemmas
+mod EndingLemmas
+mod EndingsApart

@@ -1,4 +1,4 @@
-pub mod ReadingLemmas
-pub mod FrontLemmas
-pub mod OneReply
-pub mod AddressLemmas
+mod ReadingLemmas
+mod FrontLemmas
+mod OneReply
+mod AddressLemmas

@@ -21,12 +21,10 @@ use Rattle.canary_plan.specs.declared.report.Report.{Report as ReportRecord}
 use Rattle.canary_release.specs.declared.reply.Reply.{Reply}
 use Rattle.canary_once.specs.declared.book.Receipt.{Receipt}
 use Rattle.canary_once.specs.declared.event.Request.{Request}
-use Rattle.canary_once.specs.declared.event.Event.{Event}
 use Rattle.canary_once.specs.declared.event.Event.TheVariants as event
-use Rattle.canary_once.specs.declared.event.Answer.{Answer}
 use Rattle.canary_once.specs.declared.event.Answer.TheVariants.{Replied, Unavailable}
 use Rattle.canary_once.specs.Contents.{Contents, count_of, receipts_of, receipt_at, with_receipt, KeepsReceipts}
-use Rattle.canary_once.specs.Answers.{receipt_of, repeat_reply, reused_reply, ahead_reply, answer, answers_of, after, answered_events, replies_in}
+use Rattle.canary_once.specs.Answers.{receipt_of, repeat_reply, reused_reply, ahead_reply}
 use Rattle.canary_once.specs.Single.{request_of, new_reply, settle, reply_to, after_one}
 use Rattle.canary_once.specs.Laws.{RunsOn, OneRequest}
 use Rattle.canary_files.specs.declared.row.RowRefusal.{RowRefusal}
@@ -36,7 +34,9 @@ use Rattle.canary_files.specs.declared.answer.RowReply.{RowReply}
 use Rattle.canary_files.specs.declared.answer.RowReply.TheVariants.{Answered}
 use Rattle.canary_files.specs.Lines.{line_of, told_status, told_body}
 use Rattle.canary_files.specs.Rows.{if_number, number_in, word_in, row_with, row_of, report_of, field}
-use Rattle.canary_files.specs.RowExchanges.{Disposition, refused, no_memory, posted, told_of, IsDisposition, Exchange, IsExchange, rows_of, lines_from, event_in, answer_in, events_of, answers_in, DeskState, AnsweredInOrder, IsHandled, AreHandled}
+use Rattle.canary_once.specs.Messages.{rejected, no_memory, answered, DeskState, IsHandled, AreHandled}
+use Rattle.canary_once.proofs.MessageLemmas.{handled_in}
+use Rattle.canary_files.specs.RowExchanges.{RowDisposition, told_of, IsDisposition, RowExchange, IsExchange, rows_of, lines_from}
 use Rattle.canary_files.specs.Taking.{Fields}
 use Rattle.canary_files.specs.Importing.{AreDataRows}
 use Rattle.canary_files.specs.Again.{IsAhead, IsLasting, IsHeard, AllLasting, AllHeard, told_by, told_in, IsSettledBy, IsSettledRow, AreTold, TellsAfterwards, TellsSettled, SameLines, ImportsAgain}
@@ -178,23 +178,25 @@ told_kept c new keeps (Ok row) some h =
 -- ---- one row
 
 module _ (one : OneRequest) where
-  handled_keeps : (c mid : Contents) (o : Disposition) → IsHandled c o mid → KeepsReceipts c mid
-  handled_keeps c mid (refused refusal) h = λ q n k e. ap (λ t. receipt_at t q n) h ∙ e
+  handled_keeps : (c mid : Contents) (o : RowDisposition) → IsHandled c o mid → KeepsReceipts c mid
+  handled_keeps c mid (rejected refusal) h = λ q n k e. ap (λ t. receipt_at t q n) h ∙ e
   handled_keeps c mid no_memory h = λ q n k e. ap (λ t. receipt_at t q n) h ∙ e
-  handled_keeps c mid (posted r (Replied reply)) h = subst (KeepsReceipts c) (sym (h.1 ∙ (one c r).1)) (one_keeps c r)
-  handled_keeps c mid (posted r (Unavailable fault)) h = λ q n k e. ap (λ t. receipt_at t q n) h ∙ e
+  handled_keeps c mid (answered (event.Query at query) (Replied reply)) h = λ q n k e. ap (λ t. receipt_at t q n) h.1 ∙ e
+  handled_keeps c mid (answered (event.Request r) (Replied reply)) h = subst (KeepsReceipts c) (sym (h.1 ∙ (one c r).1)) (one_keeps c r)
+  handled_keeps c mid (answered it (Unavailable fault)) h = λ q n k e. ap (λ t. receipt_at t q n) h ∙ e
 
-  all_keep : (c new : Contents) (xs : List Exchange) → AreHandled c xs new → KeepsReceipts c new
+  all_keep : (c new : Contents) (xs : List RowExchange) → AreHandled c xs new → KeepsReceipts c new
   all_keep c new [] h = λ q n k e. ap (λ t. receipt_at t q n) h ∙ e
   all_keep c new (x ∷ xs) h = λ q n k e. all_keep h.0 new xs h.2 q n k (handled_keeps c h.0 x.disposition h.1 q n k e)
 
   -- a row that has its line for good has that of the register from then on
-  told_one : SameWhereEqual → (c mid new : Contents) (fields : Fields) (moment : ℕ) (o : Disposition) → IsDisposition fields moment o → IsHandled c o mid → KeepsReceipts mid new
+  told_one : SameWhereEqual → (c mid new : Contents) (fields : Fields) (moment : ℕ) (o : RowDisposition) → IsDisposition fields moment o → IsHandled c o mid → KeepsReceipts mid new
       → IsLasting o → (told_of o ≡ told_in new fields) × IsSettledRow new fields
-  told_one same c mid new fields moment (refused refusal) is h keeps lasting = (sym (ap (told_by new) is), subst (IsSettledBy new) (sym is) tt)
+  told_one same c mid new fields moment (rejected refusal) is h keeps lasting = (sym (ap (told_by new) is), subst (IsSettledBy new) (sym is) tt)
   told_one same c mid new fields moment no_memory is h keeps lasting = absurd lasting
-  told_one same c mid new fields moment (posted r (Unavailable fault)) is h keeps lasting = absurd lasting
-  told_one same c mid new fields moment (posted r (Replied reply)) is h keeps lasting =
+  told_one same c mid new fields moment (answered (event.Query at query) answer) is h keeps lasting = absurd is
+  told_one same c mid new fields moment (answered (event.Request r) (Unavailable fault)) is h keeps lasting = absurd lasting
+  told_one same c mid new fields moment (answered (event.Request r) (Replied reply)) is h keeps lasting =
       let row = is.0 in
       let asked = request_of moment row.caller row.number (Report row.report) in
       let some : 1 ≤ row.number = subst (λ t. 1 ≤ number_at t) is.1 (numbered fields) in
@@ -209,12 +211,13 @@ module _ (one : OneRequest) where
       )
 
   -- a row whose number is settled changes nothing
-  again_one : (c mid : Contents) (fields : Fields) (moment : ℕ) (o : Disposition) → IsDisposition fields moment o → IsHandled c o mid → IsSettledRow c fields
+  again_one : (c mid : Contents) (fields : Fields) (moment : ℕ) (o : RowDisposition) → IsDisposition fields moment o → IsHandled c o mid → IsSettledRow c fields
       → (mid ≡ c) × (IsHeard o → told_of o ≡ told_in c fields)
-  again_one c mid fields moment (refused refusal) is h known = (h, λ hears. sym (ap (told_by c) is))
+  again_one c mid fields moment (rejected refusal) is h known = (h, λ hears. sym (ap (told_by c) is))
   again_one c mid fields moment no_memory is h known = (h, λ hears. absurd hears)
-  again_one c mid fields moment (posted r (Unavailable fault)) is h known = (h, λ hears. absurd hears)
-  again_one c mid fields moment (posted r (Replied reply)) is h known =
+  again_one c mid fields moment (answered (event.Query at query) answer) is h known = absurd is
+  again_one c mid fields moment (answered (event.Request r) (Unavailable fault)) is h known = (h, λ hears. absurd hears)
+  again_one c mid fields moment (answered (event.Request r) (Replied reply)) is h known =
       let P : Request → Type 0 = λ t. t.number ≤ count_of c t.caller in
       let low : r.number ≤ count_of c r.caller = subst P (sym is.2) (subst (IsSettledBy c) is.1 known) in
       let repeated = is_repeat c r low in (
@@ -224,43 +227,43 @@ module _ (one : OneRequest) where
 
   -- ---- row after row
 
-  all_told : SameWhereEqual → (c new : Contents) (xs : List Exchange) → AllByRecursion IsExchange xs → AreHandled c xs new → AreTold new xs
+  all_told : SameWhereEqual → (c new : Contents) (xs : List RowExchange) → AllByRecursion IsExchange xs → AreHandled c xs new → AreTold new xs
   all_told same c new [] each h = tt
   all_told same c new (x ∷ xs) each h =
-      (told_one same c h.0 new x.fields x.moment x.disposition each.0 h.1 (all_keep h.0 new xs h.2), all_told same h.0 new xs each.1 h.2)
+      (told_one same c h.0 new x.message x.moment x.disposition each.0 h.1 (all_keep h.0 new xs h.2), all_told same h.0 new xs each.1 h.2)
 
-  all_again : (c new : Contents) (xs : List Exchange) → AllByRecursion IsExchange xs → AreHandled c xs new → AllByRecursion (λ x. IsSettledRow c x.fields) xs
-      → (new ≡ c) × AllByRecursion (λ x. IsHeard x.disposition → told_of x.disposition ≡ told_in c x.fields) xs
+  all_again : (c new : Contents) (xs : List RowExchange) → AllByRecursion IsExchange xs → AreHandled c xs new → AllByRecursion (λ x. IsSettledRow c x.message) xs
+      → (new ≡ c) × AllByRecursion (λ x. IsHeard x.disposition → told_of x.disposition ≡ told_in c x.message) xs
   all_again c new [] each h known = (h, tt)
   all_again c new (x ∷ xs) each h known =
-      let first = again_one c h.0 x.fields x.moment x.disposition each.0 h.1 known.0 in
+      let first = again_one c h.0 x.message x.moment x.disposition each.0 h.1 known.0 in
       let rest = all_again c new xs each.1 (subst (λ t. AreHandled t xs new) first.0 h.2) known.1 in
       (rest.0, (first.1, rest.1))
 
-  same_lines : (q c new : Contents) (xs ys : List Exchange) → rows_of ys ≡ rows_of xs → AreTold q xs → AllByRecursion IsExchange ys → AreHandled c ys new → KeepsReceipts q c → SameLines xs ys
+  same_lines : (q c new : Contents) (xs ys : List RowExchange) → rows_of ys ≡ rows_of xs → AreTold q xs → AllByRecursion IsExchange ys → AreHandled c ys new → KeepsReceipts q c → SameLines xs ys
   same_lines q c new [] ys e told each h keeps = tt
   same_lines q c new (x ∷ xs) [] e told each h keeps = absurd (let n : 0 ≡ suc (length (rows_of xs)) = ap length e in omega (arith, n))
   same_lines q c new (x ∷ xs) (y ∷ ys) e told each h keeps =
-      let fields : y.fields ≡ x.fields = ap (head_or []) e in
+      let fields : y.message ≡ x.message = ap (head_or []) e in
       let next : KeepsReceipts q h.0 = λ p n k f. handled_keeps c h.0 y.disposition h.1 p n k (keeps p n k f) in (
         λ lasting hears.
             let was = told.0 lasting in
-            let kept = told_kept q c keeps (row_of x.fields) (numbered x.fields) was.1 in
-            let now = again_one c h.0 y.fields y.moment y.disposition each.0 h.1 (subst (IsSettledRow c) (sym fields) kept.1) in
+            let kept = told_kept q c keeps (row_of x.message) (numbered x.message) was.1 in
+            let now = again_one c h.0 y.message y.moment y.disposition each.0 h.1 (subst (IsSettledRow c) (sym fields) kept.1) in
             now.1 hears ∙ ap (told_in c) fields ∙ kept.0 ∙ sym was.0,
         same_lines q h.0 new xs ys (ap tail_of e) told.1 each.1 h.2 next,
       )
 
 -- each row's number is settled, of rows that have their lines for good
-all_known : (q c : Contents) → KeepsReceipts q c → (xs ys : List Exchange) → rows_of ys ≡ rows_of xs → AreTold q xs → AllLasting xs → AllByRecursion (λ y. IsSettledRow c y.fields) ys
+all_known : (q c : Contents) → KeepsReceipts q c → (xs ys : List RowExchange) → rows_of ys ≡ rows_of xs → AreTold q xs → AllLasting xs → AllByRecursion (λ y. IsSettledRow c y.message) ys
 all_known q c keeps xs [] e told lasting = tt
 all_known q c keeps [] (y ∷ ys) e told lasting = absurd (let n : suc (length (rows_of ys)) ≡ 0 = ap length e in omega (arith, n))
 all_known q c keeps (x ∷ xs) (y ∷ ys) e told lasting =
-    let fields : y.fields ≡ x.fields = ap (head_or []) e in
-    (subst (IsSettledRow c) (sym fields) (told_kept q c keeps (row_of x.fields) (numbered x.fields) (told.0 lasting.0).1).1, all_known q c keeps xs ys (ap tail_of e) told.1 lasting.1)
+    let fields : y.message ≡ x.message = ap (head_or []) e in
+    (subst (IsSettledRow c) (sym fields) (told_kept q c keeps (row_of x.message) (numbered x.message) (told.0 lasting.0).1).1, all_known q c keeps xs ys (ap tail_of e) told.1 lasting.1)
 
 -- then all lines are the same
-same_text : (k : ℕ) (xs ys : List Exchange) → rows_of ys ≡ rows_of xs → SameLines xs ys → AllLasting xs → AllHeard ys → lines_from k ys ≡ lines_from k xs
+same_text : (k : ℕ) (xs ys : List RowExchange) → rows_of ys ≡ rows_of xs → SameLines xs ys → AllLasting xs → AllHeard ys → lines_from k ys ≡ lines_from k xs
 same_text k [] [] e each lasting hears = refl
 same_text k [] (y ∷ ys) e each lasting hears = absurd (let n : suc (length (rows_of ys)) ≡ 0 = ap length e in omega (arith, n))
 same_text k (x ∷ xs) [] e each lasting hears = absurd each
@@ -268,31 +271,6 @@ same_text k (x ∷ xs) (y ∷ ys) e each lasting hears =
     let line = ap (λ (t : RowReply). line_of k (told_status t) (told_body t)) (each.0 lasting.0 hears.0) in
     let rest = same_text (k + 1) xs ys (ap tail_of e) each.1 lasting.1 hears.1 in
     λ i. line i ++ rest i
-
--- ---- from whole lists to row after row
-
-one_back : RunsOn → (c new : Contents) (o : Disposition) (es : List Event) (gs : List Answer)
-    → replies_in (answer_in o ++ gs) ≡ answers_of c (answered_events (event_in o ++ es) (answer_in o ++ gs))
-    → new ≡ after c (answered_events (event_in o ++ es) (answer_in o ++ gs))
-    → (mid : Contents) × IsHandled c o mid × (replies_in gs ≡ answers_of mid (answered_events es gs)) × (new ≡ after mid (answered_events es gs))
-one_back goes c new (refused refusal) es gs e f = (c, refl, e, f)
-one_back goes c new no_memory es gs e f = (c, refl, e, f)
-one_back goes c new (posted r (Unavailable fault)) es gs e f = (c, refl, e, f)
-one_back goes c new (posted r (Replied reply)) es gs e f =
-    let first = event.Request r ∷ [] in
-    let both = goes c first (answered_events es gs) in
-    let whole : (reply ∷ replies_in gs) ≡ (answer c [] (event.Request r) ∷ answers_of (after c first) (answered_events es gs)) = e ∙ both.0 in
-    (after c first, (ap (head_or reply) whole, refl), ap tail_of whole, f ∙ both.1)
-
-handled_of : RunsOn → (c new : Contents) (xs : List Exchange) → replies_in (answers_in xs) ≡ answers_of c (answered_events (events_of xs) (answers_in xs)) → new ≡ after c (answered_events (events_of xs) (answers_in xs))
-    → AreHandled c xs new
-handled_of goes c new [] e f = f
-handled_of goes c new (x ∷ xs) e f =
-    let back = one_back goes c new x.disposition (events_of xs) (answers_in xs) e f in
-    (back.0, back.1, handled_of goes back.0 new xs back.2 back.3)
-
-handled_in : RunsOn → (p q : DeskState) (xs : List Exchange) → AnsweredInOrder p q xs → q.book.is_honest → AreHandled p.book.contents xs q.book.contents
-handled_in goes p q xs holds honest = handled_of goes p.book.contents q.book.contents xs (holds.answers honest) (holds.contents honest)
 
 -- ---- the records of a file
 

@@ -9,26 +9,16 @@ use Rattle.std.proofs.Math.Seq.{drop-append_seam}
 use Rattle.canary_plan.specs.declared.analysis_parts.AnalysisParts.{AnalysisParts}
 use Rattle.canary_release.specs.declared.effect.Recorded.{Recorded}
 use Rattle.canary_once.specs.Contents.{Contents}
-use Rattle.canary_once.specs.BookCalls.{BookState}
+use Rattle.canary_once.specs.BookCalls.{BookState, Stays}
 use Rattle.canary_once.specs.declared.record.RunRecord.{RunRecord}
 use Rattle.canary_once.specs.Records.{past_of, record_numbered, measurements_of}
 use Rattle.canary_files.specs.declared.export.ExportFault.{ExportFault}
 use Rattle.canary_files.specs.declared.export.ExportFault.TheVariants.{Memory, Storage, Write, TooMany, UnknownService}
-use Rattle.canary_files.specs.Writes.{Known}
+use Rattle.canary_base.specs.Writes.{Known}
 use Rattle.canary_files.specs.Rows.{header}
 use Rattle.canary_files.specs.Written.{record_text, row_fields, rows_text}
-use Rattle.canary_files.specs.Exporting.{Stays, Puts, TellsPage, name_at, name_in, analysis_in, name_of, recorded_of, file_in}
-use Rattle.canary_files.proofs.WriteLemmas.{appends_more, appends_none}
-
--- Books.
-
-pub stays_then : (a b c : BookState) → Stays a b → Stays b c → Stays a c
-stays_then a b c p q = record {
-  honest = λ h. p.honest (q.honest h);
-  in_memory = λ h. q.in_memory (p.in_memory h);
-  same = λ h. q.same h ∙ p.same (q.honest h);
-  sure = q.sure ∙ p.sure;
-}
+use Rattle.canary_files.specs.Exporting.{Puts, TellsPage, name_at, name_in, analysis_in, name_of, recorded_of, file_in}
+use Rattle.canary_base.proofs.WriteLemmas.{appends_more, appends_none}
 
 -- the name of a metric of a run, by its analysis
 name_placed : (o : Option RunRecord) (a : AnalysisParts) (place : ℕ) → option_map (λ (r : RunRecord). r.analysis) o ≡ Some a → name_in o place ≡ name_at a place

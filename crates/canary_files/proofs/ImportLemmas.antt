@@ -4,23 +4,24 @@ use Rattle.std.specs.Prelude.{Result, Ok, Err}
 use Rattle.std.specs.Io.KnownBytes.{Appends}
 use Rattle.std.proofs.lemmas.List.{append-nil, append_assoc, length-append, length-map, map-append}
 use Rattle.canary_once.specs.Laws.{RunsOn}
-use Rattle.canary_files.specs.declared.writing.CsvWriteFault.{CsvWriteFault}
+use Rattle.canary_base.specs.declared.writing.WriteFault.{WriteFault}
 use Rattle.canary_files.specs.declared.import.ImportFault.{ImportFault}
 use Rattle.canary_files.specs.declared.import.ImportFault.TheVariants as fault
 use Rattle.canary_files.specs.declared.reading.FileReader.{FileReader}
-use Rattle.canary_files.specs.Writes.{Known, Writes}
+use Rattle.canary_base.specs.Writes.{Known, Writes}
 use Rattle.canary_files.specs.Rows.{header, is_header}
-use Rattle.canary_files.specs.RowExchanges.{Exchange, rows_of, lines_from, lines, told_line, DeskState, HandledOne, HandledAll}
+use Rattle.canary_once.specs.Messages.{DeskState, HandledOne, HandledAll}
+use Rattle.canary_files.specs.RowExchanges.{RowExchange, IsExchange, rows_of, lines_from, lines, told_line}
 use Rattle.canary_files.specs.Taking.{Fields, HasTaken, TakesNext, taken_of, spare_of}
 use Rattle.canary_files.specs.Importing.{Answers, ImportsSome, ImportsTo, KeepsBook, IsSoFar}
-use Rattle.canary_files.proofs.WriteLemmas.{appends_none, appends_more, writes_all}
-use Rattle.canary_files.proofs.ExchangeLemmas.{went_none, went_one, went_then, holds_of}
+use Rattle.canary_base.proofs.WriteLemmas.{appends_none, appends_more, writes_all}
+use Rattle.canary_once.proofs.MessageLemmas.{went_none, went_one, went_then, holds_of}
 use Rattle.canary_files.proofs.ReadLemmas.{begins}
 use Rattle.canary_files.proofs.HeaderLemmas.{header_is, header_not}
 
 -- ---- lines
 
-lines_more : (k n : ℕ) (xs : List Exchange) (x : Exchange) → k + length xs ≡ n → lines_from k (xs ++ x ∷ []) ≡ lines_from k xs ++ told_line n x.disposition
+lines_more : (k n : ℕ) (xs : List RowExchange) (x : RowExchange) → k + length xs ≡ n → lines_from k (xs ++ x ∷ []) ≡ lines_from k xs ++ told_line n x.disposition
 lines_more k n [] x e = let same : k ≡ n = omega arith in append-nil (told_line k x.disposition) ∙ ap (λ m. told_line m x.disposition) same
 lines_more k n (y ∷ ys) x e =
     let next : k + 1 + length ys ≡ n = omega arith in
@@ -28,10 +29,10 @@ lines_more k n (y ∷ ys) x e =
 
 -- ---- the book
 
-pub keeps_of : (p q : DeskState) (xs : List Exchange) → HandledAll p q xs → KeepsBook p.book q.book
+pub keeps_of : (p q : DeskState) (xs : List RowExchange) → HandledAll IsExchange p q xs → KeepsBook p.book q.book
 keeps_of p q xs went = record { honest = went.honest; in_memory = went.in_memory; sure = went.sure.0; sound = went.sound; receipts = went.receipts }
 
-pub answers_of_went : RunsOn → (w w1 : Known) (p q : DeskState) (xs : List Exchange) → HandledAll p q xs → Appends w w1 (lines xs) → Answers w w1 p q (rows_of xs)
+pub answers_of_went : RunsOn → (w w1 : Known) (p q : DeskState) (xs : List RowExchange) → HandledAll IsExchange p q xs → Appends w w1 (lines xs) → Answers w w1 p q (rows_of xs)
 answers_of_went goes w w1 p q xs went written = record { exchanges = xs; are = refl; holds = holds_of goes p q xs went; written = written }
 
 pub answers_none : RunsOn → (w : Known) (p : DeskState) → Answers w w p p []
@@ -44,20 +45,20 @@ module _ {S : Type 0} (left : S → Known) (spare : S → ℕ) where
   so_far_none r w p one = record { exchanges = []; many = refl; taken = one; stands = λ file s. s; went = went_none p; written = appends_none w }
 
   module _ (r0 r1 r2 : FileReader S) (w w1 : Known) (p p1 : DeskState) (n : ℕ) (so : IsSoFar left r0 r1 w w1 p p1 n) (fields : Fields) where
-    rows_more : (x : Exchange) → x.fields ≡ fields → rows_of so.exchanges ++ fields ∷ [] ≡ rows_of (so.exchanges ++ x ∷ [])
-    rows_more x same = ap (λ (f : Fields). rows_of so.exchanges ++ f ∷ []) (sym same) ∙ sym (map-append (λ (y : Exchange). y.fields) so.exchanges (x ∷ []))
+    rows_more : (x : RowExchange) → x.message ≡ fields → rows_of so.exchanges ++ fields ∷ [] ≡ rows_of (so.exchanges ++ x ∷ [])
+    rows_more x same = ap (λ (f : Fields). rows_of so.exchanges ++ f ∷ []) (sym same) ∙ sym (map-append (λ (y : RowExchange). y.message) so.exchanges (x ∷ []))
 
     module _ (takes : (file : Known) (records : List Fields) → HasTaken left file r1 records → TakesNext left spare file r2 records fields (Ok true)) where
-      has_more : (x : Exchange) → x.fields ≡ fields → (file : Known) → HasTaken left file r0 (header ∷ []) → HasTaken left file r2 (header ∷ rows_of (so.exchanges ++ x ∷ []))
+      has_more : (x : RowExchange) → x.message ≡ fields → (file : Known) → HasTaken left file r0 (header ∷ []) → HasTaken left file r2 (header ∷ rows_of (so.exchanges ++ x ∷ []))
       has_more x same file s =
           let P : List Fields → Type 0 = λ t. HasTaken left file r2 (header ∷ t) in
           subst P (rows_more x same) (takes file (header ∷ rows_of so.exchanges) (so.stands file s))
 
-      module _ (w2 : Known) (p2 : DeskState) (x : Exchange) (same : x.fields ≡ fields) (e : HandledOne p1 p2 x) where
-        went_more : HandledAll p p2 (so.exchanges ++ x ∷ [])
+      module _ (w2 : Known) (p2 : DeskState) (x : RowExchange) (same : x.message ≡ fields) (e : HandledOne IsExchange p1 p2 x) where
+        went_more : HandledAll IsExchange p p2 (so.exchanges ++ x ∷ [])
         went_more = went_then p p1 p2 so.exchanges (x ∷ []) so.went (went_one p1 p2 x e)
 
-        pub so_far_more : taken_of r2 ≡ taken_of r1 + 1 → Writes {E = CsvWriteFault} w1 w2 (told_line (n + 1) x.disposition) (Ok tt) → IsSoFar left r0 r2 w w2 p p2 (n + 1)
+        pub so_far_more : taken_of r2 ≡ taken_of r1 + 1 → Writes {E = WriteFault} w1 w2 (told_line (n + 1) x.disposition) (Ok tt) → IsSoFar left r0 r2 w w2 p p2 (n + 1)
         so_far_more one wrote =
             let m : length so.exchanges ≡ n = so.many in
             let number : 1 + length so.exchanges ≡ n + 1 = omega (arith, m) in
@@ -72,11 +73,11 @@ module _ {S : Type 0} (left : S → Known) (spare : S → ℕ) where
                   (appends_more w w1 w2 (lines so.exchanges) (told_line (n + 1) x.disposition) so.written (writes_all w1 w2 (told_line (n + 1) x.disposition) wrote));
             }
 
-        pub so_far_until : RunsOn → (f : CsvWriteFault) → Writes w1 w2 (told_line (n + 1) x.disposition) (Err f) → (file : Known) → HasTaken left file r0 (header ∷ []) → ImportsTo file (taken_of r2) (spare_of spare r2) w w2 p p2 (Err fault.Write)
+        pub so_far_until : RunsOn → (f : WriteFault) → Writes w1 w2 (told_line (n + 1) x.disposition) (Err f) → (file : Known) → HasTaken left file r0 (header ∷ []) → ImportsTo file (taken_of r2) (spare_of spare r2) w w2 p p2 (Err fault.Write)
         so_far_until goes f wrote file s =
             let m : length so.exchanges ≡ n = so.many in
             let number : length so.exchanges + 1 ≡ n + 1 = omega (arith, m) in
-            let all : List Exchange = so.exchanges ++ x ∷ [] in
+            let all : List RowExchange = so.exchanges ++ x ∷ [] in
             let many : taken_of r2 ≡ suc (length (rows_of all)) = (has_more x same file s).many in (
               record {
                 exchanges = so.exchanges;
@@ -89,7 +90,7 @@ module _ {S : Type 0} (left : S → Known) (spare : S → ℕ) where
                 short = wrote.short;
                 written = appends_more w w1 w2 (lines so.exchanges) wrote.front so.written wrote.written;
               },
-              omega (arith, many, length-map all (λ (y : Exchange). y.fields), length-append so.exchanges (x ∷ [])),
+              omega (arith, many, length-map all (λ (y : RowExchange). y.message), length-append so.exchanges (x ∷ [])),
             )
 
         pub keeps_more : KeepsBook p.book p2.book
@@ -98,7 +99,7 @@ module _ {S : Type 0} (left : S → Known) (spare : S → ℕ) where
       pub so_far_too_many : RunsOn → n ≡ 1000000 → (file : Known) → HasTaken left file r0 (header ∷ []) → ImportsTo file (taken_of r2) (spare_of spare r2) w w1 p p1 (Err fault.RowsSpent)
       so_far_too_many goes full file s =
           let next = takes file (header ∷ rows_of so.exchanges) (so.stands file s) in
-          let rows : length (rows_of so.exchanges) ≡ 1000000 = length-map so.exchanges (λ (y : Exchange). y.fields) ∙ so.many ∙ full in
+          let rows : length (rows_of so.exchanges) ≡ 1000000 = length-map so.exchanges (λ (y : RowExchange). y.message) ∙ so.many ∙ full in
           let many : taken_of r2 ≡ suc (length (rows_of so.exchanges ++ fields ∷ [])) = next.many in
           inl (
             (
@@ -115,7 +116,7 @@ module _ {S : Type 0} (left : S → Known) (spare : S → ℕ) where
         → (file : Known) → HasTaken left file r0 (header ∷ []) → ImportsTo file (taken_of r2) (spare_of spare r2) w w1 p p1 (Ok n)
     so_far_all goes takes file s =
         let t = takes file (header ∷ rows_of so.exchanges) (so.stands file s) in
-        let rows : length (rows_of so.exchanges) ≡ n = length-map so.exchanges (λ (y : Exchange). y.fields) ∙ so.many in (
+        let rows : length (rows_of so.exchanges) ≡ n = length-map so.exchanges (λ (y : RowExchange). y.message) ∙ so.many in (
           (
             header ∷ rows_of so.exchanges,
             rows_of so.exchanges,

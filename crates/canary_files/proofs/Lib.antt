@@ -1,15 +1,12 @@
-pub mod WriteLemmas
-pub mod Kept
-pub mod FieldLemmas
-pub mod ExchangeLemmas
-pub mod AnswerLemmas
-pub mod ReadLemmas
-pub mod HistoryLemmas
-pub mod ExportLemmas
-pub mod SureLemmas
-pub mod ReadBack
-pub mod ExportsBack
-pub mod ImportLemmas
-pub mod HeaderLemmas
-pub mod AgainLemmas
-pub mod FileBack
+mod Kept
+mod FieldLemmas
+mod ReadLemmas
+mod HistoryLemmas
+mod ExportLemmas
+mod SureLemmas
+mod ReadBack
+mod ExportsBack
+mod HeaderLemmas
+mod ImportLemmas
+mod AgainLemmas
+mod FileBack

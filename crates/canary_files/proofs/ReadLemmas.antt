@@ -7,7 +7,7 @@ use Rattle.csv.specs.declared.parser.State.TheVariants as st
 use Rattle.csv.specs.Reading.{default_config, strip_bom, reader_state, took_first, ReadRecord}
 use Rattle.csv.proofs.ReadFacts.{rows-more}
 use Rattle.canary_files.specs.declared.reading.FileReader.{FileReader}
-use Rattle.canary_files.specs.Writes.{Known}
+use Rattle.canary_base.specs.Writes.{Known}
 use Rattle.canary_files.specs.Taking.{Fields, BeginsWith, StandsBehind, HasTaken, TakesNext, taken_of}
 
 module _ {S : Type 0} (left : S → Known) where

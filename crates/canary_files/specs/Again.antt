@@ -10,9 +10,10 @@ use Rattle.canary_files.specs.declared.row.RowRefusal.{RowRefusal}
 use Rattle.canary_files.specs.declared.row.Row.{Row}
 use Rattle.canary_files.specs.declared.answer.RowReply.{RowReply}
 use Rattle.canary_files.specs.declared.answer.RowReply.TheVariants.{Refused, Answered}
-use Rattle.canary_files.specs.Writes.{Known}
+use Rattle.canary_base.specs.Writes.{Known}
 use Rattle.canary_files.specs.Rows.{row_of}
-use Rattle.canary_files.specs.RowExchanges.{Disposition, refused, no_memory, posted, told_of, Exchange, rows_of, lines, DeskState, AnsweredInOrder}
+use Rattle.canary_once.specs.Messages.{rejected, no_memory, answered, DeskState, AnsweredInOrder}
+use Rattle.canary_files.specs.RowExchanges.{IsExchange, RowDisposition, told_of, RowExchange, rows_of, lines}
 use Rattle.canary_files.specs.Taking.{Fields}
 use Rattle.canary_files.specs.Importing.{ImportsAll}
 
@@ -21,23 +22,23 @@ abbrev pub IsAhead : Reply → Type 0
 IsAhead reply = (expected : ℕ) × (reply ≡ ahead_reply expected)
 
 -- a row has its line for good: it is neither ahead of its turn nor answered 503
-abbrev pub IsLasting : Disposition → Type 0
-IsLasting (refused refusal) = Unit {0}
+abbrev pub IsLasting : RowDisposition → Type 0
+IsLasting (rejected refusal) = Unit {0}
 IsLasting no_memory = ⊥
-IsLasting (posted request (Replied reply)) = IsAhead reply → ⊥
-IsLasting (posted request (Unavailable fault)) = ⊥
+IsLasting (answered event (Replied reply)) = IsAhead reply → ⊥
+IsLasting (answered event (Unavailable fault)) = ⊥
 
 -- it is not answered 503
-abbrev pub IsHeard : Disposition → Type 0
-IsHeard (refused refusal) = Unit {0}
+abbrev pub IsHeard : RowDisposition → Type 0
+IsHeard (rejected refusal) = Unit {0}
 IsHeard no_memory = ⊥
-IsHeard (posted request (Replied reply)) = Unit {0}
-IsHeard (posted request (Unavailable fault)) = ⊥
+IsHeard (answered event (Replied reply)) = Unit {0}
+IsHeard (answered event (Unavailable fault)) = ⊥
 
-abbrev pub AllLasting : List Exchange → Type 0
+abbrev pub AllLasting : List RowExchange → Type 0
 AllLasting xs = AllByRecursion (λ x. IsLasting x.disposition) xs
 
-abbrev pub AllHeard : List Exchange → Type 0
+abbrev pub AllHeard : List RowExchange → Type 0
 AllHeard xs = AllByRecursion (λ x. IsHeard x.disposition) xs
 
 -- ---- what the register tells of a row
@@ -63,29 +64,29 @@ IsSettledRow c fields = IsSettledBy c (row_of fields)
 
 -- each row that has its line for good has that of the register of these contents, in which its
 -- number is settled
-abbrev pub AreTold : Contents → List Exchange → Type 0
+abbrev pub AreTold : Contents → List RowExchange → Type 0
 AreTold c xs =
     AllByRecursion
     (λ x. IsLasting x.disposition
-    → (told_of x.disposition ≡ told_in c x.fields) × IsSettledRow c x.fields) xs
+    → (told_of x.disposition ≡ told_in c x.message) × IsSettledRow c x.message) xs
 
 -- so it is of the contents behind rows that were answered
 abbrev pub TellsAfterwards : DeskState → DeskState → Type 0
 TellsAfterwards p q =
-    (xs : List Exchange) → AnsweredInOrder p q xs → q.book.is_honest → AreTold q.book.contents xs
+    (xs : List RowExchange) → AnsweredInOrder IsExchange p q xs → q.book.is_honest → AreTold q.book.contents xs
 
 -- rows whose numbers are settled, or that do not read, change nothing, and have the lines of the
 -- register of the contents, 503 aside
 abbrev pub TellsSettled : DeskState → DeskState → Type 0
 TellsSettled p q =
-    (xs : List Exchange) → AnsweredInOrder p q xs → q.book.is_honest
-    → AllByRecursion (λ x. IsSettledRow p.book.contents x.fields) xs
+    (xs : List RowExchange) → AnsweredInOrder IsExchange p q xs → q.book.is_honest
+    → AllByRecursion (λ x. IsSettledRow p.book.contents x.message) xs
     → (q.book.contents ≡ p.book.contents)
     × AllByRecursion
-    (λ x. IsHeard x.disposition → told_of x.disposition ≡ told_in p.book.contents x.fields) xs
+    (λ x. IsHeard x.disposition → told_of x.disposition ≡ told_in p.book.contents x.message) xs
 
 -- row by row: where a row had its line for good, it has it again, 503 aside
-abbrev pub SameLines : List Exchange → List Exchange → Type 0
+abbrev pub SameLines : List RowExchange → List RowExchange → Type 0
 SameLines [] ys = Unit {0}
 SameLines (x ∷ xs) [] = ⊥
 SameLines (x ∷ xs) (y ∷ ys) =
@@ -94,7 +95,7 @@ SameLines (x ∷ xs) (y ∷ ys) =
     × SameLines xs ys
 
 -- rows that were answered twice, the second time from these contents to those
-pub record IsAgain (c new : Contents) (first second : List Exchange) : Type 0 where
+pub record IsAgain (c new : Contents) (first second : List RowExchange) : Type 0 where
   pub rows : rows_of second ≡ rows_of first
   pub each : SameLines first second
   pub unchanged : AllLasting first → new ≡ c

@@ -12,11 +12,11 @@ use Rattle.canary_once.specs.declared.book.BookFault.TheVariants.{Memory as Out,
 use Rattle.canary_once.specs.declared.record.RunRecord.{RunRecord}
 use Rattle.canary_once.specs.Records.{past_of, record_numbered}
 use Rattle.canary_once.specs.Contents.{Contents}
-use Rattle.canary_once.specs.BookCalls.{BookState, StaysInMemory}
+use Rattle.canary_once.specs.BookCalls.{BookState, Stays}
 use Rattle.canary_files.specs.declared.export.ExportFault.{ExportFault}
 use Rattle.canary_files.specs.declared.export.ExportFault.TheVariants.{Memory, Storage, Write, TooMany, UnknownService}
 use Rattle.canary_files.specs.declared.export.RunAnalysis.{RunAnalysis}
-use Rattle.canary_files.specs.Writes.{Known}
+use Rattle.canary_base.specs.Writes.{Known}
 use Rattle.canary_files.specs.Written.{file_of}
 
 -- Names of metrics.
@@ -47,13 +47,6 @@ file_in c service caller =
     file_of caller service (name_of (past_of c service)) (recorded_of c service)
 
 -- What a call does.
-
--- the book contains what it did
-pub record Stays (old new : BookState) : Type 0 where
-  pub honest : new.is_honest → old.is_honest
-  pub in_memory : StaysInMemory old new
-  pub same : new.is_honest → new.contents ≡ old.contents
-  pub sure : new.is_sure ≡ old.is_sure
 
 -- the first bytes of a text went out, and all of them if the call succeeded
 pub record Puts {A E : Type 0} (old new : Known) (text : List ℕ)

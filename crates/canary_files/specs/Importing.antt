@@ -7,9 +7,10 @@ use Rattle.canary_once.specs.BookCalls.{BookState, StaysInMemory}
 use Rattle.canary_files.specs.declared.import.ImportFault.{ImportFault}
 use Rattle.canary_files.specs.declared.import.ImportFault.TheVariants as fault
 use Rattle.canary_files.specs.declared.reading.FileReader.{FileReader}
-use Rattle.canary_files.specs.Writes.{Known}
+use Rattle.canary_base.specs.Writes.{Known}
 use Rattle.canary_files.specs.Rows.{header}
-use Rattle.canary_files.specs.RowExchanges.{Exchange, rows_of, lines, told_line, DeskState, AnsweredInOrder, HandledAll}
+use Rattle.canary_once.specs.Messages.{DeskState, AnsweredInOrder, HandledAll}
+use Rattle.canary_files.specs.RowExchanges.{RowExchange, IsExchange, rows_of, lines, told_line}
 use Rattle.canary_files.specs.Taking.{Fields, BeginsWith, HasRecords, HasTaken, taken_of}
 
 -- the first record is the header, and the others are the rows; without any record there are no rows
@@ -22,9 +23,9 @@ AreDataRows (first ∷ rest) rows = (first ≡ header) × (rows ≡ rest)
 -- (here `w` is what the writer holds)
 -- these rows were answered, one after another, and their lines were written
 pub record Answers (w new_w : Known) (old new : DeskState) (rows : List Fields) : Type 0 where
-  pub exchanges : List Exchange
+  pub exchanges : List RowExchange
   pub are : rows ≡ rows_of exchanges
-  pub holds : AnsweredInOrder old new exchanges
+  pub holds : AnsweredInOrder IsExchange old new exchanges
   pub written : Appends w new_w (lines exchanges)
 
 -- so were all rows of a file
@@ -43,12 +44,12 @@ ImportsSome file taken w new_w old new =
 
 -- so were the first rows of a file, but that the writer failed in the midst of the last one's line
 pub record ImportsUntil (file w new_w : Known) (old new : DeskState) : Type 0 where
-  pub exchanges : List Exchange
-  pub last : Exchange
+  pub exchanges : List RowExchange
+  pub last : RowExchange
   pub front : List ℕ
   pub back : List ℕ
   pub begins : BeginsWith file (header ∷ rows_of (exchanges ++ last ∷ []))
-  pub holds : AnsweredInOrder old new (exchanges ++ last ∷ [])
+  pub holds : AnsweredInOrder IsExchange old new (exchanges ++ last ∷ [])
   pub line : told_line (length exchanges + 1) last.disposition ≡ front ++ back
   pub short : 0 < length back
   pub written : Appends w new_w (lines exchanges ++ front)
@@ -95,10 +96,10 @@ pub record KeepsBook (old new : BookState) : Type 0 where
 -- since a file was at its header these rows were answered, and they are all that were taken
 pub record IsSoFar {S : Type 0} (left : S → Known) (first now : FileReader S) (w now_w : Known)
     (old new : DeskState) (count : ℕ) : Type 0 where
-  pub exchanges : List Exchange
+  pub exchanges : List RowExchange
   pub many : length exchanges ≡ count
   pub taken : taken_of now ≡ count + 1
   pub stands : (file : Known) → HasTaken left file first (header ∷ [])
       → HasTaken left file now (header ∷ rows_of exchanges)
-  pub went : HandledAll old new exchanges
+  pub went : HandledAll IsExchange old new exchanges
   pub written : Appends w now_w (lines exchanges)

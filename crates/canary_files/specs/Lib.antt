@@ -1,4 +1,3 @@
-pub mod Writes
 pub mod Rows
 pub mod RowReads
 pub mod Lines

@@ -9,7 +9,7 @@ use Rattle.canary_files.specs.declared.bounded.Bounded.{Bounded}
 use Rattle.canary_files.specs.declared.import.ImportFault.{ImportFault}
 use Rattle.canary_files.specs.declared.import.ImportFault.TheVariants as fault
 use Rattle.canary_files.specs.declared.reading.FileReader.{FileReader}
-use Rattle.canary_files.specs.Writes.{Known}
+use Rattle.canary_base.specs.Writes.{Known}
 
 abbrev pub Fields : Type 0
 Fields = List (List ℕ)

@@ -1,18 +1,19 @@
 //! Answering one row.
 ghost use Rattle.std.specs.Prelude.{◌≡◌, ◌≤◌, ◌++◌, ℕ, List, codes, length, Ok};
 ghost use Rattle.csv.specs.Records.{fields_of};
+ghost use Rattle.canary_base.specs.Writes.{Writes};
+ghost use Rattle.canary_once.specs.Messages.{BookStep, HandledOne, desk_state};
 ghost use Rattle.canary_files.specs.Lines.{refusal_code, told_status, told_body, line_front};
 ghost use Rattle.canary_files.specs.Lines.{line_of};
-ghost use Rattle.canary_files.specs.RowExchanges.{Disposition, Exchange, HandledOne, BookStep};
-ghost use Rattle.canary_files.specs.RowExchanges.{told_of, told_line, IsDisposition, desk_state};
+ghost use Rattle.canary_files.specs.RowExchanges.{IsDisposition, IsExchange, told_line, told_of};
+ghost use Rattle.canary_files.specs.RowExchanges.{RowDisposition, RowExchange};
 ghost use Rattle.canary_files.specs.Rows.{row_of};
-ghost use Rattle.canary_files.specs.Writes.{Writes};
 ghost use Rattle.canary_release.specs.Replies.{code_alone};
 
 use crate::row::{CsvFault, Row, RowRefusal, row_of};
-use crate::writing::{CsvWriteFault, write_all};
 use arrayvec::ArrayString;
 use canary_base::moments::Moment;
+use canary_base::writing::{WriteFault, write_all};
 use canary_once::book::Book;
 use canary_once::clock::Clock;
 use canary_once::event::Answer;
@@ -82,9 +83,9 @@ pub(crate) fn answer_row<W: Write, C: Clock, B: Book>(
     writer: &mut W,
     clock: &mut C,
     book: &mut B,
-) -> Result<(), CsvWriteFault>
-    ensures { (x : Exchange) × (x.fields ≡ fields_of fields.now)
-        × HandledOne
+) -> Result<(), WriteFault>
+    ensures { (x : RowExchange) × (x.message ≡ fields_of fields.now)
+        × HandledOne IsExchange
         (desk_state (C.tells clock.old) (B.state book.old))
         (desk_state (C.tells clock.new) (B.state book.new)) x
         × Writes (W.contents writer.old) (W.contents writer.new)
@@ -97,7 +98,7 @@ pub(crate) fn answer_row<W: Write, C: Clock, B: Book>(
 
 // Handles a row at a moment, and answers what its line is to tell.
 fn handle<B: Book>(alloc: Global, fields: &ByteRecord, moment: Moment, book: &mut B) -> RowReply
-    ensures { (h : Disposition) × (result ≡ told_of h)
+    ensures { (h : RowDisposition) × (result ≡ told_of h)
         × IsDisposition (fields_of fields.now) moment h
         × BookStep (B.state book.old) (B.state book.new) h }
 {
@@ -110,7 +111,7 @@ fn handle<B: Book>(alloc: Global, fields: &ByteRecord, moment: Moment, book: &mu
 
 // The same where the row is a request.
 fn post_row<B: Book>(alloc: Global, row: Row, moment: Moment, book: &mut B) -> RowReply
-    ensures { (fields : List (List ℕ)) → row_of fields ≡ Ok row → (h : Disposition)
+    ensures { (fields : List (List ℕ)) → row_of fields ≡ Ok row → (h : RowDisposition)
         × (result ≡ told_of h) × IsDisposition fields moment h
         × BookStep (B.state book.old) (B.state book.new) h }
 {
@@ -125,7 +126,7 @@ fn post_row<B: Book>(alloc: Global, row: Row, moment: Moment, book: &mut B) -> R
 
 // Writes the line of a row, at once if its body is short. It takes no memory. What went out before
 // a fault are the first bytes of the line.
-fn write_line<W: Write>(writer: &mut W, number: u64, told: &RowReply) -> Result<(), CsvWriteFault>
+fn write_line<W: Write>(writer: &mut W, number: u64, told: &RowReply) -> Result<(), WriteFault>
     ensures { Writes (W.contents writer.old) (W.contents writer.new)
         (line_of number (told_status told.now) (told_body told.now)) result }
 {
@@ -149,7 +150,7 @@ fn whole_line(number: u64, status: u16, body: &str) -> ArrayString<LINE_ROOM>
 }
 
 // Writes the line of a row, part after part.
-fn write_parts<W: Write>(writer: &mut W, number: u64, told: &RowReply) -> Result<(), CsvWriteFault>
+fn write_parts<W: Write>(writer: &mut W, number: u64, told: &RowReply) -> Result<(), WriteFault>
     ensures { Writes (W.contents writer.old) (W.contents writer.new)
         (line_of number (told_status told.now) (told_body told.now)) result }
 {
@@ -173,7 +174,7 @@ fn line_front(number: u64, status: u16) -> ArrayString<ROOM>
 }
 
 // Writes a text, ended with LF.
-fn write_ended<W: Write>(writer: &mut W, text: &str) -> Result<(), CsvWriteFault>
+fn write_ended<W: Write>(writer: &mut W, text: &str) -> Result<(), WriteFault>
     ensures { Writes (W.contents writer.old) (W.contents writer.new)
         (text.now ++ codes "\n") result }
 {

@@ -6,16 +6,17 @@ ghost use Rattle.canary_once.specs.Records.{past_of, measurements_of};
 ghost use Rattle.canary_files.specs.Rows.{header};
 ghost use Rattle.canary_files.specs.Written.{record_text, row_fields, rows_text};
 ghost use Rattle.canary_files.specs.Exporting.{name_at, name_of, recorded_of, file_in, IsLatest};
-ghost use Rattle.canary_files.specs.Exporting.{Stays, Puts, Reads, Tells, TellsPage};
+ghost use Rattle.canary_once.specs.BookCalls.{Stays};
+ghost use Rattle.canary_files.specs.Exporting.{Puts, Reads, Tells, TellsPage};
 ghost use Rattle.canary_files.specs.Exporting.{IsExportFault, ArePlaced, IsPlaced};
 ghost use Rattle.canary_files.specs.Exporting.{HasRun};
 
 use crate::records::Records;
-use crate::writing::{CsvWriteFault, write_all};
 use canary_base::error::Memory;
 use canary_base::lists::Listed;
 use canary_base::names::{Label, Name};
 use canary_base::numbers::Number;
+use canary_base::writing::{WriteFault, write_all};
 use canary_once::book::{Book, BookFault};
 use canary_plan::bound_analysis::BoundAnalysis;
 use canary_release::effect::Recorded;
@@ -385,6 +386,6 @@ fn put<W: Write>(out: &mut W, text: &Listed<u8>) -> Result<(), ExportFault>
 {
     match write_all(out, text.as_slice()) {
         Ok(()) => Ok(()),
-        Err(CsvWriteFault) => Err(ExportFault::Write),
+        Err(WriteFault) => Err(ExportFault::Write),
     }
 }

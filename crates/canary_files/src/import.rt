@@ -1,8 +1,8 @@
 //! Importing measurement files.
 ghost use Rattle.std.specs.Prelude.{◌≡◌, ◌≢◌, ◌≤◌, ◌∷◌, [], Ok, Err, IfOk};
-ghost use Rattle.canary_files.specs.Writes.{Known};
+ghost use Rattle.canary_base.specs.Writes.{Known};
+ghost use Rattle.canary_once.specs.Messages.{desk_state};
 ghost use Rattle.canary_files.specs.Rows.{header};
-ghost use Rattle.canary_files.specs.RowExchanges.{desk_state};
 ghost use Rattle.canary_files.specs.Taking.{HasTaken, taken_of, spare_of};
 ghost use Rattle.canary_files.specs.Importing.{ImportsTo, KeepsBook};
 

@@ -1,7 +1,7 @@
 //! Laws over the definitions alone.
+ghost use Rattle.canary_once.specs.Messages.{desk_state};
 ghost use Rattle.canary_files.specs.ReadingBack.{AreReadBack, AreExportsReadBack};
 ghost use Rattle.canary_files.specs.ReadingBack.{AreFilesReadBack};
-ghost use Rattle.canary_files.specs.RowExchanges.{desk_state};
 ghost use Rattle.canary_files.specs.Again.{TellsAfterwards, TellsSettled, ImportsAgain};
 
 use canary_once::book::Book;

@@ -22,4 +22,3 @@ pub mod laws;
 pub mod reading;
 mod records;
 pub mod row;
-mod writing;

@@ -2,7 +2,7 @@
 ghost use Rattle.std.specs.Prelude.{◌≡◌, ◌≢◌, ◌≤◌, ◌+◌, [], List, ℕ, Ok, Err, true, false};
 ghost use Rattle.csv.specs.Reading.{reader_source};
 ghost use Rattle.csv.specs.Records.{fields_of};
-ghost use Rattle.canary_files.specs.Writes.{Known};
+ghost use Rattle.canary_base.specs.Writes.{Known};
 ghost use Rattle.canary_files.specs.Taking.{StandsBehind, HasTaken, TakesNext, taken_of, IsEnd};
 ghost use Rattle.canary_files.specs.Taking.{left_of, spare_of};
 

@@ -8,11 +8,11 @@ use Rattle.std.proofs.lemmas.Bool.{cases_lt}
 use Rattle.std.proofs.lemmas.Bool.Decides.{eqb_tells}
 use Rattle.canary_wire.specs.Conversing.{Talk, begun, so_far, TakesTurn}
 use Rattle.canary_wire.specs.Crowds.{Turn, Crowd, all_held, IsNew, Becomes, Comes, HasTurn, Goes}
-use Rattle.canary_once.specs.BookCalls.{BookState}
+use Rattle.canary_once.specs.BookCalls.{BookState, Stays}
 use Rattle.canary_once.specs.Contents.{Contents, KeepsReceipts}
 use Rattle.canary_once.specs.Sound.{AreSoundContents}
-use Rattle.canary_wire.specs.Dispositions.{Exchange, DeskState, desk_state, HandledAll, AnsweredInOrder}
-use Rattle.canary_listen.specs.Placing.{IsUnchanged}
+use Rattle.canary_once.specs.Messages.{DeskState, desk_state, HandledAll, AnsweredInOrder}
+use Rattle.canary_wire.specs.Dispositions.{HttpExchange, IsExchange}
 use Rattle.canary_listen.specs.Attending.{Attendance, attendance, nobody, IsServed, KeepsServed, Attends, ServesAll}
 
 -- ---- nothing, and one after another
@@ -23,22 +23,23 @@ keeps_same a b e turns s = subst (λ (x : Attendance). IsServed turns x) e s
 pub keeps_then : (a b c : Attendance) → KeepsServed a b → KeepsServed b c → KeepsServed a c
 keeps_then a b c x y turns s = y turns (x turns s)
 
-pub attends_none : (p q : DeskState) (a b : Attendance) → HandledAll p q [] → KeepsServed a b → Attends p q a b
+pub attends_none : (p q : DeskState) (a b : Attendance) → HandledAll IsExchange p q [] → KeepsServed a b → Attends p q a b
 attends_none p q a b none k = record {
   turns = [];
   went = none;
   keeps = λ before s. subst (λ (t : List Turn). IsServed t b) (sym (append-nil before)) (k before s);
 }
 
-pub attends_kept : (p : DeskState) (a b : Attendance) → HandledAll p p [] → KeepsServed a b → Attends p p a b
+pub attends_kept : (p : DeskState) (a b : Attendance) → HandledAll IsExchange p p [] → KeepsServed a b → Attends p p a b
 attends_kept p a b none k = attends_none p p a b none k
 
 -- nor was anything answered as it was looked where the records are
-pub went_unchanged : (clock : (ℕ → ℕ) → Type 0) (s t : BookState) → HandledAll (desk_state clock s) (desk_state clock s) [] → IsUnchanged s t → HandledAll (desk_state clock s) (desk_state clock t) []
+pub went_unchanged : (clock : (ℕ → ℕ) → Type 0) (s t : BookState) → HandledAll IsExchange (desk_state clock s) (desk_state clock s) [] → Stays s t → HandledAll IsExchange (desk_state clock s) (desk_state clock t) []
 went_unchanged clock s t none u = record {
   each = tt;
   moments = none.moments;
   honest = u.honest;
+  in_memory = u.in_memory;
   sure = (u.sure, tt);
   sound = λ honest sound. subst AreSoundContents (sym (u.same honest)) sound;
   handled = λ honest. u.same honest;
@@ -61,12 +62,12 @@ keeps_and_attends p q a b c k x = record {
 
 -- what was held on two stretches was held on both together
 abbrev pub GoOn : DeskState → DeskState → DeskState → Type 0
-GoOn p q r = (xs ys : List Exchange) → HandledAll p q xs → HandledAll q r ys → HandledAll p r (xs ++ ys)
+GoOn p q r = (xs ys : List HttpExchange) → HandledAll IsExchange p q xs → HandledAll IsExchange q r ys → HandledAll IsExchange p r (xs ++ ys)
 
 pub attends_then : (p q r : DeskState) (a b c : Attendance) → GoOn p q r → Attends p q a b → Attends q r b c → Attends p r a c
 attends_then p q r a b c on x y = record {
   turns = x.turns ++ y.turns;
-  went = subst (HandledAll p r) (sym (flat_map-append (λ (t : Turn). t.held) x.turns y.turns)) (on (all_held x.turns) (all_held y.turns) x.went y.went);
+  went = subst (HandledAll IsExchange p r) (sym (flat_map-append (λ (t : Turn). t.held) x.turns y.turns)) (on (all_held x.turns) (all_held y.turns) x.went y.went);
   keeps = λ before s. subst (λ (t : List Turn). IsServed t c) (append_assoc before x.turns y.turns) (y.keeps (before ++ x.turns) (x.keeps before s));
 }
 
@@ -79,7 +80,7 @@ served_nobody = record {
   free = λ client h. refl;
 }
 
-pub serves_all : (p q : DeskState) (a b : Attendance) → a ≡ nobody → Attends p q a b → ((xs : List Exchange) → HandledAll p q xs → AnsweredInOrder p q xs) → ServesAll p q
+pub serves_all : (p q : DeskState) (a b : Attendance) → a ≡ nobody → Attends p q a b → ((xs : List HttpExchange) → HandledAll IsExchange p q xs → AnsweredInOrder IsExchange p q xs) → ServesAll p q
 serves_all p q a b e x on =
     let s : IsServed x.turns b = x.keeps [] (subst (λ (t : Attendance). IsServed [] t) (sym e) served_nobody) in
     record {
@@ -134,7 +135,7 @@ turn_attends law p q crowd new n next a b there x becomes =
     let one : Turn = record { client = n; got = x.got; put = x.put; held = x.held } in
     record {
       turns = one ∷ [];
-      went = subst (HandledAll p q) (sym (append-nil x.held)) x.went;
+      went = subst (HandledAll IsExchange p q) (sym (append-nil x.held)) x.went;
       keeps = λ before s. record {
         crowd = law before one crowd new a b s.crowd there x.order becomes;
         given = below_one before one next (there_below crowd n next a s.free there) s.given;

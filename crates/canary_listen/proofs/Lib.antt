@@ -1,2 +1,2 @@
-pub mod Attended
-pub mod CrowdMaps
+mod Attended
+mod CrowdMaps

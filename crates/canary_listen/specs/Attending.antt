@@ -3,7 +3,8 @@ use Rattle.std.specs.Prelude.{◌≡◌, ℕ, ◌<◌, ◌≤◌, List, ◌++◌
 use Rattle.std.specs.List.{AllByRecursion}
 use Rattle.canary_wire.specs.Conversing.{Talk}
 use Rattle.canary_wire.specs.Crowds.{Turn, Crowd, all_held, InOrderBy, IsCrowd}
-use Rattle.canary_wire.specs.Dispositions.{DeskState, HandledAll, AnsweredInOrder}
+use Rattle.canary_once.specs.Messages.{DeskState, HandledAll, AnsweredInOrder}
+use Rattle.canary_wire.specs.Dispositions.{IsExchange}
 
 -- ---- what is served
 
@@ -17,7 +18,7 @@ AreInOrder turns = (client : ℕ) → (t : Talk) × InOrderBy turns client t
 pub record ServesAll (old new : DeskState) : Type 0 where
   pub turns : List Turn
   pub order : AreInOrder turns
-  pub holds : AnsweredInOrder old new (all_held turns)
+  pub holds : AnsweredInOrder IsExchange old new (all_held turns)
 
 -- ---- step by step
 
@@ -46,5 +47,5 @@ KeepsServed old new = (turns : List Turn) → IsServed turns old → IsServed tu
 -- clients came, had turns or went
 pub record Attends (p q : DeskState) (old new : Attendance) : Type 0 where
   pub turns : List Turn
-  pub went : HandledAll p q (all_held turns)
+  pub went : HandledAll IsExchange p q (all_held turns)
   pub keeps : (before : List Turn) → IsServed before old → IsServed (before ++ turns) new

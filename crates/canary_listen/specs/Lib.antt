@@ -1,6 +1,5 @@
 pub mod Attending
 pub mod Crowd
 pub mod Moments
-pub mod Placing
 pub mod Sums
 pub mod Waiting

@@ -17,3 +17,4 @@ cause_after seconds l awaited.Rest = cause_beyond seconds l.message_seconds caus
 cause_after seconds l awaited.Reading = cause_beyond seconds l.idle_seconds cause.Write
 cause_after seconds l awaited.Leaving = cause_beyond seconds l.message_seconds cause.EndOfInput
 cause_after seconds l awaited.Room = None
+cause_after seconds l awaited.Queue = None

@@ -1,7 +1,7 @@
 //! A client: its connection, the conversation with it, and how long it may take.
 ghost use Rattle.std.specs.Prelude.{◌≡◌, ◌≢◌, None, false, length};
 ghost use Rattle.canary_wire.specs.Conversing.{TakesTurn};
-ghost use Rattle.canary_wire.specs.Dispositions.{desk_state};
+ghost use Rattle.canary_once.specs.Messages.{desk_state};
 ghost use Rattle.canary_wire.specs.Talks.{talk_of};
 ghost use Rattle.canary_listen.specs.Crowd.{client_talk};
 
@@ -35,6 +35,8 @@ pub(crate) enum AfterTurn {
     WaitFor(Interest),
     // It stays, and has its next turn when queries are answered again.
     WaitForRoom,
+    // It stays, and has its next turn when the histories that came before its own are answered.
+    WaitInQueue,
     // It stays, and its replies are held back: it has to take them soon.
     HoldReplies,
     // It goes, and this is why.
@@ -61,6 +63,8 @@ pub(crate) struct Ready {
     // Whether bytes may be left after a short read: the system reported that the client ended its
     // sending side, which it does once, or that it sent an urgent byte, before which a read stops.
     pub(crate) may_hold_more: bool,
+    // Whether the system reported that its connection has ended in both directions.
+    pub(crate) has_ended: bool,
 }
 
 // What a client sends, as far as it is its turn to.
@@ -243,7 +247,8 @@ impl Client {
         if wants == Wants::Write && part == TurnKind::Answer {
             return AfterTurn::HoldReplies;
         }
-        self.after_turn(wants, pace.answers_queries(), ready.now)
+        let (queries, histories) = (pace.answers_queries(), pace.answers_histories());
+        self.after_turn(wants, queries, histories, ready.now)
     }
 
     // What it does in its turn: one that has bytes to take already takes them first.
@@ -257,8 +262,15 @@ impl Client {
         }
     }
 
-    // What becomes of it where its conversation waits for this.
-    fn after_turn(&mut self, wants: Wants, answers_queries: bool, now: u64) -> AfterTurn
+    // What becomes of it where its conversation waits for this, after a turn that answered queries
+    // and histories, or not.
+    fn after_turn(
+        &mut self,
+        wants: Wants,
+        answers_queries: bool,
+        answers_histories: bool,
+        now: u64,
+    ) -> AfterTurn
         ensures same { client_talk self.new ≡ client_talk self.old }
         ensures told { result ≢ AfterTurn.HoldReplies }
         ensures anew { wants ≢ Wants.Read → self.new.is_reported ≡ false }
@@ -276,17 +288,28 @@ impl Client {
                 self.wait_for(Awaited::Reading, now);
                 AfterTurn::WaitFor(Interest::WRITABLE)
             }
-            Wants::Yield if !answers_queries && self.conversation.begins_with_query() => {
-                self.wait_for(Awaited::Room, now);
-                AfterTurn::WaitForRoom
-            }
-            Wants::Yield => {
-                self.wait_for(Awaited::Message, now);
-                AfterTurn::WaitFor(Interest::READABLE | Interest::WRITABLE)
-            }
+            Wants::Yield => self.after_yield(answers_queries, answers_histories, now),
             Wants::Drain => self.drain(now),
             Wants::Close(cause) => AfterTurn::Close(cause),
         }
+    }
+
+    // The same, where it waits for its next turn.
+    fn after_yield(&mut self, answers_queries: bool, answers_histories: bool, now: u64) -> AfterTurn
+        ensures same { client_talk self.new ≡ client_talk self.old }
+        ensures told { result ≢ AfterTurn.HoldReplies }
+        ensures reported { self.new.is_reported ≡ self.old.is_reported }
+    {
+        if !answers_queries && self.conversation.begins_with_query() {
+            self.wait_for(Awaited::Room, now);
+            return AfterTurn::WaitForRoom;
+        }
+        if !answers_histories && self.conversation.begins_with_history() {
+            self.wait_for(Awaited::Queue, now);
+            return AfterTurn::WaitInQueue;
+        }
+        self.wait_for(Awaited::Message, now);
+        AfterTurn::WaitFor(Interest::READABLE | Interest::WRITABLE)
     }
 
     // What of its input is waited for.

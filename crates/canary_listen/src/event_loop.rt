@@ -1,7 +1,7 @@
 //! Clients are accepted, have their turns, and are let go.
 ghost use Rattle.std.specs.Prelude.{◌≡◌, ◌≢◌, Some, IsTrue, false, option_map, ◌-◌};
 ghost use Rattle.std.specs.VecDeque.{deque_len};
-ghost use Rattle.canary_wire.specs.Dispositions.{desk_state};
+ghost use Rattle.canary_once.specs.Messages.{desk_state};
 ghost use Rattle.canary_listen.specs.Attending.{Attends, KeepsServed};
 ghost use Rattle.canary_listen.specs.Crowd.{clients_attendance, IsReported, AreAllServed};
 
@@ -48,6 +48,10 @@ pub(crate) struct EventLoop {
     pub(crate) reports: Reports,
     // Whether some query waits until others took what they are owed.
     pub(crate) has_queries_waiting: bool,
+    // The clients whose histories wait, in order. Each is there once.
+    pub(crate) histories: VecDeque<usize>,
+    // Whether histories are answered in the turns of this round.
+    pub(crate) answers_histories: bool,
     // The clients whose replies are held back, in order.
     pub(crate) held: VecDeque<usize>,
     // How long the turn of one that is reported goes on at most.
@@ -86,10 +90,29 @@ impl EventLoop {
         u64::try_from(self.clients.count()).unwrap_or(u64::MAX) < self.limits.clients
     }
 
+    // Gives each that was reported its turn, and then answers one history, if some wait: so a
+    // client that asks for little waits for one history at most, beside the turns of others.
+    pub(crate) fn dispatch_round<R: time::Clock + AllocGlobal, C: Clock, B: Book>(
+        &mut self,
+        rt: &R,
+        events: &Events<Global>,
+        clock: &mut C,
+        book: &mut B,
+    )
+        ensures { Attends (desk_state (C.tells clock.old) (B.state book.old))
+            (desk_state (C.tells clock.new) (B.state book.new))
+            (clients_attendance self.old.clients) (clients_attendance self.new.clients) }
+    {
+        going_on::<C, B>();
+        self.dispatch_all(rt, events, clock, book);
+        self.answer_history(rt, clock, book);
+    }
+
     // Does what is to be done for each that was reported. If many more are to come, a reply is held
     // back until there are some, which are sent one after another: so the system wakes clients that
     // wait for replies less often, and who is woken finds several. None is held back in the end.
-    pub(crate) fn dispatch_all<R: time::Clock + AllocGlobal, C: Clock, B: Book>(
+    // Histories wait unless nobody else was reported, and none waits.
+    fn dispatch_all<R: time::Clock + AllocGlobal, C: Clock, B: Book>(
         &mut self,
         rt: &R,
         events: &Events<Global>,
@@ -104,12 +127,14 @@ impl EventLoop {
         going_on::<C, B>();
         let (mut left, now) = (events.iter().count(), self.now);
         self.share = share_of(left);
+        self.answers_histories = left <= 1 && self.histories.is_empty();
         'events: for event in events.iter() {
             left = left.saturating_sub(1);
             let ready = Ready {
                 part: part_before(left),
                 now,
                 may_hold_more: event.is_read_closed() || event.is_priority(),
+                has_ended: event.is_write_closed(),
             };
             self.dispatch_next(rt, event.token(), ready, clock, book);
         }
@@ -132,7 +157,52 @@ impl EventLoop {
     {
         going_on::<C, B>();
         self.send_due(rt, ready.part, clock, book);
+        self.leave_queue(token.0, ready.has_ended);
         self.dispatch(rt, token, ready, clock, book);
+    }
+
+    // Lets a client go whose connection has ended in both directions while its history waits.
+    fn leave_queue(&mut self, number: usize, has_ended: bool)
+        ensures { KeepsServed (clients_attendance self.old.clients)
+            (clients_attendance self.new.clients) }
+    {
+        if has_ended && self.histories.contains(&number) {
+            self.histories.retain(|waiting| *waiting != number);
+            self.close(number, Cause::Write);
+        }
+    }
+
+    // Whether a history waits, and queries are answered.
+    pub(crate) fn has_history_due(&self) -> bool {
+        !self.histories.is_empty() && self.answers_queries()
+    }
+
+    // Answers the history that waits the longest, and no other message of its client.
+    fn answer_history<R: time::Clock + AllocGlobal, C: Clock, B: Book>(
+        &mut self,
+        rt: &R,
+        clock: &mut C,
+        book: &mut B,
+    )
+        ensures { Attends (desk_state (C.tells clock.old) (B.state book.old))
+            (desk_state (C.tells clock.new) (B.state book.new))
+            (clients_attendance self.old.clients) (clients_attendance self.new.clients) }
+    {
+        going_on::<C, B>();
+        if !self.has_history_due() {
+            return;
+        }
+        self.share = Duration::ZERO;
+        self.answers_histories = true;
+        if let Some(number) = self.histories.pop_front() {
+            let ready = Ready {
+                part: TurnKind::Both,
+                now: self.now,
+                may_hold_more: false,
+                has_ended: false,
+            };
+            self.dispatch(rt, Token(number), ready, clock, book);
+        }
     }
 
     // Sends the replies that are held back, if enough are, or if the turn to come holds none back.
@@ -189,6 +259,7 @@ impl EventLoop {
                 part: TurnKind::Send,
                 now: self.now,
                 may_hold_more: false,
+                has_ended: false,
             };
             self.dispatch(rt, Token(number), ready, clock, book);
         }
@@ -212,7 +283,9 @@ impl EventLoop {
             self.has_waiting = true;
         }
         let number = token.0;
-        let mut pace = TimeSlice::begun(rt, self.share, self.answers_queries());
+        let share = share_in(ready.part, self.share);
+        let (queries, histories) = (self.answers_queries(), self.answers_histories);
+        let mut pace = TimeSlice::begun(rt, share, queries, histories);
         if let Some(fate) = self.clients.turn(
             number,
             rt.alloc(),
@@ -240,8 +313,24 @@ impl EventLoop {
         match fate {
             AfterTurn::WaitFor(interest) => self.await_ready(number, interest),
             AfterTurn::WaitForRoom => self.has_queries_waiting = true,
+            AfterTurn::WaitInQueue => self.queue_history(number),
             AfterTurn::HoldReplies => self.hold(number),
             AfterTurn::Close(cause) => self.close(number, cause),
+        }
+    }
+
+    // Has a client's history wait behind those that came before it, unless it waits already. If
+    // there is no memory for that, it has its next turn when its connection is ready.
+    fn queue_history(&mut self, number: usize)
+        ensures keeps { KeepsServed (clients_attendance self.old.clients)
+            (clients_attendance self.new.clients) }
+        ensures held { self.new.held ≡ self.old.held }
+    {
+        if self.histories.contains(&number) {
+            return;
+        }
+        if self.histories.push_back(number).is_err() {
+            self.await_ready(number, Interest::READABLE | Interest::WRITABLE);
         }
     }
 
@@ -444,6 +533,16 @@ fn part_before(left: usize) -> TurnKind {
         TurnKind::Answer
     } else {
         TurnKind::Both
+    }
+}
+
+// How long a turn goes on at most, if a client's share is this: one that takes replies which were
+// held back has had its share as it sent its messages.
+fn share_in(part: TurnKind, share: Duration) -> Duration {
+    if part == TurnKind::Send {
+        Duration::ZERO
+    } else {
+        share
     }
 }
 

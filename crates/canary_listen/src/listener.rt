@@ -1,10 +1,10 @@
 //! Serving clients on a socket.
-ghost use Rattle.std.specs.Prelude.{◌≡◌, IfOk, OnOk, if◌then◌else◌};
+ghost use Rattle.std.specs.Prelude.{◌≡◌, IfOk, OnOk, true, false};
 ghost use Rattle.std.specs.Duration.{as_nanos};
-ghost use Rattle.canary_wire.specs.Dispositions.{desk_state};
+ghost use Rattle.canary_once.specs.Messages.{desk_state};
 ghost use Rattle.canary_listen.specs.Attending.{Attends, ServesAll, nobody};
 ghost use Rattle.canary_listen.specs.Crowd.{attendance_of, IsDone};
-ghost use Rattle.canary_listen.specs.Placing.{IsUnchanged};
+ghost use Rattle.canary_once.specs.BookCalls.{Stays};
 
 use crate::clients::Clients;
 use crate::event_loop::{EventLoop, SOCKET};
@@ -54,7 +54,9 @@ pub enum ListenFault {
 /// A socket at which clients come, and those that came: one thread, which waits for none of them.
 ///
 /// Each client has one conversation of HTTP (RFC 9112), whose messages are answered one after
-/// another. Whoever is ready has a turn, and all that are have one before any has the next.
+/// another. Whoever is ready has a turn, and all that are have one before any has the next. Queries
+/// of histories, whose replies may take long to make, wait in a queue of their own: one is answered
+/// after each round of turns, in the order in which they came.
 #[derive(Drop)]
 pub struct Listener {
     attendant: EventLoop,
@@ -94,6 +96,8 @@ impl Listener {
             clients: Clients::new(rt.alloc()),
             reports: Reports::new(rt.alloc()),
             has_queries_waiting: false,
+            histories: VecDeque::new(rt.alloc()),
+            answers_histories: false,
             held: VecDeque::new(rt.alloc()),
             share: Duration::ZERO,
             left: None,
@@ -170,8 +174,10 @@ impl Listener {
 
     /// Waits until something comes, at most so long, and gives each client that is ready one turn:
     /// one message at least, and more for at most 20 milliseconds, of which each has the same
-    /// share. Then those that take too long are let go, and some of those that wait are accepted.
-    /// Once a second the book is asked first whether its records are in place.
+    /// share. A query of a history waits in a queue, unless nobody else is ready and none waits; of
+    /// those that wait one is answered then. Then those that take too long are let go, and some of
+    /// those that wait are accepted. Once a second the book is asked first whether its records are
+    /// in place.
     ///
     /// # Errors
     /// `Accept` where the system tells no more of the connections; `Lost` where the records were
@@ -212,22 +218,24 @@ impl Listener {
             (desk_state (C.tells clock.new) (B.state book.new))
             (attendance_of self.old) (attendance_of self.new) }
     {
-        self.attendant.dispatch_all(rt, &self.events, clock, book);
+        self.attendant.dispatch_round(rt, &self.events, clock, book);
         self.attendant.close_overdue();
         self.attendant.resume_queries();
         self.attendant.report(errors);
         self.attendant.accept_some(rt.alloc());
     }
 
-    // Waits until something comes, at most so long; not at all where somebody may be accepted.
+    // Waits until something comes, at most so long; not at all where somebody may be accepted or a
+    // history is to be answered.
     fn wait(&mut self, wait: Duration) -> io::Result<()>
         ensures { attendance_of self.new ≡ attendance_of self.old }
     {
         let may_accept = self.attendant.may_accept();
-        if !may_accept && !self.events.is_empty() && self.comes_soon()? {
+        let has_history = self.attendant.has_history_due();
+        if !may_accept && !has_history && !self.events.is_empty() && self.comes_soon()? {
             return Ok(());
         }
-        let wait = time_to_wait(may_accept, wait);
+        let wait = time_to_wait(may_accept, has_history, wait);
         self.attendant.poll.poll(&mut self.events, Some(wait))
     }
 
@@ -257,7 +265,7 @@ impl Listener {
     // asked for once a second: each time that those are let go that take too long.
     fn has_lost<B: Placed>(&mut self, book: &mut B) -> bool
         ensures attendance { attendance_of self.new ≡ attendance_of self.old }
-        ensures book { IsUnchanged (B.state book.old) (B.state book.new) }
+        ensures book { Stays (B.state book.old) (B.state book.new) }
     {
         if self.attendant.is_swept() || book.is_in_place() {
             return false;
@@ -282,11 +290,18 @@ impl Listener {
     }
 }
 
-// How long is waited at most for what comes: not at all if somebody may be accepted.
-fn time_to_wait(may_accept: bool, wait: Duration) -> Duration
-    ensures { as_nanos result ≡ (if may_accept then 0 else as_nanos wait) }
+// How long is waited at most for what comes: not at all if somebody may be accepted, or if a
+// history is to be answered.
+fn time_to_wait(may_accept: bool, has_history: bool, wait: Duration) -> Duration
+    ensures accepts { may_accept ≡ true → as_nanos result ≡ 0 }
+    ensures answers { has_history ≡ true → as_nanos result ≡ 0 }
+    ensures waits { may_accept ≡ false → has_history ≡ false → as_nanos result ≡ as_nanos wait }
 {
-    if may_accept { Duration::ZERO } else { wait }
+    if may_accept || has_history {
+        Duration::ZERO
+    } else {
+        wait
+    }
 }
 
 // A socket on that address, and what reports who comes there.

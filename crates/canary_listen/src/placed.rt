@@ -1,5 +1,5 @@
 //! Books whose records may be taken away while clients are served.
-ghost use Rattle.canary_listen.specs.Placing.{IsUnchanged};
+ghost use Rattle.canary_once.specs.BookCalls.{Stays};
 
 use canary_once::book::Book;
 use canary_once::memory::MemoryBook;
@@ -9,7 +9,7 @@ pub trait Placed: Book {
     /// Whether the records are still where they were found. From the first time on that they are
     /// not, each call of the book answers `Storage`, settles nothing, and this answers false.
     fn is_in_place(&mut self) -> bool
-        ensures { IsUnchanged (Self.state self.old) (Self.state self.new) };
+        ensures { Stays (Self.state self.old) (Self.state self.new) };
 }
 
 impl Placed for MemoryBook {

@@ -9,17 +9,24 @@ pub(crate) struct TimeSlice<'a, R> {
     begin: Option<Instant>,
     most: Duration,
     answers_queries: bool,
+    answers_histories: bool,
 }
 
 impl<'a, R: time::Clock> TimeSlice<'a, R> {
     // A turn that begins now and goes on so long at most. If the clock cannot be read, it ends
     // after its first message.
-    pub(crate) fn begun(rt: &'a R, most: Duration, answers_queries: bool) -> TimeSlice<'a, R> {
+    pub(crate) fn begun(
+        rt: &'a R,
+        most: Duration,
+        answers_queries: bool,
+        answers_histories: bool,
+    ) -> TimeSlice<'a, R> {
         TimeSlice {
             rt,
             begin: Instant::now(rt).ok(),
             most,
             answers_queries,
+            answers_histories,
         }
     }
 }
@@ -39,5 +46,10 @@ impl<R: time::Clock> Pace for TimeSlice<'_, R> {
     // What was said of queries when the turn began.
     fn answers_queries(&self) -> bool {
         self.answers_queries
+    }
+
+    // What was said of histories then.
+    fn answers_histories(&self) -> bool {
+        self.answers_histories
     }
 }

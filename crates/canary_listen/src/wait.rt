@@ -16,6 +16,8 @@ pub(crate) enum Awaited {
     Reading,
     // Nothing: its query waits until other clients took what they are owed.
     Room,
+    // Nothing: its history waits until those that came before it are answered.
+    Queue,
     // To end its sending side, after its last reply.
     Leaving,
 }
@@ -70,6 +72,7 @@ impl Wait {
             Awaited::Reading => cause_if(waited > limits.idle_seconds, Cause::Write),
             Awaited::Leaving => cause_if(waited > limits.message_seconds, Cause::EndOfInput),
             Awaited::Room => None,
+            Awaited::Queue => None,
         }
     }
 }

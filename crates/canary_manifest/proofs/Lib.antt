@@ -1,6 +1,6 @@
-pub mod Bodies
-pub mod Digits
-pub mod Items
-pub mod TemplateRows
-pub mod CommandRows
-pub mod Metrics
+mod Bodies
+mod Digits
+mod Items
+mod TemplateRows
+mod CommandRows
+mod Metrics

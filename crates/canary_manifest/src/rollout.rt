@@ -84,7 +84,7 @@ fn steps_of(alloc: Global, steps: &Value) -> Result<Listed<Step>, FormFault>
 }
 
 // The step that each item is, in order, or the first fault.
-#[tactic(auto, using(crate::proofs::Items::read_in_turn))]
+#[tactic(auto, using(canary_canonical::proofs::Items::read_in_turn))]
 fn steps_in(alloc: Global, list: &Vec<Value>) -> Result<Listed<Step>, FormFault>
     ensures { IsRead (each step_in (items_view list.now.items)) result }
 {
@@ -148,7 +148,7 @@ fn templates_in(alloc: Global, analysis: &Value) -> Result<Listed<Name>, FormFau
 }
 
 // The name in each item, in order; `Unreadable` if one has no valid name.
-#[tactic(auto, using(crate::proofs::Items::read_in_turn))]
+#[tactic(auto, using(canary_canonical::proofs::Items::read_in_turn))]
 fn template_names(alloc: Global, list: &Vec<Value>) -> Result<Listed<Name>, FormFault>
     ensures { IsRead (each (in_member (codes "templateName") name_in)
         (items_view list.now.items)) result }

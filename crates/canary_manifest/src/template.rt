@@ -61,7 +61,7 @@ fn metrics_of(alloc: Global, value: &Value) -> Result<Listed<MetricSpec>, FormFa
 }
 
 // The metric that each item is, in order, or the first fault.
-#[tactic(auto, using(crate::proofs::Items::read_in_turn))]
+#[tactic(auto, using(canary_canonical::proofs::Items::read_in_turn))]
 fn metrics_in(alloc: Global, list: &Vec<Value>) -> Result<Listed<MetricSpec>, FormFault>
     ensures { IsRead (each metric_of (items_view list.now.items)) result }
 {
@@ -153,7 +153,7 @@ fn dry_run_of(alloc: Global, value: &Value) -> Result<Listed<DryRunName>, FormFa
 }
 
 // The name in each item, in order, or the first fault.
-#[tactic(auto, using(crate::proofs::Items::read_in_turn))]
+#[tactic(auto, using(canary_canonical::proofs::Items::read_in_turn))]
 fn dry_run_in(alloc: Global, list: &Vec<Value>) -> Result<Listed<DryRunName>, FormFault>
     ensures { IsRead (each dry_run_name (items_view list.now.items)) result }
 {

@@ -24,7 +24,7 @@ use Rattle.canary_release.specs.Desks.{ModelService, revisions_of, newest}
 use Rattle.canary_release.specs.Order.{IsInOrder, IsInRevisions, known_by}
 use Rattle.canary_release.specs.declared.service.ServiceParts.{ServiceParts}
 use Rattle.canary_release.specs.Parts.{is_bound, is_unbound, is_step_bound, is_background_bound, is_broken, is_misbound, is_refused, runs_wanted, is_misplaced, is_misnumbered, repeats_number, has_wrong_tallies, has_other_revisions, is_background_run, is_step_run, has_background_run, is_astray, is_judged}
-use Rattle.canary_release.specs.Passing.{next_move, is_by}
+use Rattle.canary_release.specs.Rules.Passing.{next_move, is_by}
 use Rattle.canary_release.specs.Services.{is_done, is_in_progress, is_held}
 use Rattle.canary_release.specs.Stored.{stored_form}
 use Rattle.canary_once.specs.Contents.{Contents}

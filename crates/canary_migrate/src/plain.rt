@@ -4,10 +4,9 @@ ghost use Rattle.std.specs.List.{AllByRecursion, list_all};
 ghost use Rattle.canary_canonical.specs.Readings.{canonical_in};
 ghost use Rattle.canary_tables_schema.specs.Stores.{IsUsable};
 ghost use Rattle.canary_tables_read.specs.declared.first.TemplateRow.{TemplateRow as OfTemplate};
-ghost use Rattle.canary_tables_read.specs.Finds.{IsSame};
 ghost use Rattle.canary_tables_read.specs.First.{IsFirst, AreTemplatesIn, IsTemplateWithin};
-ghost use Rattle.canary_tables_read.specs.Reader.{IsKept};
 ghost use Rattle.canary_migrate.specs.FirstContents.{is_plain, is_plain_command, is_plain_row};
+ghost use Rattle.canary_tables_read.specs.Reader.{Reads};
 
 use canary_base::error::Memory;
 use canary_base::lists::Listed;
@@ -30,10 +29,7 @@ pub(crate) fn templates<Q: Reader>(
     alloc: Global,
 ) -> Result<Listed<TemplateRow>, ReadFault>
     requires ready { Q.IsReady conn.old }
-    ensures mode { Q.IsReady conn.new }
-    ensures place { Q.place conn.new ≡ Q.place conn.old }
-    ensures kept { IsKept (Q.below conn.old) (Q.below conn.new) }
-    ensures same { IsSame (Q.shows conn.old) (Q.shows conn.new) }
+    ensures reads { Reads Q.IsReady Q.place Q.below Q.shows conn.old conn.new }
     ensures found { IsUsable (Q.shows conn.new) → IsFirst (Q.shows conn.old).now
         → IfOk result (AreTemplatesIn (Q.shows conn.old).now) }
     ensures only { IsUsable (Q.shows conn.new) → IsFirst (Q.shows conn.old).now

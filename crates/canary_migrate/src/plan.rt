@@ -6,10 +6,10 @@ ghost use Rattle.canary_tables_rows.specs.Limits.{IsServiceWithin, IsRunWithin};
 ghost use Rattle.canary_tables_rows.specs.Tables.{is_run};
 ghost use Rattle.canary_tables_contents.specs.Values.{made_from};
 ghost use Rattle.canary_tables_read.specs.Breaks.{BreaksUnless};
-ghost use Rattle.canary_tables_read.specs.Finds.{IsSame, FindsRows, first};
-ghost use Rattle.canary_tables_read.specs.Reader.{IsKept};
+ghost use Rattle.canary_tables_read.specs.Finds.{FindsRows, first};
 ghost use Rattle.canary_migrate.specs.Migrated.{all_bindings, bindings_named, bindings_made};
 ghost use Rattle.canary_migrate.specs.Migrated.{bindings_of_runs, run_bindings};
+ghost use Rattle.canary_tables_read.specs.Reader.{Reads};
 
 use crate::named;
 use canary_base::error::Memory;
@@ -34,10 +34,7 @@ pub(crate) fn bindings<Q: Reader>(
     alloc: Global,
 ) -> Result<Listed<BindingRow>, ReadFault>
     requires ready { Q.IsReady conn.old }
-    ensures mode { Q.IsReady conn.new }
-    ensures place { Q.place conn.new ≡ Q.place conn.old }
-    ensures kept { IsKept (Q.below conn.old) (Q.below conn.new) }
-    ensures same { IsSame (Q.shows conn.old) (Q.shows conn.new) }
+    ensures reads { Reads Q.IsReady Q.place Q.below Q.shows conn.old conn.new }
     ensures found { FindsRows (λ t. all_bindings t.services t.runs)
         (Q.shows conn.old) (Q.shows conn.new) result }
     ensures broken { BreaksUnless (λ t. AllByRecursion IsServiceWithin t.services
@@ -55,10 +52,7 @@ fn bindings_of_all<Q: Reader>(
     names: &[Name],
 ) -> Result<Listed<BindingRow>, ReadFault>
     requires ready { Q.IsReady conn.old }
-    ensures mode { Q.IsReady conn.new }
-    ensures place { Q.place conn.new ≡ Q.place conn.old }
-    ensures kept { IsKept (Q.below conn.old) (Q.below conn.new) }
-    ensures same { IsSame (Q.shows conn.old) (Q.shows conn.new) }
+    ensures reads { Reads Q.IsReady Q.place Q.below Q.shows conn.old conn.new }
     ensures found { FindsRows (λ t. flat_map (bindings_named t.services t.runs) names.now)
         (Q.shows conn.old) (Q.shows conn.new) result }
     ensures broken { BreaksUnless (λ t. AllByRecursion IsServiceWithin t.services
@@ -89,10 +83,7 @@ fn bindings_of<Q: Reader>(
     name: &Name,
 ) -> Result<Listed<BindingRow>, ReadFault>
     requires ready { Q.IsReady conn.old }
-    ensures mode { Q.IsReady conn.new }
-    ensures place { Q.place conn.new ≡ Q.place conn.old }
-    ensures kept { IsKept (Q.below conn.old) (Q.below conn.new) }
-    ensures same { IsSame (Q.shows conn.old) (Q.shows conn.new) }
+    ensures reads { Reads Q.IsReady Q.place Q.below Q.shows conn.old conn.new }
     ensures found { FindsRows (λ t. bindings_named t.services t.runs name.now)
         (Q.shows conn.old) (Q.shows conn.new) result }
     ensures broken { BreaksUnless (λ t. AllByRecursion IsServiceWithin t.services
@@ -113,10 +104,7 @@ fn row_bindings<Q: Reader>(
     row: &ServiceRow,
 ) -> Result<Listed<BindingRow>, ReadFault>
     requires ready { Q.IsReady conn.old }
-    ensures mode { Q.IsReady conn.new }
-    ensures place { Q.place conn.new ≡ Q.place conn.old }
-    ensures kept { IsKept (Q.below conn.old) (Q.below conn.new) }
-    ensures same { IsSame (Q.shows conn.old) (Q.shows conn.new) }
+    ensures reads { Reads Q.IsReady Q.place Q.below Q.shows conn.old conn.new }
     ensures found { FindsRows
         (λ t. bindings_made t.runs row.now (made_from (canonical_in row.now.spec)))
         (Q.shows conn.old) (Q.shows conn.new) result }
@@ -152,10 +140,7 @@ fn with_runs<Q: Reader>(
     attempt: Listed<BindingRow>,
 ) -> Result<Listed<BindingRow>, ReadFault>
     requires ready { Q.IsReady conn.old }
-    ensures mode { Q.IsReady conn.new }
-    ensures place { Q.place conn.new ≡ Q.place conn.old }
-    ensures kept { IsKept (Q.below conn.old) (Q.below conn.new) }
-    ensures same { IsSame (Q.shows conn.old) (Q.shows conn.new) }
+    ensures reads { Reads Q.IsReady Q.place Q.below Q.shows conn.old conn.new }
     ensures found { FindsRows (λ t. attempt
         ++ bindings_of_runs t.runs row.now.name made.now row.now.standing.runs)
         (Q.shows conn.old) (Q.shows conn.new) result }
@@ -179,10 +164,7 @@ fn bindings_of_run<Q: Reader>(
     made: &ServiceSpec,
 ) -> Result<Listed<BindingRow>, ReadFault>
     requires ready { Q.IsReady conn.old }
-    ensures mode { Q.IsReady conn.new }
-    ensures place { Q.place conn.new ≡ Q.place conn.old }
-    ensures kept { IsKept (Q.below conn.old) (Q.below conn.new) }
-    ensures same { IsSame (Q.shows conn.old) (Q.shows conn.new) }
+    ensures reads { Reads Q.IsReady Q.place Q.below Q.shows conn.old conn.new }
     ensures found { FindsRows
         (λ t. run_bindings made.now (first (filter (is_run name.now number) t.runs)))
         (Q.shows conn.old) (Q.shows conn.new) result }

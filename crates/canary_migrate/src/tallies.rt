@@ -3,9 +3,9 @@ ghost use Rattle.std.specs.Prelude.{◌≡◌, ◌≢◌, ◌+◌, if◌then◌e
 ghost use Rattle.std.specs.List.{AllByRecursion, suffix_len};
 ghost use Rattle.canary_tables_rows.specs.Limits.{IsMeasurementWithin, IsTallyWithin};
 ghost use Rattle.canary_tables_read.specs.Breaks.{BreaksUnless};
-ghost use Rattle.canary_tables_read.specs.Finds.{IsSame, FindsRows};
-ghost use Rattle.canary_tables_read.specs.Reader.{IsKept};
+ghost use Rattle.canary_tables_read.specs.Finds.{FindsRows};
 ghost use Rattle.canary_migrate.specs.Migrated.{is_passed, counted_with, tally_of};
+ghost use Rattle.canary_tables_read.specs.Reader.{Reads};
 
 use canary_base::lists::Listed;
 use canary_metric::laws;
@@ -29,10 +29,7 @@ pub(crate) fn with_passes<Q: Reader>(
     rows: &[FirstTally],
 ) -> Result<Listed<TallyRow>, ReadFault>
     requires ready { Q.IsReady conn.old }
-    ensures mode { Q.IsReady conn.new }
-    ensures place { Q.place conn.new ≡ Q.place conn.old }
-    ensures kept { IsKept (Q.below conn.old) (Q.below conn.new) }
-    ensures same { IsSame (Q.shows conn.old) (Q.shows conn.new) }
+    ensures reads { Reads Q.IsReady Q.place Q.below Q.shows conn.old conn.new }
     ensures found { FindsRows (λ t. map (tally_of t.measurements) rows.now)
         (Q.shows conn.old) (Q.shows conn.new) result }
     ensures broken { BreaksUnless (λ t. AllByRecursion IsMeasurementWithin t.measurements
@@ -49,10 +46,7 @@ pub(crate) fn with_passes<Q: Reader>(
 // The tally with the passes that the measurements of its metric come to.
 fn tally<Q: Reader>(conn: &mut Q, alloc: Global, row: &FirstTally) -> Result<TallyRow, ReadFault>
     requires ready { Q.IsReady conn.old }
-    ensures mode { Q.IsReady conn.new }
-    ensures place { Q.place conn.new ≡ Q.place conn.old }
-    ensures kept { IsKept (Q.below conn.old) (Q.below conn.new) }
-    ensures same { IsSame (Q.shows conn.old) (Q.shows conn.new) }
+    ensures reads { Reads Q.IsReady Q.place Q.below Q.shows conn.old conn.new }
     ensures found { FindsRows (λ t. tally_of t.measurements row.now)
         (Q.shows conn.old) (Q.shows conn.new) result }
     ensures broken { BreaksUnless (λ t. AllByRecursion IsMeasurementWithin t.measurements

@@ -1,21 +1,23 @@
 pub mod Events
-pub mod Runs
-pub mod NameMaps
-pub mod LastItems
-pub mod CallerMaps
-pub mod Keeping
+mod Runs
+mod Named
+mod NameMaps
+mod LastItems
+mod CallerMaps
+mod Keeping
+pub mod BookLemmas
+pub mod MessageLemmas
 pub mod TemplateLemmas
 pub mod Worlds
-pub mod Rows
-pub mod Lawful
-pub mod Settled
-pub mod Statuses
-pub mod Soundness
-pub mod KeptPasts
-pub mod KeptRecords
-pub mod KeptChanges
-pub mod ViewsJoined
-pub mod ViewsAfter
-pub mod ViewsPassed
-pub mod RowsOfQueries
-pub mod Named
+mod Rows
+mod Lawful
+mod Settled
+mod Statuses
+mod Soundness
+mod KeptPasts
+mod KeptRecords
+mod KeptChanges
+mod ViewsJoined
+mod ViewsAfter
+mod ViewsPassed
+mod RowsOfQueries

@@ -1,5 +1,5 @@
 -- Items that are joined by commas.
-use Rattle.std.proofs.Common.{◌≡◌, ℕ, zero, suc, ◌+◌, ◌<◌, Bool, true, List, [], ◌∷◌, ◌++◌, length, take, get_or, map, refl, sym, ap, ◌∙◌, append_assoc, take_all, arith}
+use Rattle.std.proofs.Common.{◌≡◌, ℕ, zero, suc, ◌+◌, ◌<◌, Bool, true, false, List, [], ◌∷◌, ◌++◌, length, take, get_or, map, refl, sym, ap, ◌∙◌, append_assoc, take_all, arith}
 use Rattle.std.specs.Prelude.{nat_lt, min}
 use Rattle.std.specs.List.{join_with_byte, zip}
 use Rattle.std.proofs.lemmas.List.{take_more, map-append}
@@ -35,6 +35,21 @@ words_more f xs i x item old new h x_is item_is old_is new_is =
     new_is
     ∙ (λ k. old_is k ++ item_words (nat_lt 0 i) ((item_is ∙ ap f x_is) k))
     ∙ ap (λ (r : List ℕ). 91 ∷ r) (sym (joined_more f xs i x h))
+
+-- the same behind any text
+pub words_more_behind : {A : Type 0} (f : A → List ℕ) (front : List ℕ) (xs : List A) (i : ℕ) (x : A) (old new : List ℕ) → i < length xs → x ≡ get_or xs i x → old ≡ front ++ join_with_byte 44 (map f (take i xs)) → new ≡ old ++ item_words (nat_lt 0 i) (f x)
+    → new ≡ front ++ join_with_byte 44 (map f (take (i + 1) xs))
+words_more_behind f front xs i x old new h x_is old_is new_is =
+    let so_far : List ℕ = join_with_byte 44 (map f (take i xs)) in
+    new_is
+    ∙ (λ k. old_is k ++ item_words (nat_lt 0 i) (ap f x_is k))
+    ∙ append_assoc front so_far (item_words (nat_lt 0 i) (f (get_or xs i x)))
+    ∙ ap (λ (r : List ℕ). front ++ r) (sym (joined_more f xs i x h))
+
+-- a line in quotes, piece by piece
+pub quoted_behind : (later : Bool) (text moment words : List ℕ) → (((text ++ item_words later (34 ∷ [])) ++ moment) ++ 32 ∷ []) ++ words ++ 34 ∷ [] ≡ text ++ item_words later (34 ∷ ((moment ++ (32 ∷ words)) ++ 34 ∷ []))
+quoted_behind true text moment words = simp append_assoc refl
+quoted_behind false text moment words = simp append_assoc refl
 
 -- the same over two lists, side by side
 pub pairs_more : {A B : Type 0} (f : A × B → List ℕ) (xs : List A) (ys : List B) (i : ℕ) (x : A) (y : B) (item old new : List ℕ) → i < length xs → i < length ys → x ≡ get_or xs i x → y ≡ get_or ys i y → item ≡ f (x, y)

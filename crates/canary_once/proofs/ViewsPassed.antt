@@ -11,7 +11,7 @@ use Rattle.canary_release.specs.declared.reply.Reply.{Reply}
 use Rattle.canary_release.specs.declared.service.ServiceParts.{ServiceParts}
 use Rattle.canary_release.specs.declared.service.Passed.{Passed}
 use Rattle.canary_release.specs.Evolutions.{Evolution, evolution_from}
-use Rattle.canary_release.specs.Passing.{pass, judged_at, followed, with_last, PassesInSteps}
+use Rattle.canary_release.specs.Rules.Passing.{pass, judged_at, followed, with_last, PassesInSteps}
 use Rattle.canary_release.specs.Desks.{ModelService, Desk, ModelDecision, newest, model_evolution, after, model_decision, rules, act_passed, ruling_on, desk_after}
 use Rattle.canary_release.specs.Stored.{stored_evolution, stored_after, stored_form, change_of, stored_by, stored_service, IsPassing, KeepsWhatIsSeen}
 use Rattle.canary_release.specs.Effects.{TimeMeasuresNothing}

@@ -30,6 +30,13 @@ IsHonestMemory b = b.is_in_memory × b.is_honest
 abbrev pub StaysInMemory : BookState → BookState → Type 0
 StaysInMemory old new = IsHonestMemory old → IsHonestMemory new
 
+-- the book contains what it did
+pub record Stays (old new : BookState) : Type 0 where
+  pub honest : new.is_honest → old.is_honest
+  pub in_memory : StaysInMemory old new
+  pub same : new.is_honest → new.contents ≡ old.contents
+  pub sure : new.is_sure ≡ old.is_sure
+
 -- a call finds this in the contents, or fails; it changes nothing
 pub record Finds {A : Type 0} (value : Contents → A) (old new : BookState)
     (found : Result A BookFault) : Type 0 where

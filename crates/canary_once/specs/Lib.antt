@@ -8,6 +8,7 @@ pub mod Views
 pub mod Showing
 pub mod Sound
 pub mod Single
+pub mod Messages
 pub mod Kept
 pub mod KeptRooms
 pub mod ServiceCodes

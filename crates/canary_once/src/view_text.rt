@@ -1,5 +1,7 @@
 //! The replies to queries: services, histories, and lists of items.
-ghost use Rattle.std.specs.Prelude.{◌≡◌, ◌++◌, IfOk, map, string_bytes, option_copied};
+ghost use Rattle.std.specs.Prelude.{◌≡◌, ◌++◌, IfOk, map, codes, string_bytes, option_copied};
+ghost use Rattle.std.specs.List.{join_with_byte};
+ghost use Rattle.canary_base.specs.Moments.{moment_text};
 ghost use Rattle.canary_release.specs.Replies.{bracketed};
 ghost use Rattle.canary_once.specs.Views.{found, not_found, hold_text, number_text, run_reply};
 ghost use Rattle.canary_once.specs.Views.{service_front, service_middle, service_back};
@@ -10,12 +12,18 @@ use crate::record::RunRecord;
 use crate::view_run::run_text;
 use canary_base::error::Memory;
 use canary_base::lists::Text;
+use canary_base::moments::Moment;
 use canary_base::names::Name;
 use canary_plan::line::Line;
 use canary_release::reply::{Reply, ReplyStatus};
 use canary_release::runs::OpenRun;
 use canary_release::service::Service;
 use std::alloc::Global;
+
+// Room for a history without its lines, and for each line of it. A longer text asks for more.
+const ROOM: usize = 128;
+
+const ROOM_OF_LINE: usize = 48;
 
 /// The reply that what is asked for is not there, with that code.
 pub(crate) fn not_found(alloc: Global, code: &str) -> Result<Reply, Memory>
@@ -178,31 +186,82 @@ pub(crate) fn with_item(text: String, later: bool, item: &str) -> Result<String,
 fn history_text(alloc: Global, name: Name, lines: &[Line]) -> Result<String, Memory>
     ensures { IfOk result (λ text. string_bytes text ≡ history_view name lines.now) }
 {
-    let lines = lines_text(alloc, lines)?;
-    Ok(format!(in alloc; "{{\"code\":\"ok\",\"lines\":{lines},\"service\":\"{name}\"}}")?)
+    let front = history_front(alloc, lines.len())?;
+    let text = with_lines(alloc, front, lines)?;
+    let text = joined(text, "],\"service\":\"", name.as_str())?;
+    joined(text, "\"", "}")
 }
 
-// The lines in quotes, in square brackets.
-fn lines_text(alloc: Global, lines: &[Line]) -> Result<String, Memory>
-    ensures { IfOk result (λ text. string_bytes text ≡ bracketed (map quoted_line lines.now)) }
+// The text that shows a history up to its lines, with room for so many of them.
+fn history_front(alloc: Global, lines: usize) -> Result<String, Memory>
+    ensures { IfOk result (λ text. string_bytes text ≡ codes "{\"code\":\"ok\",\"lines\":[") }
 {
-    let mut text = String::from_str(alloc, "[")?;
+    let room = ROOM_OF_LINE.saturating_mul(lines);
+    let mut text = String::with_capacity(alloc, ROOM.saturating_add(room))?;
+    text.push_str("{\"code\":\"ok\",\"lines\":[")?;
+    Ok(text)
+}
+
+// With the lines in quotes, in order, with commas between them.
+fn with_lines(alloc: Global, text: String, lines: &[Line]) -> Result<String, Memory>
+    ensures { IfOk result (λ all. string_bytes all
+        ≡ string_bytes text ++ join_with_byte 44 (map quoted_line lines.now)) }
+{
+    let Some(first) = lines.first() else {
+        return Ok(text);
+    };
+    let mut shown = MomentText::of(alloc, first.moment)?;
+    let mut all = text;
     for (i, line) in lines.iter().enumerate() {
-        let item = quoted_line(alloc, line)?;
-        text = with_item(text, i > 0, item.as_str())?;
+        shown = shown.at(line.moment)?;
+        all = with_line(all, i > 0, shown.text.as_str(), line)?;
     }
-    text.push_str("]")?;
-    Ok(text)
+    Ok(all)
 }
 
-// The line in quotes: its moment, a space and the words of its event.
-fn quoted_line(alloc: Global, line: &Line) -> Result<String, Memory>
-    ensures { IfOk result (λ text. string_bytes text ≡ quoted_line line.now) }
+// With one more line in quotes, after a comma where it is not the first: the text of its moment, a
+// space and the words of its event.
+fn with_line(text: String, later: bool, moment: &str, line: &Line) -> Result<String, Memory>
+    requires { moment.now ≡ moment_text line.now.moment }
+    ensures { IfOk result (λ all. string_bytes all
+        ≡ string_bytes text ++ item_words later (quoted_line line.now)) }
 {
-    let mut text = String::from_str(alloc, "\"")?;
-    line.moment.text(&mut text)?;
-    text.push_str(" ")?;
-    line.words(&mut text)?;
-    text.push_str("\"")?;
-    Ok(text)
+    let mut all = with_item(text, later, "\"")?;
+    all.push_str(moment)?;
+    all.push_str(" ")?;
+    line.words(&mut all)?;
+    all.push_str("\"")?;
+    Ok(all)
+}
+
+// A moment with its text. Of lines that follow one another many have the same moment.
+#[derive(Drop)]
+struct MomentText {
+    moment: Moment,
+    text: String,
+    ghost spelled: { string_bytes text ≡ moment_text moment },
+}
+
+impl MomentText {
+    // That moment with its text.
+    fn of(alloc: Global, moment: Moment) -> Result<MomentText, Memory>
+        ensures { IfOk result (λ shown. shown.moment ≡ moment) }
+    {
+        let mut text = String::new(alloc);
+        moment.text(&mut text)?;
+        Ok(MomentText { moment, text })
+    }
+
+    // That moment with its text, which is written anew only if it is another one.
+    fn at(self, moment: Moment) -> Result<MomentText, Memory>
+        ensures { IfOk result (λ shown. shown.moment ≡ moment) }
+    {
+        if self.moment == moment {
+            return Ok(self);
+        }
+        let mut text = self.text;
+        text.clear();
+        moment.text(&mut text)?;
+        Ok(MomentText { moment, text })
+    }
 }

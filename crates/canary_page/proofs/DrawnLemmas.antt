@@ -1,32 +1,14 @@
 -- What is written of a page, part after part.
-use Rattle.std.proofs.Common.{◌≡◌, ◌∙◌, ℕ, List, [], ◌++◌, take, drop, sym, ap, subst, refl}
-use Rattle.std.specs.Prelude.{fold, Option, Some, None, Result, Ok, Err, OnOk, IsErr}
+use Rattle.std.proofs.Common.{◌≡◌, ◌∙◌, ℕ, List, [], ◌++◌, sym, ap, subst, refl}
+use Rattle.std.specs.Prelude.{fold, Some, Result, Ok, Err, OnOk, IsErr}
 use Rattle.std.specs.Io.KnownBytes.{Appends}
-use Rattle.std.proofs.lemmas.List.{append-nil, append_assoc, take-append-drop}
+use Rattle.std.proofs.lemmas.List.{append-nil, append_assoc}
 use Rattle.std.proofs.lemmas.Grind.{flat_map-append, fold-append}
-use Rattle.canary_files.specs.Writes.{Known, Writes}
+use Rattle.canary_base.specs.Writes.{Known, Writes}
+use Rattle.canary_base.proofs.WriteLemmas.{appends_more, appends_none}
 use Rattle.canary_page_html.specs.declared.piece.HtmlContext.TheVariants as place
 use Rattle.canary_page_html.specs.Pages.{bytes_of, then_place, IsOfPieces}
 use Rattle.canary_page.specs.Drawn.{IsDrawn}
-
-appends_more : (a b c : Option (List ℕ)) (x y : List ℕ) → Appends a b x → Appends b c y → Appends a c (x ++ y)
-appends_more None b c x y p q = tt
-appends_more (Some u) None c x y p q = absurd p
-appends_more (Some u) (Some v) None x y p q = absurd q
-appends_more (Some u) (Some v) (Some w) x y p q = q ∙ ap (λ t. t ++ y) p ∙ append_assoc u x y
-
-appends_none : (a : Option (List ℕ)) → Appends a a []
-appends_none None = tt
-appends_none (Some u) = sym (append-nil u)
-
--- one write of a text that goes on
-pub write_step : (a b c : Option (List ℕ)) (text front rest : List ℕ) (n : ℕ) → text ≡ front ++ rest → Appends a b front → Appends b c (take n rest)
-    → (f : List ℕ) × (text ≡ f ++ drop n rest) × Appends a c f
-write_step a b c text front rest n e p q = (
-  front ++ take n rest,
-  e ∙ ap (λ t. front ++ t) (sym (take-append-drop n rest)) ∙ sym (append_assoc front (take n rest) (drop n rest)),
-  appends_more a b c front (take n rest) p q,
-)
 
 -- pieces, and others behind them: the latter begin between tags, where the former end
 both_of : (s t : List ℕ) → IsOfPieces s → IsOfPieces t → IsOfPieces (s ++ t)

@@ -1,2 +1,2 @@
-pub mod DrawnLemmas
+mod DrawnLemmas
 mod PageLemmas

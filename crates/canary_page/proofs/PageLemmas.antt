@@ -4,9 +4,9 @@ use Rattle.std.specs.Prelude.{min}
 use Rattle.std.proofs.lemmas.List.{length-take, length-drop}
 use Rattle.canary_release.specs.declared.effect.Recorded.{Recorded}
 use Rattle.canary_once.specs.Contents.{Contents}
-use Rattle.canary_once.specs.BookCalls.{BookState}
+use Rattle.canary_once.specs.BookCalls.{BookState, Stays}
 use Rattle.canary_once.specs.Records.{measurements_of}
-use Rattle.canary_files.specs.Exporting.{Stays, recorded_of}
+use Rattle.canary_files.specs.Exporting.{recorded_of}
 
 -- a page has as many as are left, at most 256
 in_page : {A : Type 0} (xs : List A) (from : ℕ) → length (take 256 (drop from xs)) ≡ min 256 (length xs - from)

@@ -2,7 +2,7 @@
 use Rattle.std.specs.Prelude.{ℕ, List, Result}
 use Rattle.canary_once.specs.declared.book.BookFault.{BookFault}
 use Rattle.canary_once.specs.declared.book.BookFault.TheVariants as book
-use Rattle.canary_files.specs.Writes.{Known}
+use Rattle.canary_base.specs.Writes.{Known}
 use Rattle.canary_files.specs.Exporting.{Puts}
 use Rattle.canary_page_html.specs.Pages.{IsOfPieces}
 use Rattle.canary_page.specs.declared.fault.PageFault.{PageFault}

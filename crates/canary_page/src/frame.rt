@@ -1,5 +1,5 @@
 //! What stands around the services of a page.
-use crate::figure::badge;
+use crate::charts::figure::badge;
 use crate::groups::{PlacedService, count_status, count_waiting};
 use crate::key::key;
 use crate::time::stamp;

@@ -1,5 +1,5 @@
 //! Which service stands in which part of a page.
-ghost use Rattle.canary_files.specs.Exporting.{Stays};
+ghost use Rattle.canary_once.specs.BookCalls.{Stays};
 
 use crate::fault::PageFault;
 use crate::reading::passed_of;

@@ -14,37 +14,18 @@
 //!     }
 #![tactic(auto)]
 
-mod attempts;
-mod card;
-mod chart;
-mod conditions;
-mod ended;
+mod charts;
 pub mod fault;
-mod figure;
 mod frame;
 mod groups;
-mod history;
 mod index;
 mod jobs;
 mod key;
-mod late;
-mod numbers;
 pub mod page;
-mod plot;
+mod parts;
 pub mod progress;
 mod reading;
-pub mod record;
-mod record_pages;
-mod record_run;
-mod run;
-pub mod services;
-mod sheet;
+pub mod records;
 mod shown;
-mod spot;
-mod table;
-mod thresholds;
 mod time;
-mod track;
-mod waits;
 mod words;
-mod writing;

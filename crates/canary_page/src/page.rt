@@ -1,20 +1,20 @@
 //! Drawing a page.
-ghost use Rattle.canary_files.specs.Exporting.{Stays};
+ghost use Rattle.canary_once.specs.BookCalls.{Stays};
 ghost use Rattle.canary_page.specs.Drawn.{IsDrawn};
 
-use crate::card::card;
 use crate::fault::PageFault;
 use crate::frame::{foot, head, part};
 use crate::groups::{count_standing, count_waiting, placed_of};
 use crate::index::{begin_group, begin_index, end_group, end_index, link};
 use crate::jobs::{Group, Job, PageSetup, jobs_of};
+use crate::parts::card::card;
+use crate::parts::table::{begin_table, end_table, row};
 use crate::progress::DrawingProgress;
 use crate::reading::{passed_of, shown_of};
 use crate::shown::AttentionLevel;
-use crate::table::{begin_table, end_table, row};
-use crate::writing::write_all;
 use canary_base::moments::Moment;
 use canary_base::names::Name;
+use canary_base::writing::write_all;
 use canary_once::book::Book;
 use canary_page_html::markup::Markup;
 use canary_release::service::Passed;

@@ -1,10 +1,11 @@
 //! What is read of a book.
 ghost use Rattle.std.specs.Prelude.{◌≡◌, IfOk, length};
 ghost use Rattle.canary_once.specs.Records.{measurements_of};
-ghost use Rattle.canary_files.specs.Exporting.{Stays, recorded_of};
+ghost use Rattle.canary_once.specs.BookCalls.{Stays};
+ghost use Rattle.canary_files.specs.Exporting.{recorded_of};
 
-use crate::chart::Chart;
-use crate::conditions::{Conditions, conditions_of};
+use crate::charts::chart::Chart;
+use crate::charts::conditions::{Conditions, conditions_of};
 use crate::fault::PageFault;
 use crate::shown::{Attempts, ShownRun, ShownService, drawn_attempts, run_numbers};
 use canary_base::error::Memory;

@@ -1,8 +1,8 @@
 //! What is shown of a service.
-use crate::attempts::{Attempt, attempts_of, recent_of};
-use crate::chart::Chart;
-use crate::conditions::Conditions;
-use crate::late::is_late;
+use crate::charts::chart::Chart;
+use crate::charts::conditions::Conditions;
+use crate::parts::attempts::{Attempt, attempts_of, recent_of};
+use crate::parts::late::is_late;
 use canary_base::error::Memory;
 use canary_base::moments::Moment;
 use canary_condition::outcome::Phase;

@@ -1,4 +1,4 @@
-pub mod PieceLemmas
-pub mod EscapeLemmas
-pub mod LinkLemmas
-pub mod ShownLemmas
+mod PieceLemmas
+mod EscapeLemmas
+mod LinkLemmas
+mod ShownLemmas

@@ -8,7 +8,7 @@
 //! out, it holds no bytes, and says so at its end. No character of a text that `shown::shown` makes
 //! is one that a terminal obeys.
 //!
-//! In use (canary_page, src/card.rt):
+//! In use (canary_page, src/parts/card.rt):
 //!
 //!     page.begin(Element::Heading2);
 //!     page.text(service.name().as_str());

@@ -1,17 +1,17 @@
-pub mod Fitting
-pub mod Alike
-pub mod Readings
-pub mod RowsOfCommands
-pub mod Named
-pub mod Copying
-pub mod LineLemmas
-pub mod RowsOfLines
-pub mod Unreadable
-pub mod Settling
-pub mod Analyses
-pub mod Accepting
-pub mod Seen
-pub mod Rows
+mod Fitting
+mod Alike
+mod Readings
+mod RowsOfCommands
+mod Named
+mod Copying
+mod LineLemmas
+mod RowsOfLines
+mod Unreadable
+mod Settling
+mod Analyses
+mod Accepting
+mod Seen
+mod Rows
 pub mod BoundAlike
 pub mod Distinct
 pub mod BoundRevisions

@@ -21,10 +21,9 @@ use Rattle.canary_release.specs.Desks.{Desk, newest}
 use Rattle.canary_once.specs.declared.event.Event.{Event}
 use Rattle.canary_once.specs.declared.event.Answer.{Answer}
 use Rattle.canary_once.specs.declared.event.Answer.TheVariants.{Replied, Unavailable}
-use Rattle.canary_once.specs.BookCalls.{BookState}
+use Rattle.canary_once.specs.BookCalls.{BookState, Stays}
 use Rattle.canary_once.specs.Contents.{Contents, put_some, known_named}
 use Rattle.canary_once.specs.Answers.{answered_events, replies_in, answers_of, after}
-use Rattle.canary_files.specs.Exporting.{Stays}
 use Rattle.canary_programs.specs.Successions.{is_going_on, are_going_on, template_again, IsAccepted, Succeeds, requests_from, request_again}
 
 -- What is found under the one name that was asked for.

@@ -1,3 +1,2 @@
 mod Again
 mod Served
-mod Stays

@@ -1,8 +1,8 @@
 -- From the clauses of what is called to how a stream was served, and to what went out.
 use Rattle.std.proofs.Common.{◌≡◌, ℕ, List, Result, Ok, Err, IfOk, refl}
-use Rattle.canary_wire.specs.Dispositions.{DeskState}
+use Rattle.canary_once.specs.Messages.{DeskState}
 use Rattle.canary_wire.specs.Serving.{ServesTo, ServesSome, ServesUntil}
-use Rattle.canary_wire.specs.Writes.{Known}
+use Rattle.canary_base.specs.Writes.{Known}
 use Rattle.canary_wire.specs.declared.serve.Ended.{Ended}
 use Rattle.canary_wire.specs.declared.serve.Ended.TheVariants.{EndOfInput, Closed, Truncated, TurnsSpent}
 use Rattle.canary_wire.specs.declared.serve.ServeFault.{ServeFault}

@@ -7,15 +7,14 @@ use Rattle.canary_plan.specs.declared.line.Line.{Line}
 use Rattle.canary_plan.specs.Lines.{history_text}
 use Rattle.canary_once.specs.Contents.{Contents}
 use Rattle.canary_once.specs.Records.{history_of}
-use Rattle.canary_wire.specs.Dispositions as wire
+use Rattle.canary_once.specs.Messages.{DeskState}
 use Rattle.canary_wire.specs.Serving.{ServesTo, ServesSome, ServesUntil}
 use Rattle.canary_wire.specs.declared.serve.Ended.{Ended}
 use Rattle.canary_wire.specs.declared.serve.ServeFault.{ServeFault}
 use Rattle.canary_wire.specs.declared.serve.ServeFault.TheVariants as serving
 use Rattle.canary_files.specs.declared.export.ExportFault.{ExportFault}
 use Rattle.canary_files.specs.declared.import.ImportFault.{ImportFault}
-use Rattle.canary_files.specs.Writes.{Known}
-use Rattle.canary_files.specs.RowExchanges as rows
+use Rattle.canary_base.specs.Writes.{Known}
 use Rattle.canary_files.specs.Importing.{ImportsTo}
 use Rattle.canary_files.specs.Exporting.{Tells}
 use Rattle.canary_programs.specs.declared.fault.Fault.{Fault}
@@ -59,7 +58,7 @@ imported (Ok count) = Ok count
 imported (Err f) = Err (of_import f)
 
 -- a measurement file was imported, and this is how that ended
-abbrev pub ImportsSo : Known → Known → Known → rows.DeskState → rows.DeskState → Result ℕ Fault → Type 0
+abbrev pub ImportsSo : Known → Known → Known → DeskState → DeskState → Result ℕ Fault → Type 0
 ImportsSo file w new_w old new result =
     (done : Result ℕ ImportFault) × (result ≡ imported done)
     × (taken : ℕ) × (spare : ℕ) × ImportsTo file taken spare w new_w old new done
@@ -72,7 +71,7 @@ TellsExport c service f = (cause : ExportFault) × (f ≡ of_export cause) × Te
 
 -- (here `r` is what the reader has left)
 -- a stream was served so
-abbrev pub IsServed : Known → Known → Known → Known → wire.DeskState → wire.DeskState
+abbrev pub IsServed : Known → Known → Known → Known → DeskState → DeskState
     → Result Ended ServeFault → Type 0
 IsServed r new_r w new_w old new (Ok ended) = ServesTo r new_r w new_w old new ended
 IsServed r new_r w new_w old new (Err serving.Read) = ServesSome r new_r w new_w old new
@@ -80,7 +79,7 @@ IsServed r new_r w new_w old new (Err serving.Write) = ServesUntil r new_r w new
 IsServed r new_r w new_w old new (Err serving.Memory) = (new_r ≡ r) × (new_w ≡ w)
 
 -- and this says whether to its end
-abbrev pub AnswersSo : Known → Known → Known → Known → wire.DeskState → wire.DeskState
+abbrev pub AnswersSo : Known → Known → Known → Known → DeskState → DeskState
     → Result (Unit {0}) Fault → Type 0
 AnswersSo r new_r w new_w old new done =
     (served : Result Ended ServeFault) × (done ≡ done_of served)

@@ -10,7 +10,7 @@ use Rattle.canary_release.specs.declared.reply.ReplyStatus.TheVariants.{Accepted
 use Rattle.canary_release.specs.declared.service.ServiceParts.{ServiceParts}
 use Rattle.canary_release.specs.declared.state.ServiceState.{ServiceState}
 use Rattle.canary_release.specs.Services.{is_in_progress}
-use Rattle.canary_release.specs.Passing.{pass}
+use Rattle.canary_release.specs.Rules.Passing.{pass}
 use Rattle.canary_release.specs.Stored.{stored_evolution, stored_service}
 use Rattle.canary_release.specs.Desks.{Desk, newest}
 use Rattle.canary_once.specs.declared.event.Event.{Event}

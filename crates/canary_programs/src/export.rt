@@ -1,7 +1,8 @@
 //! A service's measurements as a file.
 ghost use Rattle.std.specs.Prelude.{◌≡◌, ◌≢◌, ◌≤◌, length, None, Err, IfOk, IfErr, OnOk};
 ghost use Rattle.std.specs.FinMap.{get};
-ghost use Rattle.canary_files.specs.Exporting.{file_in, recorded_of, Stays, Puts};
+ghost use Rattle.canary_once.specs.BookCalls.{Stays};
+ghost use Rattle.canary_files.specs.Exporting.{file_in, recorded_of, Puts};
 ghost use Rattle.canary_programs.specs.declared.fault.Fault.TheVariants as fault;
 ghost use Rattle.canary_programs.specs.Programs.{TellsExport};
 

@@ -1,6 +1,6 @@
 //! What a service went through.
 ghost use Rattle.std.specs.Prelude.{◌≢◌, Err};
-ghost use Rattle.canary_files.specs.Exporting.{Stays};
+ghost use Rattle.canary_once.specs.BookCalls.{Stays};
 ghost use Rattle.canary_programs.specs.Programs.{FindsHistory, TellsHistory};
 ghost use Rattle.canary_programs.specs.declared.fault.Fault.TheVariants as fault;
 

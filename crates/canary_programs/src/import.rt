@@ -1,6 +1,6 @@
 //! The rows of a measurement file as requests.
 ghost use Rattle.std.specs.Prelude.{◌≡◌, ◌≤◌, Err, IfOk};
-ghost use Rattle.canary_files.specs.RowExchanges.{desk_state};
+ghost use Rattle.canary_once.specs.Messages.{desk_state};
 ghost use Rattle.canary_files.specs.Importing.{KeepsBook};
 ghost use Rattle.canary_programs.specs.declared.fault.Fault.TheVariants as fault;
 ghost use Rattle.canary_programs.specs.Programs.{ImportsSo, imported};

@@ -1,5 +1,5 @@
 //! The services of a desk as a page, and each as a value in JSON.
-ghost use Rattle.canary_files.specs.Exporting.{Stays};
+ghost use Rattle.canary_once.specs.BookCalls.{Stays};
 ghost use Rattle.canary_page.specs.Drawn.{IsDrawn};
 
 use crate::fault::Fault;
@@ -8,8 +8,8 @@ use canary_base::names::Name;
 use canary_once::book::Book;
 use canary_page::page::{View, draw};
 use canary_page::progress::DrawingProgress;
-use canary_page::record::draw_json;
-use canary_page::services::draw_services;
+use canary_page::records::record::draw_json;
+use canary_page::records::services::draw_services;
 use std::alloc::Global;
 use std::io::Write;
 

@@ -1,7 +1,7 @@
 //! A stream answered over a book.
 ghost use Rattle.std.specs.Prelude.{◌≡◌, Err};
 ghost use Rattle.canary_once.specs.Contents.{KeepsReceipts};
-ghost use Rattle.canary_wire.specs.Dispositions.{desk_state};
+ghost use Rattle.canary_once.specs.Messages.{desk_state};
 ghost use Rattle.canary_programs.specs.declared.fault.Fault.TheVariants as fault;
 ghost use Rattle.canary_programs.specs.Programs.{AnswersSo};
 

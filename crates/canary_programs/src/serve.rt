@@ -1,6 +1,6 @@
 //! The desk on a socket.
 ghost use Rattle.std.specs.Prelude.{◌≡◌};
-ghost use Rattle.canary_wire.specs.Dispositions.{desk_state};
+ghost use Rattle.canary_once.specs.Messages.{desk_state};
 ghost use Rattle.canary_listen.specs.Attending.{ServesAll, nobody};
 ghost use Rattle.canary_listen.specs.Crowd.{attendance_of};
 

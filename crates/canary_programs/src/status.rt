@@ -1,5 +1,5 @@
 //! The services of a desk at a glance.
-ghost use Rattle.canary_files.specs.Exporting.{Stays};
+ghost use Rattle.canary_once.specs.BookCalls.{Stays};
 
 use crate::fault::Fault;
 use crate::overview::{Overview, OverviewFormat};

@@ -2,7 +2,7 @@
 ghost use Rattle.std.specs.Prelude.{◌≡◌, ◌≢◌, ◌≤◌, [], ◌++◌, false, true, Err, All, IfOk, OnOk};
 ghost use Rattle.std.specs.Option.{option_copied};
 ghost use Rattle.std.specs.List.{filter_map, cons_option};
-ghost use Rattle.canary_files.specs.Exporting.{Stays};
+ghost use Rattle.canary_once.specs.BookCalls.{Stays};
 ghost use Rattle.canary_release.specs.Services.{is_in_progress};
 ghost use Rattle.canary_once.specs.Single.{request_of};
 ghost use Rattle.canary_programs.specs.declared.fault.Fault.TheVariants as fault;

@@ -17,7 +17,7 @@ use Rattle.canary_plan.specs.Plans.{Templates, template_of}
 use Rattle.canary_plan.specs.Commands.{subject_of}
 use Rattle.canary_release.specs.declared.reply.Reply.{Reply}
 use Rattle.canary_release.specs.Evolutions.{Evolution}
-use Rattle.canary_release.specs.Commands.{ModelResult}
+use Rattle.canary_release.specs.Rules.Commands.{ModelResult}
 use Rattle.canary_release.specs.Desks.{ModelService, Desk, Change, ModelDecision, rules, after, desk_after, model_evolution, act_new, act_passed, adds_unless, newest_number, revision_refusal, revisions_of, newest, with_revision, rule_template, rule_service, model_decision, ruling_on, apply, machine}
 use Rattle.canary_release.specs.Desks.Change.{Nothing, Adds, Becomes}
 use Rattle.canary_release.specs.Laws.{is_on, concerns, concerning, is_reply_on, replies_on, AgreeOn, AreIndependent}

@@ -21,11 +21,11 @@ use Rattle.canary_release.specs.declared.runs.Runs.{Runs}
 use Rattle.canary_release.specs.declared.state.ServiceState.{ServiceState}
 use Rattle.canary_release.specs.declared.state.ReleaseState.TheVariants.{Aborted}
 use Rattle.canary_release.specs.Evolutions.{Evolution, RunView, with_service_state, apply_effect, tell, runs_now, has_number, open_run_now, run_verdict, close_run, end_run, end_runs, end_open_runs}
-use Rattle.canary_release.specs.Entering.{begins_background, begin_background, open_background, done, finish, show_step, enter, abort, without_holds}
-use Rattle.canary_release.specs.Passing.{next_move, is_by, move_at, chain_end, with_last, pass, judged_at}
-use Rattle.canary_release.specs.Reports.{brought, record_all, report_refusal, consequence, complete, assess_run, assess, report_on, verdict_if, reported_on}
+use Rattle.canary_release.specs.Rules.Entering.{begins_background, begin_background, open_background, done, finish, show_step, enter, abort, without_holds}
+use Rattle.canary_release.specs.Rules.Passing.{next_move, is_by, move_at, chain_end, with_last, pass, judged_at}
+use Rattle.canary_release.specs.Rules.Reports.{brought, record_all, report_refusal, consequence, complete, assess_run, assess, report_on, verdict_if, reported_on}
 use Rattle.canary_release.specs.Replies.{report_text}
-use Rattle.canary_release.specs.Commands.{ModelResult, unless, succeeds_with, begun, started_at, start, promoted_to, retry, promote, promote_full, abort_by_command, start_refusal, retry_refusal, promote_refusal, progress_refusal, reports_if, act}
+use Rattle.canary_release.specs.Rules.Commands.{ModelResult, unless, succeeds_with, begun, started_at, start, promoted_to, retry, promote, promote_full, abort_by_command, start_refusal, retry_refusal, promote_refusal, progress_refusal, reports_if, act}
 use Rattle.canary_release.specs.Desks.{passed_on, act_passed}
 use Rattle.canary_release.proofs.Watches.{background, recorded, moved, passed, acted, KeepsIf}
 

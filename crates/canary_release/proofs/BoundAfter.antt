@@ -15,10 +15,10 @@ use Rattle.canary_release.specs.declared.runs.OpenRun.{OpenRun}
 use Rattle.canary_release.specs.declared.state.ServiceState.{ServiceState}
 use Rattle.canary_release.specs.declared.state.ReleaseState.TheVariants.{Aborted}
 use Rattle.canary_release.specs.Evolutions.{Evolution, with_service_state, tell, runs_now, run_verdict, open_run_now, close_run}
-use Rattle.canary_release.specs.Entering.{without_holds, abort}
-use Rattle.canary_release.specs.Passing.{pass, judged_at}
-use Rattle.canary_release.specs.Reports.{report_refusal, brought, record_all, hold_background, consequence, complete, assess, report_on}
-use Rattle.canary_release.specs.Commands.{start_refusal, retry_refusal, promote_refusal, progress_refusal, begun, started_at, start, retry, promoted_to, promote, promote_full, abort_by_command, ModelResult, succeeds_with, unless, reports_if, act}
+use Rattle.canary_release.specs.Rules.Entering.{without_holds, abort}
+use Rattle.canary_release.specs.Rules.Passing.{pass, judged_at}
+use Rattle.canary_release.specs.Rules.Reports.{report_refusal, brought, record_all, hold_background, consequence, complete, assess, report_on}
+use Rattle.canary_release.specs.Rules.Commands.{start_refusal, retry_refusal, promote_refusal, progress_refusal, begun, started_at, start, retry, promoted_to, promote, promote_full, abort_by_command, ModelResult, succeeds_with, unless, reports_if, act}
 use Rattle.canary_release.specs.Desks.{ModelService, passed_on, act_passed}
 use Rattle.canary_release.specs.Effects.{bound_after}
 use Rattle.canary_release.proofs.Keeping.{ended_service_state, recorded_service_state, enter_keeps, passed_keeps}

@@ -5,8 +5,8 @@ use Rattle.std.proofs.lemmas.Bool.Decides.{nat_tests}
 use Rattle.canary_plan.specs.declared.step.Step.{Step}
 use Rattle.canary_release.specs.Services.{step_of}
 use Rattle.canary_release.specs.Evolutions.{Evolution}
-use Rattle.canary_release.specs.Entering.{enter}
-use Rattle.canary_release.specs.Passing.{is_free, leaves_at, Moves, Chain, IsLongest, with_last, judged_at, next_move, is_by, move_at, chain_end, PassesAsComputed}
+use Rattle.canary_release.specs.Rules.Entering.{enter}
+use Rattle.canary_release.specs.Rules.Passing.{is_free, leaves_at, Moves, Chain, IsLongest, with_last, judged_at, next_move, is_by, move_at, chain_end, PassesAsComputed}
 use Rattle.canary_release.proofs.Keeping.{enter_keeps}
 
 -- no further move with a moment at most t

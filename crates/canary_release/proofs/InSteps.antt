@@ -6,8 +6,8 @@ use Rattle.canary_plan.specs.declared.step.Step.TheVariants.{SetWeight, Pause, A
 use Rattle.canary_release.specs.declared.runs.OpenRun.{OpenRun}
 use Rattle.canary_release.specs.Evolutions.{Evolution, with_service_state, tell, runs_now, end_run, end_runs}
 use Rattle.canary_plan.specs.declared.line.LineEvent.TheVariants.{Finished}
-use Rattle.canary_release.specs.Entering.{begins_background, begin_background, open_background, enter, done, finish, show_step}
-use Rattle.canary_release.specs.Passing.{Chain, with_last, next_move, is_by, move_at, chain_end, PassesInSteps}
+use Rattle.canary_release.specs.Rules.Entering.{begins_background, begin_background, open_background, enter, done, finish, show_step}
+use Rattle.canary_release.specs.Rules.Passing.{Chain, with_last, next_move, is_by, move_at, chain_end, PassesInSteps}
 use Rattle.canary_release.proofs.Chains.{chain_ends, rest_is_longest, one_longest}
 
 -- moves look at no last moment

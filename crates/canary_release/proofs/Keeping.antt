@@ -8,9 +8,9 @@ use Rattle.canary_release.specs.declared.effect.Recorded.{Recorded}
 use Rattle.canary_release.specs.declared.effect.Effect.TheVariants.{MeasurementRecorded}
 use Rattle.canary_release.specs.declared.runs.OpenRun.{OpenRun}
 use Rattle.canary_release.specs.Evolutions.{Evolution, with_service_state, apply_effect, runs_now, end_run, end_runs}
-use Rattle.canary_release.specs.Reports.{record_all}
-use Rattle.canary_release.specs.Passing.{next_move, is_by, move_at, chain_end, pass, judged_at}
-use Rattle.canary_release.specs.Entering.{begins_background, begin_background, open_background, finish, show_step, enter}
+use Rattle.canary_release.specs.Rules.Reports.{record_all}
+use Rattle.canary_release.specs.Rules.Passing.{next_move, is_by, move_at, chain_end, pass, judged_at}
+use Rattle.canary_release.specs.Rules.Entering.{begins_background, begin_background, open_background, finish, show_step, enter}
 
 -- ending runs changes nothing of how a service stands
 pub ended_service_state : (at : ℕ) (c : Evolution) (rs : List OpenRun) → (end_runs at c rs).service ≡ c.service

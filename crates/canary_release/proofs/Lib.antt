@@ -1,51 +1,51 @@
-pub mod Keeping
-pub mod Chains
-pub mod Loops
-pub mod Pushes
-pub mod Counting
-pub mod Room
-pub mod PhaseLists
-pub mod Alike
-pub mod Watches
-pub mod Seen
-pub mod BoundAfter
-pub mod Looking
-pub mod Steps
-pub mod Refusing
-pub mod InSteps
-pub mod Apart
-pub mod Behind
-pub mod Ticks
+mod Keeping
+mod Chains
+mod Loops
+mod Pushes
+mod Counting
+mod Room
+mod PhaseLists
+mod Alike
+mod Watches
+mod Seen
+mod BoundAfter
+mod Looking
+mod Steps
+mod Refusing
+mod InSteps
+mod Apart
+mod Behind
+mod Ticks
 pub mod Stories
 pub mod Worlds
-pub mod Rows
-pub mod RowsOfReleases
-pub mod RowsOfAnalyses
-pub mod RowsOfAttempts
-pub mod RowsOfRefusals
-pub mod OrderingBasics
-pub mod PartsLists
+mod Rows
+mod RowsOfReleases
+mod RowsOfAnalyses
+mod RowsOfAttempts
+mod RowsOfRefusals
+mod OrderingBasics
+mod PartsLists
 pub mod PartsKept
-pub mod Quiet
-pub mod Ruled
-pub mod Broken
-pub mod RowsOfParts
-pub mod RowsOfHolds
-pub mod RowsOfRevisions
-pub mod PartsRuns
-pub mod PartsFresh
-pub mod PartsBinding
-pub mod PartsReady
-pub mod PartsEntering
-pub mod PartsPassing
-pub mod PartsRecorded
-pub mod PartsReports
-pub mod PartsActing
-pub mod OrderingAllowed
-pub mod OrderingPasts
-pub mod OrderingWalk
-pub mod OrderingReports
-pub mod OrderingTemplates
-pub mod Ordering
-pub mod Sounding
-pub mod Changing
+mod Quiet
+mod Ruled
+mod Broken
+mod RowsOfParts
+mod RowsOfHolds
+mod RowsOfRevisions
+mod PartsRuns
+mod PartsFresh
+mod PartsBinding
+mod PartsReady
+mod PartsEntering
+mod PartsPassing
+mod PartsRecorded
+mod PartsReports
+mod PartsActing
+mod OrderingAllowed
+mod OrderingPasts
+mod OrderingWalk
+mod OrderingReports
+mod OrderingTemplates
+mod Ordering
+mod Sounding
+mod Changing

@@ -14,9 +14,9 @@ use Rattle.canary_plan.specs.Commands.{all_names}
 use Rattle.canary_plan.proofs.BoundAlike.{refusal_alike, bound_refusal_alike, bound_alike}
 use Rattle.canary_release.specs.declared.state.ReleaseState.TheVariants.{InProgress}
 use Rattle.canary_release.specs.Evolutions.{Evolution, with_service_state, tell}
-use Rattle.canary_release.specs.Entering.{enter, without_holds}
-use Rattle.canary_release.specs.Passing.{pass, judged_at}
-use Rattle.canary_release.specs.Commands.{unless, succeeds_with, started_at, start_refusal_at, retry_refusal_at, act}
+use Rattle.canary_release.specs.Rules.Entering.{enter, without_holds}
+use Rattle.canary_release.specs.Rules.Passing.{pass, judged_at}
+use Rattle.canary_release.specs.Rules.Commands.{unless, succeeds_with, started_at, start_refusal_at, retry_refusal_at, act}
 use Rattle.canary_release.specs.Desks.{rules, rule_template, passed_on, new_service, rule_service}
 use Rattle.canary_release.specs.Laws.{LooksOnlyAt}
 use Rattle.canary_release.proofs.Keeping.{passed_keeps}

@@ -2,8 +2,8 @@
 use Rattle.std.proofs.Common.{◌≡◌, ℕ, zero, suc, ◌+◌, ◌-◌, ◌<◌, length, true, false, refl, sym, ap, ◌∙◌, subst, arith}
 use Rattle.std.specs.Prelude.{if◌then◌else◌, nat_le, Option, Some, None}
 use Rattle.canary_release.specs.Evolutions.{Evolution}
-use Rattle.canary_release.specs.Passing.{next_move, is_by, move_by, move_at, chain_end, followed}
-use Rattle.canary_release.specs.Entering.{enter}
+use Rattle.canary_release.specs.Rules.Passing.{next_move, is_by, move_by, move_at, chain_end, followed}
+use Rattle.canary_release.specs.Rules.Entering.{enter}
 use Rattle.canary_release.proofs.Keeping.{enter_keeps}
 
 -- a move by t is the next move, which is by t

@@ -1,6 +1,6 @@
 -- The machine keeps a desk in order.
-use Rattle.std.proofs.Common.{◌≡◌, ℕ, zero, suc, ◌+◌, List, [], ◌∷◌, ◌++◌, length-append, Bool, true, false, refl, ap, sym, ◌∙◌, subst}
-use Rattle.std.specs.Prelude.{◌||◌, ◌&&◌, ◌-◌, not, length, filter, is_none, slice_get, cond, nat_lt, nat_le, unwrap_or, IsTrue, Option, Some, None, option_map, Result, Ok, Err}
+use Rattle.std.proofs.Common.{◌≡◌, ℕ, suc, ◌+◌, List, [], ◌∷◌, ◌++◌, length-append, Bool, true, false, refl, ap, sym, ◌∙◌, subst}
+use Rattle.std.specs.Prelude.{◌-◌, length, cond, nat_lt, nat_le, unwrap_or, IsTrue, Option, Some, None, option_map, Result, Ok, Err}
 use Rattle.std.specs.List.{AllByRecursion, list_any, last_or}
 use Rattle.std.specs.Ordering.{nat_cmp}
 use Rattle.std.specs.Cmp.Lexicographic.{slice_cmp, nat_list_cmp_total}
@@ -27,14 +27,13 @@ use Rattle.canary_release.specs.declared.runs.Runs.{Runs}
 use Rattle.canary_release.specs.declared.service.ServiceParts.{ServiceParts}
 use Rattle.canary_release.specs.Pasts.{Run, Past, no_past, past_with_all, tracked}
 use Rattle.canary_release.specs.Watching.{after_all}
-use Rattle.canary_release.specs.Services.{is_in_progress, is_held}
 use Rattle.canary_release.specs.Evolutions.{Evolution, RunView, evolution_from, runs_now, has_number}
-use Rattle.canary_release.specs.Commands.{ModelResult, unless, succeeds_with}
+use Rattle.canary_release.specs.Rules.Commands.{ModelResult, unless, succeeds_with}
 use Rattle.canary_release.specs.Desks.{ModelService, Desk, no_desk, Change, model_evolution, watch_of, rules, act_passed, act_new, new_service, RevisionMap, revisions_of, newest, with_revision, newest_number, revision_refusal, adds_unless, rule_service, model_decision, ruling_on, after, desk_after, apply}
 use Rattle.canary_release.specs.Desks.Change.{Nothing, Adds, Becomes}
 use Rattle.canary_release.specs.Stored.{stored_evolution, stored_after, stored_form}
-use Rattle.canary_release.specs.Parts.{runs_wanted, is_misplaced, is_misnumbered, repeats_number, has_wrong_tallies, is_misbound, has_other_revisions, is_background_run, is_step_run, has_background_run, is_astray, is_judged, is_broken}
-use Rattle.canary_release.specs.Passing.{next_move, is_by, pass}
+use Rattle.canary_release.specs.Parts.{is_misnumbered, repeats_number, is_judged, is_broken}
+use Rattle.canary_release.specs.Rules.Passing.{pass}
 use Rattle.canary_release.specs.PartsLaws.{PassingKeepsParts, ActingKeepsParts, NewPartsAreUnbroken}
 use Rattle.canary_release.specs.Laws.{WatchesAlike}
 use Rattle.canary_release.specs.Order.{IsRun, IsInOrder, IsTemplate, AreRevisions, IsInRevisions, AreInOrder, StayInOrder}
@@ -67,43 +66,13 @@ pub record PartsSay (p : ServiceParts) : Type 0 where
   pub numbered : IsNumbered p.runs
   pub unjudged : list_any is_judged p.runs.open_runs ≡ false
 
--- each cause of a list of which none holds
-no_cause : (k : ℕ) (causes : List Bool) (b : Bool) → list_any (λ (c : Bool). c) causes ≡ false → slice_get causes k ≡ Some b → b ≡ false
-no_cause k [] b none at = cc at
-no_cause zero (c ∷ causes) b none at = sym (some_same c b at) ∙ (neither c (list_any (λ (x : Bool). x) causes) none).0
-no_cause (suc k) (c ∷ causes) b none at = no_cause k causes b (neither c (list_any (λ (x : Bool). x) causes) none).1 at
-
 pub parts_say : (p : ServiceParts) → is_broken p ≡ false → PartsSay p
 parts_say p e =
-    let service = p.service in
-    let going = is_in_progress service.state in
-    let runs = p.runs.open_runs in
-    let causes : List Bool = (
-    is_misplaced service
-    ∷ nat_lt service.last service.entered
-    ∷ nat_lt 1000000 p.runs.count
-    ∷ (going && nat_lt (1000000 - p.runs.count) (runs_wanted p))
-    ∷ list_any (is_misnumbered p.runs.count) runs
-    ∷ repeats_number runs
-    ∷ list_any has_wrong_tallies runs
-    ∷ (not going && nat_lt 0 (length runs))
-    ∷ nat_lt 1 (length (filter is_background_run runs))
-    ∷ nat_lt 1 (length (filter is_step_run runs))
-    ∷ list_any (is_astray service) runs
-    ∷ (has_background_run p && (not service.background || service.background_hold))
-    ∷ (is_held service && not going)
-    ∷ (service.background && is_none service.strategy.background)
-    ∷ (service.background_hold && not service.background)
-    ∷ list_any is_judged runs
-    ∷ is_by service.last (next_move service)
-    ∷ is_misbound service
-    ∷ list_any (has_other_revisions service) runs
-    ∷ []
-    ) in
-    let within = no_cause 4 causes (list_any (is_misnumbered p.runs.count) runs) e refl in
-    let once = no_cause 5 causes (repeats_number runs) e refl in
-    let unjudged = no_cause 15 causes (list_any is_judged runs) e refl in
-    record { numbered = record { most = runs_within p.runs.count runs within; distinct = distinct_runs runs once }; unjudged = unjudged }
+    let fit = fit_of p e in
+    record {
+      numbered = record { most = runs_within p.runs.count p.runs.open_runs fit.0.numbered; distinct = distinct_runs p.runs.open_runs fit.0.distinct };
+      unjudged = fit.1;
+    }
 
 -- A service.
 

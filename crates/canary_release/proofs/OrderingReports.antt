@@ -29,10 +29,10 @@ use Rattle.canary_release.specs.declared.state.ReleaseState.TheVariants.{InProgr
 use Rattle.canary_release.specs.Pasts.{change_at}
 use Rattle.canary_release.specs.Watching.{counted, counted_in}
 use Rattle.canary_release.specs.Evolutions.{Evolution, with_service_state, apply_effect, tell, runs_now, has_number, open_run_now}
-use Rattle.canary_release.specs.Entering.{without_holds}
-use Rattle.canary_release.specs.Passing.{pass, judged_at}
-use Rattle.canary_release.specs.Reports.{Place, place_from, place_of, names_metric, entry_refusal_at, entry_refusal, entries_refusal, report_refusal, recorded_at, recorded_if, brought, record_all, report_on}
-use Rattle.canary_release.specs.Commands.{ModelResult, unless, succeeds_with, reports, reports_if, is_progressing, start_refusal_at, retry_refusal_at, start_refusal, retry_refusal, promote_refusal, progress_refusal, begun, begin, started_at, start, retry, promoted_to, promote, promote_full, abort_by_command, act}
+use Rattle.canary_release.specs.Rules.Entering.{without_holds}
+use Rattle.canary_release.specs.Rules.Passing.{pass, judged_at}
+use Rattle.canary_release.specs.Rules.Reports.{Place, place_from, place_of, names_metric, entry_refusal_at, entry_refusal, entries_refusal, report_refusal, recorded_at, recorded_if, brought, record_all, report_on}
+use Rattle.canary_release.specs.Rules.Commands.{ModelResult, unless, succeeds_with, reports, reports_if, is_progressing, start_refusal_at, retry_refusal_at, start_refusal, retry_refusal, promote_refusal, progress_refusal, begun, begin, started_at, start, retry, promoted_to, promote, promote_full, abort_by_command, act}
 use Rattle.canary_release.specs.Desks.{RevisionMap, revisions_of, newest, passed_on, act_passed}
 use Rattle.canary_release.specs.Services.{is_in_progress, status}
 use Rattle.canary_release.specs.Order.{at_revision, known_by, IsBoundIn}

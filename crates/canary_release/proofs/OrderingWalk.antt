@@ -28,9 +28,9 @@ use Rattle.canary_release.specs.declared.state.ServiceState.{ServiceState}
 use Rattle.canary_release.specs.declared.state.ReleaseState.TheVariants.{Aborted}
 use Rattle.canary_release.specs.Watching.{is_other}
 use Rattle.canary_release.specs.Evolutions.{Evolution, with_service_state, tell, runs_now, has_number, open_run_now, run_verdict, next_run, open_run, close_run, end_run, end_runs, end_open_runs}
-use Rattle.canary_release.specs.Entering.{begins_background, begin_background, open_background, done, finish, show_step, enter, abort, without_holds}
-use Rattle.canary_release.specs.Passing.{next_move, is_by, move_at, chain_end, pass, judged_at, followed}
-use Rattle.canary_release.specs.Reports.{consequence, complete, assess_run, assess}
+use Rattle.canary_release.specs.Rules.Entering.{begins_background, begin_background, open_background, done, finish, show_step, enter, abort, without_holds}
+use Rattle.canary_release.specs.Rules.Passing.{next_move, is_by, move_at, chain_end, pass, judged_at, followed}
+use Rattle.canary_release.specs.Rules.Reports.{consequence, complete, assess_run, assess}
 use Rattle.canary_release.proofs.PartsFresh.{and_left, and_right}
 use Rattle.canary_release.proofs.OrderingBasics.{not_same, each_both, found_passes, found_behind, found_first, found_filtered, fold_completed}
 use Rattle.canary_release.proofs.OrderingAllowed.{AreDistinct, IsNumbered, IsFollowing, numbered_now, follows_on, now_after, stands_on, as_bound}

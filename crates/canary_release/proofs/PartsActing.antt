@@ -26,10 +26,10 @@ use Rattle.canary_release.specs.declared.service.ServiceParts.{ServiceParts}
 use Rattle.canary_release.specs.Watching.{no_runs}
 use Rattle.canary_release.specs.Services.{is_in_progress, is_aborted, is_done, is_held, is_pause, status_as, status, step_of}
 use Rattle.canary_release.specs.Evolutions.{Evolution, with_service_state, tell, runs_now, open_run_now}
-use Rattle.canary_release.specs.Entering.{without_holds}
-use Rattle.canary_release.specs.Passing.{judged_at, pass}
-use Rattle.canary_release.specs.Reports.{report_refusal}
-use Rattle.canary_release.specs.Commands.{is_spent, is_progressing, start_refusal_at, retry_refusal_at, start_refusal, retry_refusal, promote_refusal, progress_refusal, begun, begin, started_at, start, retry, promoted_to, promote, promote_full, abort_by_command, ModelResult, succeeds_with, unless, reports_if, act}
+use Rattle.canary_release.specs.Rules.Entering.{without_holds}
+use Rattle.canary_release.specs.Rules.Passing.{judged_at, pass}
+use Rattle.canary_release.specs.Rules.Reports.{report_refusal}
+use Rattle.canary_release.specs.Rules.Commands.{is_spent, is_progressing, start_refusal_at, retry_refusal_at, start_refusal, retry_refusal, promote_refusal, progress_refusal, begun, begin, started_at, start, retry, promoted_to, promote, promote_full, abort_by_command, ModelResult, succeeds_with, unless, reports_if, act}
 use Rattle.canary_release.specs.Desks.{passed_on, new_service_state, new_service}
 use Rattle.canary_release.specs.Stored.{stored_evolution, stored_after}
 use Rattle.canary_release.specs.Parts.{is_step_run, is_judged, is_bound_otherwise, is_bound, is_broken}

@@ -14,7 +14,7 @@ use Rattle.canary_release.specs.declared.state.ReleaseState.TheVariants.{Aborted
 use Rattle.canary_release.specs.declared.state.ServiceState.{ServiceState}
 use Rattle.canary_release.specs.declared.runs.Runs.{Runs}
 use Rattle.canary_release.specs.Evolutions.{Evolution, with_service_state, tell, runs_now, next_run, open_run, end_open_runs}
-use Rattle.canary_release.specs.Entering.{without_holds, done, finish, begins_background, begin_background, open_background, show_step, enter, abort}
+use Rattle.canary_release.specs.Rules.Entering.{without_holds, done, finish, begins_background, begin_background, open_background, show_step, enter, abort}
 use Rattle.canary_release.proofs.Keeping.{ended_service_state}
 use Rattle.canary_release.proofs.PartsRuns.{Steady, with_open, ended_watch, told_runs, happened_runs, none_open}
 use Rattle.canary_release.proofs.PartsKept.{IsWellBound, Unjudged, Fit}

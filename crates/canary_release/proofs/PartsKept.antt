@@ -8,7 +8,7 @@ use Rattle.canary_release.specs.declared.runs.OpenRun.{OpenRun}
 use Rattle.canary_release.specs.declared.runs.Runs.{Runs}
 use Rattle.canary_release.specs.declared.service.ServiceParts.{ServiceParts}
 use Rattle.canary_release.specs.Services.{is_in_progress, is_held}
-use Rattle.canary_release.specs.Passing.{next_move, is_by}
+use Rattle.canary_release.specs.Rules.Passing.{next_move, is_by}
 use Rattle.canary_release.specs.Parts.{one_if, is_background_run, is_step_run, has_background_run, runs_wanted, is_misplaced, is_misnumbered, repeats_number, has_wrong_tallies, is_refused, is_bound, is_misbound, has_other_revisions, is_astray, is_judged, is_broken}
 use Rattle.canary_release.proofs.PartsLists.{or_left, or_right, neither, and_with}
 

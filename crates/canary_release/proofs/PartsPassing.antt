@@ -14,8 +14,8 @@ use Rattle.canary_release.specs.declared.runs.OpenRun.{OpenRun}
 use Rattle.canary_release.specs.declared.runs.Runs.{Runs}
 use Rattle.canary_release.specs.Services.{is_in_progress, is_done, is_held, step_of}
 use Rattle.canary_release.specs.Evolutions.{Evolution, runs_now}
-use Rattle.canary_release.specs.Entering.{enter}
-use Rattle.canary_release.specs.Passing.{leaves_at, Moves, judged_at, next_move, is_by, move_at, chain_end, followed, pass}
+use Rattle.canary_release.specs.Rules.Entering.{enter}
+use Rattle.canary_release.specs.Rules.Passing.{leaves_at, Moves, judged_at, next_move, is_by, move_at, chain_end, followed, pass}
 use Rattle.canary_release.specs.Parts.{is_step_run, is_elsewhere, is_astray, is_step_bound, is_background_bound, is_refused, is_bound, is_unbound, is_broken}
 use Rattle.canary_release.specs.Stored.{stored_after}
 use Rattle.canary_release.proofs.Chains.{going, chain_ends}

@@ -13,7 +13,7 @@ use Rattle.canary_release.specs.declared.runs.OpenRun.{OpenRun}
 use Rattle.canary_release.specs.declared.runs.Runs.{Runs}
 use Rattle.canary_release.specs.Services.{is_in_progress, is_done, is_held}
 use Rattle.canary_release.specs.Evolutions.{has_number}
-use Rattle.canary_release.specs.Entering.{begins_background}
+use Rattle.canary_release.specs.Rules.Entering.{begins_background}
 use Rattle.canary_release.specs.Parts.{is_background_run, is_step_run, is_misnumbered, repeats_number, has_wrong_tallies, is_bound_otherwise, is_refused, is_bound, is_unbound, is_judged, is_elsewhere, is_astray}
 use Rattle.canary_release.proofs.PartsLists.{any_weaker, any_push, any_push_other, few_push_other, few_push_first, few_none, repeats_push, and_false, or_left, or_right, neither}
 use Rattle.canary_release.proofs.PartsKept.{of_background, has_background, IsWellBound, Unjudged, Fit}

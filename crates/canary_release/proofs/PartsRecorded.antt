@@ -13,7 +13,7 @@ use Rattle.canary_release.specs.declared.runs.Runs.{Runs}
 use Rattle.canary_release.specs.Pasts.{change_at}
 use Rattle.canary_release.specs.Watching.{counted, counted_in, is_other}
 use Rattle.canary_release.specs.Evolutions.{Evolution, apply_effect, runs_now}
-use Rattle.canary_release.specs.Reports.{Place, place_of, recorded_if, brought, record_all}
+use Rattle.canary_release.specs.Rules.Reports.{Place, place_of, recorded_if, brought, record_all}
 use Rattle.canary_release.specs.Parts.{is_background_run, is_step_run, is_misnumbered, has_wrong_tallies, has_other_revisions, is_bound_otherwise, is_elsewhere, is_astray, is_judged}
 use Rattle.canary_release.proofs.PartsLists.{any_weaker, any_filter, any_filtered, any_map, any_map_same, few_map, few_filter, repeats_filter, repeats_map, and_false, of_others, of_other}
 use Rattle.canary_release.proofs.PartsRuns.{Steady, with_open, happened_runs}

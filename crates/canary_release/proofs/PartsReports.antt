@@ -15,8 +15,8 @@ use Rattle.canary_release.specs.declared.runs.OpenRun.{OpenRun}
 use Rattle.canary_release.specs.declared.runs.Runs.{Runs}
 use Rattle.canary_release.specs.Services.{is_in_progress, is_held}
 use Rattle.canary_release.specs.Evolutions.{Evolution, with_service_state, tell, runs_now, open_run_now, has_number, run_verdict, close_run}
-use Rattle.canary_release.specs.Entering.{enter}
-use Rattle.canary_release.specs.Reports.{brought, record_all, abort_by_run, hold_step, hold_background, consequence, complete, assess, report_on}
+use Rattle.canary_release.specs.Rules.Entering.{enter}
+use Rattle.canary_release.specs.Rules.Reports.{brought, record_all, abort_by_run, hold_step, hold_background, consequence, complete, assess, report_on}
 use Rattle.canary_release.specs.Parts.{is_background_run, is_step_run, is_elsewhere, is_astray, is_judged}
 use Rattle.canary_release.proofs.Keeping.{ended_service_state}
 use Rattle.canary_release.proofs.PartsLists.{or_left, or_right, and_with, found_passes, found_false, found_any, only_one, none_of_all, none_without}

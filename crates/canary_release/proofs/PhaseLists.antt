@@ -6,7 +6,7 @@ use Rattle.std.proofs.lemmas.List.{take_more, map-append}
 use Rattle.std.proofs.lemmas.Bool.Decides.{nat_tests}
 use Rattle.canary_condition.specs.declared.outcome.Phase.{Phase}
 use Rattle.canary_release.specs.Replies.{quoted_phase}
-use Rattle.canary_release.specs.Reporting.{phase_words}
+use Rattle.canary_release.specs.Rules.Reporting.{phase_words}
 
 -- what a piece adds
 abbrev with_separator : List (List ℕ) → List ℕ → List ℕ

@@ -12,8 +12,8 @@ use Rattle.canary_release.specs.declared.effect.Effect.{Effect}
 use Rattle.canary_release.specs.declared.effect.Effect.TheVariants.{LineAdded, RunOpened, RunClosed}
 use Rattle.canary_release.specs.declared.runs.OpenRun.{OpenRun}
 use Rattle.canary_release.specs.Evolutions.{Evolution, with_service_state, apply_effect, tell, runs_now, run_verdict, next_run, open_run, close_run, end_run, end_runs, end_open_runs}
-use Rattle.canary_release.specs.Entering.{begins_background, begin_background, open_background, done, finish, show_step, enter}
-use Rattle.canary_release.specs.Passing.{next_move, is_by, move_at, chain_end, judged_at}
+use Rattle.canary_release.specs.Rules.Entering.{begins_background, begin_background, open_background, done, finish, show_step, enter}
+use Rattle.canary_release.specs.Rules.Passing.{next_move, is_by, move_at, chain_end, judged_at}
 use Rattle.canary_release.specs.Desks.{model_evolution}
 use Rattle.canary_release.specs.Effects.{IsQuiet, TimeMeasuresNothing}
 use Rattle.canary_release.proofs.OrderingBasics.{each_and_more}

@@ -11,7 +11,7 @@ use Rattle.canary_plan.specs.declared.refusal.Refusal.{Refusal}
 use Rattle.canary_plan.specs.Plans.{Templates, template_of}
 use Rattle.canary_release.specs.declared.reply.ReplyStatus.TheVariants.{Accepted, Refused}
 use Rattle.canary_release.specs.Evolutions.{Evolution}
-use Rattle.canary_release.specs.Commands.{ModelResult}
+use Rattle.canary_release.specs.Rules.Commands.{ModelResult}
 use Rattle.canary_release.specs.Desks.{ModelDecision, model_evolution, newest, rules, adds_unless, newest_number, revision_refusal, rule_template, rule_service, act_new, act_passed, model_decision, ruling_on, Desk, desk_after}
 use Rattle.canary_release.specs.Desks.Change.{Nothing}
 use Rattle.canary_release.specs.Laws.{RefusalsLeaveTheDesk}

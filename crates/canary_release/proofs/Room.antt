@@ -28,8 +28,8 @@ use Rattle.canary_release.specs.Pasts.{change_at}
 use Rattle.canary_release.specs.Watching.{counted, counted_in, effect_applied}
 use Rattle.canary_release.specs.Evolutions.{has_number}
 use Rattle.canary_release.specs.Parts.{repeats_number}
-use Rattle.canary_release.specs.Recording.{is_not_full, takes, have_room}
-use Rattle.canary_release.specs.Reports.{Place, place_from, place_of, names_metric, entry_refusal_at, entry_refusal, entries_refusal, recorded_at, recorded_if, brought}
+use Rattle.canary_release.specs.Rules.Recording.{is_not_full, takes, have_room}
+use Rattle.canary_release.specs.Rules.Reports.{Place, place_from, place_of, names_metric, entry_refusal_at, entry_refusal, entries_refusal, recorded_at, recorded_if, brought}
 use Rattle.canary_release.proofs.Counting.{both}
 
 -- Tests.

@@ -22,7 +22,7 @@ use Rattle.canary_release.specs.Pasts.{no_past, past_with_all, tracked}
 use Rattle.canary_release.specs.Watching.{no_runs}
 use Rattle.canary_release.specs.Services.{weight}
 use Rattle.canary_release.specs.Evolutions.{Evolution}
-use Rattle.canary_release.specs.Commands.{start_refusal_at, promote_refusal}
+use Rattle.canary_release.specs.Rules.Commands.{start_refusal_at, promote_refusal}
 use Rattle.canary_release.specs.Desks.{machine, no_desk, new_service_state}
 use Rattle.canary_release.specs.Stored.{stored_evolution}
 use Rattle.canary_release.proofs.Stories.{service_after, b, ok, no, web, v1, v2, v3, m, add, background, background_setup, two_pauses, every, metric, report, result, told}

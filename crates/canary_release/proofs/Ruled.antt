@@ -14,7 +14,7 @@ use Rattle.canary_plan.specs.Commands.{template_in, service_in}
 use Rattle.canary_plan.specs.Plans.{is_accepted, are_fit}
 use Rattle.canary_plan.specs.declared.refusal.Refusal.{Refusal}
 use Rattle.canary_release.specs.declared.service.ServiceParts.{ServiceParts}
-use Rattle.canary_release.specs.declared.commands.CommandResult.{CommandResult}
+use Rattle.canary_release.specs.declared.rules.commands.CommandResult.{CommandResult}
 use Rattle.canary_release.specs.Evolutions.{Evolution}
 use Rattle.canary_release.specs.Desks.{refuses, adds_unless, revision_refusal, act_passed, rule_template, rule_service, act_new, model_decision}
 use Rattle.canary_release.specs.Parts.{is_broken}

@@ -18,7 +18,7 @@ use Rattle.canary_plan.specs.Commands.{subject_of}
 use Rattle.canary_release.specs.declared.service.ServiceParts.{ServiceParts}
 use Rattle.canary_release.specs.Pasts.{no_past}
 use Rattle.canary_release.specs.Evolutions.{Evolution, RunView}
-use Rattle.canary_release.specs.Commands.{ModelResult, unless, succeeds_with}
+use Rattle.canary_release.specs.Rules.Commands.{ModelResult, unless, succeeds_with}
 use Rattle.canary_release.specs.Desks.{ModelService, Desk, Change, rules, after, desk_after, model_evolution, act_new, act_passed, new_service, adds_unless, newest_number, revision_refusal, newest, rule_template, rule_service, model_decision, ruling_on, watch_of}
 use Rattle.canary_release.specs.Desks.Change.{Nothing, Adds, Becomes}
 use Rattle.canary_release.specs.Stored.{stored_form, stored_after, change_of, stored_by, stored_service, KeepsWhatIsSeen}

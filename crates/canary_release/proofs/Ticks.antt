@@ -16,8 +16,8 @@ use Rattle.canary_release.specs.declared.reply.Reply.{Reply}
 use Rattle.canary_release.specs.declared.state.ServiceState.{ServiceState}
 use Rattle.canary_release.specs.Pasts.{Past, past_with, past_with_all, tracked}
 use Rattle.canary_release.specs.Evolutions.{Evolution, RunView}
-use Rattle.canary_release.specs.Passing.{with_last, followed, judged_at, pass}
-use Rattle.canary_release.specs.Commands.{ModelResult, act}
+use Rattle.canary_release.specs.Rules.Passing.{with_last, followed, judged_at, pass}
+use Rattle.canary_release.specs.Rules.Commands.{ModelResult, act}
 use Rattle.canary_release.specs.Replies.{accepted}
 use Rattle.canary_release.specs.Desks.{ModelService, Desk, Change, ModelDecision, watch_of, model_evolution, passed_on, act_passed, newest, after, rules, rule_template, rule_service, ruling_on, desk_after, apply, machine}
 use Rattle.canary_release.specs.Desks.Change.{Nothing, Adds, Becomes}

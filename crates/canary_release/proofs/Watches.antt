@@ -17,10 +17,10 @@ use Rattle.canary_release.specs.declared.effect.Effect.TheVariants.{MeasurementR
 use Rattle.canary_release.specs.declared.runs.OpenRun.{OpenRun}
 use Rattle.canary_release.specs.declared.state.ReleaseState.TheVariants.{Aborted}
 use Rattle.canary_release.specs.Evolutions.{Evolution, with_service_state, apply_effect, tell, runs_now, open_run_now, run_verdict, close_run, end_run, end_runs}
-use Rattle.canary_release.specs.Entering.{begins_background, begin_background, open_background, finish, show_step, enter, abort, without_holds}
-use Rattle.canary_release.specs.Passing.{next_move, is_by, move_at, chain_end, pass, judged_at}
-use Rattle.canary_release.specs.Reports.{brought, record_all, report_refusal, consequence, complete, assess_run, assess, report_on}
-use Rattle.canary_release.specs.Commands.{ModelResult, unless, succeeds_with, begun, started_at, start, promoted_to, retry, promote, promote_full, abort_by_command, start_refusal, retry_refusal, promote_refusal, progress_refusal, reports_if, act}
+use Rattle.canary_release.specs.Rules.Entering.{begins_background, begin_background, open_background, finish, show_step, enter, abort, without_holds}
+use Rattle.canary_release.specs.Rules.Passing.{next_move, is_by, move_at, chain_end, pass, judged_at}
+use Rattle.canary_release.specs.Rules.Reports.{brought, record_all, report_refusal, consequence, complete, assess_run, assess, report_on}
+use Rattle.canary_release.specs.Rules.Commands.{ModelResult, unless, succeeds_with, begun, started_at, start, promoted_to, retry, promote, promote_full, abort_by_command, start_refusal, retry_refusal, promote_refusal, progress_refusal, reports_if, act}
 use Rattle.canary_release.specs.Desks.{passed_on, act_passed}
 
 -- the same view of runs

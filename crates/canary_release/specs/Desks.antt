@@ -22,8 +22,8 @@ use Rattle.canary_release.specs.declared.state.ReleaseState.TheVariants.{Done}
 use Rattle.canary_release.specs.declared.state.ServiceState.{ServiceState}
 use Rattle.canary_release.specs.Pasts.{Past, no_past, past_with_all, tracked}
 use Rattle.canary_release.specs.Evolutions.{Evolution, RunView, evolution_from, tell}
-use Rattle.canary_release.specs.Passing.{pass, judged_at}
-use Rattle.canary_release.specs.Commands.{ModelResult, succeeds_with, unless, act}
+use Rattle.canary_release.specs.Rules.Passing.{pass, judged_at}
+use Rattle.canary_release.specs.Rules.Commands.{ModelResult, succeeds_with, unless, act}
 use Rattle.canary_release.specs.Replies.{template_text, accepted, refused}
 
 -- a service of the model: the command that made it, how it stands, and its whole past

@@ -26,7 +26,7 @@ use Rattle.canary_release.specs.declared.decide.DeskChange.TheVariants as change
 use Rattle.canary_release.specs.Pasts.{tracked}
 use Rattle.canary_release.specs.Watching.{effect_applied}
 use Rattle.canary_release.specs.Evolutions.{has_number, run_verdict}
-use Rattle.canary_release.specs.Passing.{pass}
+use Rattle.canary_release.specs.Rules.Passing.{pass}
 use Rattle.canary_release.specs.Desks.{ModelService, RevisionMap, Desk, revisions_of, newest, before, model_evolution, ruling_on}
 use Rattle.canary_release.specs.Order.{known_by, AreInOrder}
 use Rattle.canary_release.specs.Stored.{change_of}

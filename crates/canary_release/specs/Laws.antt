@@ -13,7 +13,7 @@ use Rattle.canary_release.specs.declared.reply.ReplyStatus.TheVariants.{Accepted
 use Rattle.canary_release.specs.Pasts.{Past, past_with_all, tracked}
 use Rattle.canary_release.specs.Watching.{after_all}
 use Rattle.canary_release.specs.Evolutions.{Evolution}
-use Rattle.canary_release.specs.Passing.{pass}
+use Rattle.canary_release.specs.Rules.Passing.{pass}
 use Rattle.canary_release.specs.Desks.{ModelService, model_evolution, Desk, model_decision, apply, machine}
 
 -- what is tracked after all that happened is seen in the whole lists as in the tallies

@@ -2,11 +2,8 @@ pub mod Pasts
 pub mod Watching
 pub mod Services
 pub mod Evolutions
-pub mod Entering
-pub mod Passing
-pub mod Reports
 pub mod Replies
-pub mod Commands
+pub mod Rules
 pub mod Desks
 pub mod Stored
 pub mod Parts
@@ -14,6 +11,4 @@ pub mod Laws
 pub mod Order
 pub mod Sound
 pub mod PartsLaws
-pub mod Recording
-pub mod Reporting
 pub mod Effects

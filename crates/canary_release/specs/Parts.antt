@@ -21,7 +21,7 @@ use Rattle.canary_release.specs.declared.parts.PartsFault.{PartsFault}
 use Rattle.canary_release.specs.declared.parts.PartsFault.TheVariants.{Broken}
 use Rattle.canary_release.specs.Services.{is_in_progress, is_done, is_held}
 use Rattle.canary_release.specs.Evolutions.{has_number, run_verdict}
-use Rattle.canary_release.specs.Passing.{next_move, is_by}
+use Rattle.canary_release.specs.Rules.Passing.{next_move, is_by}
 
 abbrev pub one_if : Bool → ℕ
 one_if b = if b then 1 else 0

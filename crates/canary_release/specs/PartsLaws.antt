@@ -4,8 +4,8 @@ use Rattle.canary_plan.specs.declared.service.ServiceSpec.{ServiceSpec}
 use Rattle.canary_plan.specs.declared.command.Command.{Command}
 use Rattle.canary_plan.specs.Plans.{Templates, is_accepted, are_fit}
 use Rattle.canary_release.specs.declared.service.ServiceParts.{ServiceParts}
-use Rattle.canary_release.specs.Passing.{pass}
-use Rattle.canary_release.specs.Commands.{ModelResult}
+use Rattle.canary_release.specs.Rules.Passing.{pass}
+use Rattle.canary_release.specs.Rules.Commands.{ModelResult}
 use Rattle.canary_release.specs.Desks.{act_passed, new_service}
 use Rattle.canary_release.specs.Stored.{stored_evolution, stored_after}
 use Rattle.canary_release.specs.Parts.{is_broken}

@@ -8,15 +8,15 @@ use Rattle.canary_plan.specs.Commands.{subject_of}
 use Rattle.canary_release.specs.declared.service.ServiceParts.{ServiceParts}
 use Rattle.canary_release.specs.declared.transition.Transition.{Transition}
 use Rattle.canary_release.specs.declared.service.Passed.{Passed}
-use Rattle.canary_release.specs.declared.commands.CommandResult.{CommandResult}
+use Rattle.canary_release.specs.declared.rules.commands.CommandResult.{CommandResult}
 use Rattle.canary_release.specs.declared.decide.DeskChange.{DeskChange}
 use Rattle.canary_release.specs.declared.decide.DeskChange.TheVariants.{Nothing, Template as AddsTemplate, Service as Updates}
 use Rattle.canary_release.specs.declared.decide.Decision.{Decision}
 use Rattle.canary_release.specs.Pasts.{tracked}
 use Rattle.canary_release.specs.Watching.{after_all}
 use Rattle.canary_release.specs.Evolutions.{Evolution, evolution_from, runs_now}
-use Rattle.canary_release.specs.Passing.{pass}
-use Rattle.canary_release.specs.Commands.{ModelResult}
+use Rattle.canary_release.specs.Rules.Passing.{pass}
+use Rattle.canary_release.specs.Rules.Commands.{ModelResult}
 use Rattle.canary_release.specs.Replies.{shown_by}
 use Rattle.canary_release.specs.Desks.{ModelService, Change, ModelDecision, Desk, with_revision, ruling_on, with_service, apply}
 use Rattle.canary_release.specs.Desks.Change.{Nothing as Stays, Adds, Becomes}

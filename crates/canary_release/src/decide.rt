@@ -15,10 +15,10 @@ ghost use Rattle.canary_release.specs.Replies.{accepted, template_text};
 ghost use Rattle.canary_release.specs.Stored.{stored_service, strategy_kept, evolution_of, stored_evolution, stored_after};
 ghost use Rattle.canary_release.specs.Stored.{command_result_of, model_result_of, decision_of, IsStep};
 
-use crate::commands::{self, CommandResult};
 use crate::effect::{Effect, copy_effects};
 use crate::laws;
 use crate::reply::Reply;
+use crate::rules::commands::{self, CommandResult};
 use crate::runs::Runs;
 use crate::service::{Service, ServiceParts};
 use crate::state::{ReleaseState, ServiceState};

@@ -1,6 +1,6 @@
 //! What happens to a service's runs, one thing after another.
 ghost use Rattle.std.specs.Prelude.{◌≡◌, ◌++◌, ◌<◌, [], ◌∷◌, true, IfOk};
-ghost use Rattle.canary_release.specs.Recording.{has_room};
+ghost use Rattle.canary_release.specs.Rules.Recording.{has_room};
 ghost use Rattle.canary_release.specs.declared.effect.Effect.TheVariants as effect;
 ghost use Rattle.canary_release.specs.Watching.{after_all};
 

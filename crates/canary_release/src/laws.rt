@@ -1,7 +1,7 @@
 //! Laws over the definitions alone.
 ghost use Rattle.canary_release.specs.Laws.{WatchesAlike, RefusalsLeaveTheDesk, LooksOnlyAt};
 ghost use Rattle.canary_release.specs.Laws.{AreIndependent, TicksOnlyPassTime};
-ghost use Rattle.canary_release.specs.Passing.{PassesAsComputed, PassesInSteps};
+ghost use Rattle.canary_release.specs.Rules.Passing.{PassesAsComputed, PassesInSteps};
 ghost use Rattle.canary_release.specs.Stored.{KeepsWhatIsSeen};
 ghost use Rattle.canary_release.specs.Desks.{no_desk};
 ghost use Rattle.canary_release.specs.Order.{AreInOrder, StayInOrder};

@@ -14,17 +14,14 @@
 //!     Ok(decide(alloc, &templates, service.as_ref(), moment, command)?)
 #![tactic(auto)]
 
-mod commands;
 pub mod decide;
 pub mod effect;
 mod effect_log;
-mod entering;
 pub mod laws;
 pub mod parts;
-mod passing;
 pub mod reply;
-mod report;
 mod report_reply;
+mod rules;
 pub mod runs;
 pub mod service;
 pub mod state;

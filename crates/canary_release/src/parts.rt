@@ -11,7 +11,7 @@ ghost use Rattle.canary_plan.specs.declared.analysis_parts.Revision.{Revision as
 ghost use Rattle.canary_plan.specs.Commands.{same_names};
 ghost use Rattle.canary_plan.specs.PlanRefusals.{has_duplicate, is_without_end};
 ghost use Rattle.canary_release.specs.Evolutions.{has_number};
-ghost use Rattle.canary_release.specs.Passing.{next_move, is_by};
+ghost use Rattle.canary_release.specs.Rules.Passing.{next_move, is_by};
 ghost use Rattle.canary_release.specs.Services.{is_in_progress, is_done, is_held};
 ghost use Rattle.canary_release.specs.Parts.{IsAccepted, is_broken, is_misplaced, runs_wanted};
 ghost use Rattle.canary_release.specs.Parts.{background_wanted, is_misnumbered};

@@ -1,7 +1,7 @@
 //! The reply to a report.
 ghost use Rattle.std.specs.Prelude.{◌≡◌, ◌++◌, IfOk, codes, decimal, map, string_bytes};
 ghost use Rattle.canary_release.specs.Replies.{bracketed, quoted_phase, report_text, accepted};
-ghost use Rattle.canary_release.specs.Reporting.{phase_words};
+ghost use Rattle.canary_release.specs.Rules.Reporting.{phase_words};
 
 use crate::reply::{Reply, ReplyStatus, Reported, with_place, with_weight};
 use crate::state::ServiceState;

@@ -8,7 +8,7 @@ ghost use Rattle.canary_metric.specs.Measurements.{is_measured};
 ghost use Rattle.canary_release.specs.declared.effect.Effect.TheVariants as effect;
 ghost use Rattle.canary_release.specs.Evolutions.{has_number, run_verdict};
 ghost use Rattle.canary_release.specs.Pasts.{change_at};
-ghost use Rattle.canary_release.specs.Recording.{is_not_full, takes, has_room};
+ghost use Rattle.canary_release.specs.Rules.Recording.{is_not_full, takes, has_room};
 ghost use Rattle.canary_release.specs.Watching.{no_runs, opened_now, counted, counted_in};
 ghost use Rattle.canary_release.specs.Watching.{is_other, effect_applied};
 

@@ -2,13 +2,13 @@
 ghost use Rattle.std.specs.Prelude.{◌≡◌, false, IfOk, IsTrue};
 ghost use Rattle.canary_plan.specs.Plans.{is_accepted, are_fit};
 ghost use Rattle.canary_release.specs.Services.{status, weight};
-ghost use Rattle.canary_release.specs.Passing.{pass};
+ghost use Rattle.canary_release.specs.Rules.Passing.{pass};
 ghost use Rattle.canary_release.specs.Parts.{is_broken};
 ghost use Rattle.canary_release.specs.Stored.{stored_evolution, stored_after, evolution_of};
 
-use crate::commands::recall_bounds;
 use crate::effect::{Effect, copy_effects};
 use crate::laws;
+use crate::rules::commands::recall_bounds;
 use crate::runs::{OpenRun, Runs};
 use crate::state::{ReleaseState, ServiceState, Status};
 use crate::transition::Transition;

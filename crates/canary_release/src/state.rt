@@ -3,8 +3,8 @@ ghost use Rattle.std.specs.Prelude.{◌≡◌, ◌<◌, length, IfOk, IsSome, No
 ghost use Rattle.std.specs.List.{filter_map, last_or};
 ghost use Rattle.canary_release.specs.Services.{is_held, step_of, is_pause, status};
 ghost use Rattle.canary_release.specs.Services.{weight, weight_set};
-ghost use Rattle.canary_release.specs.Entering.{begins_background};
-ghost use Rattle.canary_release.specs.Passing.{is_free, leaves_at, next_move, move_by, judged_at};
+ghost use Rattle.canary_release.specs.Rules.Entering.{begins_background};
+ghost use Rattle.canary_release.specs.Rules.Passing.{is_free, leaves_at, next_move, move_by, judged_at};
 ghost use Rattle.canary_release.specs.Replies.{status_text};
 
 use canary_base::error::Memory;

@@ -4,9 +4,9 @@ ghost use Rattle.std.specs.Option.{option_copied};
 ghost use Rattle.canary_release.specs.declared.effect.Effect.TheVariants as effect;
 ghost use Rattle.canary_release.specs.Evolutions.{apply_effect, tell, runs_now, open_run_now, run_verdict};
 ghost use Rattle.canary_release.specs.Evolutions.{next_run, open_run, close_run, end_run};
-ghost use Rattle.canary_release.specs.Passing.{judged_at, with_last};
-ghost use Rattle.canary_release.specs.Recording.{has_room, have_room};
-ghost use Rattle.canary_release.specs.Reports.{record_all};
+ghost use Rattle.canary_release.specs.Rules.Passing.{judged_at, with_last};
+ghost use Rattle.canary_release.specs.Rules.Recording.{has_room, have_room};
+ghost use Rattle.canary_release.specs.Rules.Reports.{record_all};
 ghost use Rattle.canary_release.specs.Watching.{effect_applied};
 ghost use Rattle.canary_release.specs.Stored.{stored_evolution, evolution_of, stored_after, run_total};
 

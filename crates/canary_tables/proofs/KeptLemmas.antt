@@ -7,6 +7,7 @@ use Rattle.std.specs.Cmp.Lexicographic.{slice_cmp, nat_list_cmp_total}
 use Rattle.std.specs.FinMap.{get, insert, remove, empty, get-insert, get-remove, get-empty}
 use Rattle.canary_plan.specs.declared.command.Command.{Command}
 use Rattle.canary_plan.specs.declared.command.Command.TheVariants.{Template as AddTemplate, Service as AddService, Start, Promote, PromoteFull, Abort, Retry, Tick, Report}
+use Rattle.canary_plan.specs.declared.line.Line.{Line}
 use Rattle.canary_plan.specs.declared.template.Template.{Template}
 use Rattle.canary_plan.specs.declared.refusal.Refusal.{Refusal}
 use Rattle.canary_plan.specs.Plans.{Templates}
@@ -15,26 +16,24 @@ use Rattle.canary_release.specs.declared.service.ServiceParts.{ServiceParts}
 use Rattle.canary_release.specs.declared.effect.Effect.{Effect}
 use Rattle.canary_release.specs.declared.decide.DeskChange.{DeskChange}
 use Rattle.canary_release.specs.declared.decide.DeskChange.TheVariants.{Nothing, Template as AddsTemplate, Service as Updates}
-use Rattle.canary_release.specs.Commands.{ModelResult}
+use Rattle.canary_release.specs.Rules.Commands.{ModelResult}
 use Rattle.canary_release.specs.Evolutions.{Evolution}
 use Rattle.canary_release.specs.Desks.{ModelService, Desk, model_evolution, after, ruling_on, apply, newest, revisions_of, rules, adds_unless, rule_service}
-use Rattle.canary_release.specs.Stored.{stored_form, stored_service, change_of, desk_with, stored_by, KeepsWhatIsSeen}
+use Rattle.canary_release.specs.Stored.{stored_form, stored_service, change_of, desk_with, KeepsWhatIsSeen}
 use Rattle.canary_release.specs.Order.{AreInOrder}
 use Rattle.canary_once.specs.declared.book.Receipt.{Receipt}
 use Rattle.canary_once.specs.declared.book.Settlement.{Settlement}
 use Rattle.canary_once.specs.Contents.{Contents, count_of, receipt_at, receipts_of, IsSettling, with_settlement, put_some}
+use Rattle.canary_once.specs.Records.{history_of}
 use Rattle.canary_once.proofs.Events.{keep_keeps}
 use Rattle.sqlite.specs.State.{State}
 use Rattle.canary_tables.specs.Desk.{IsDesk, contents_in}
 use Rattle.canary_tables.specs.declared.cache.Cache.{Cache}
 use Rattle.canary_tables.specs.declared.cache.NumberedReceipt.{NumberedReceipt}
 use Rattle.canary_tables.specs.CacheMaps.{Named, IsWithin}
-use Rattle.canary_tables.specs.Caches.{AreCounts, AreServices, AreTemplates, AreReceipts, IsCacheOf, KeepsNothing, without_revised, with_changed, kept_of, IsKnown}
+use Rattle.canary_tables.specs.Caches.{AreCounts, AreServices, AreTemplates, AreReceipts, AreHistories, IsCacheOf, KeepsNothing, without_revised, with_changed, with_lines, kept_of, IsKnown}
 use Rattle.canary_tables.proofs.EntryLemmas.{is_it, equal_names, kept_within, same_name}
-
-pub there_is : (o : Option ModelService) (k : ServiceParts) → option_map stored_form o ≡ Some k → (m : ModelService) × ((o ≡ Some m) × (stored_form m ≡ k))
-there_is None k e = let never : ⊥ = cc in absurd never
-there_is (Some m) k e = (m, (refl, cc))
+use Rattle.canary_tables.proofs.HistoryLemmas.{brought, named_so, histories_after, one_history_more}
 
 -- what is known of the service that a change names
 pub known_so : (c : Contents) (services : Named ServiceParts) (change : DeskChange) (cached : Option ServiceParts) → AreServices services c → cached ≡ kept_of services change → IsKnown cached change c
@@ -113,23 +112,23 @@ services_after : KeepsWhatIsSeen → (desk : Desk) (now : ℕ) (command : Comman
     → (name : List ℕ) (s : ServiceParts) → get n name ≡ Some s → stored_service (desk_with desk command change) name ≡ Some s
 services_after law desk now command Nothing is next_desk order m n are within = λ name s there. are name s (within name s there)
 services_after law desk now command (AddsTemplate template) is next_desk order m n are within = λ name s there. are name s (within name s there)
-services_after law desk now command (Updates s effects) is next_desk order m n are within = λ q v there.
+services_after law desk now command (Updates s effects) is next_desk order m n are within = λ q v kept.
     one q v (is_it q s.service.name) (equal_names q s.service.name) refl
-    (sym (get-insert nat_list_cmp_total m s.service.name s q) ∙ within q v there) where
+    (sym (get-insert nat_list_cmp_total m s.service.name s q) ∙ within q v kept) where
       next : Desk
       next = desk_with desk command (Updates s effects)
 
-      brought : stored_service next (subject_of command) ≡ Some s
-      brought = subst (λ (d : Desk). stored_service d (subject_of command) ≡ Some s) (sym next_desk) (law desk now command s (ap stored_by (sym is)))
+      there : stored_service next (subject_of command) ≡ Some s
+      there = brought law desk now command s effects is next_desk
 
       named : s.service.name ≡ subject_of command
-      named = let m = there_is (get next.services (subject_of command)) s brought in ap (λ (p : ServiceParts). p.service.name) (sym m.1.1) ∙ (order.services (subject_of command) m.0 m.1.0).shown
+      named = named_so next (subject_of command) s order there
 
       becomes : ModelService
       becomes = after (get desk.services (subject_of command)) s.service effects
 
       one : (q : List ℕ) (v : ServiceParts) (b : Bool) → (b ≡ true → q ≡ s.service.name) → is_it q s.service.name ≡ b → cond b (Some s) (get m q) ≡ Some v → stored_service next q ≡ Some v
-      one q v true same is_b e = ap (stored_service next) (same refl ∙ named) ∙ brought ∙ e
+      one q v true same is_b e = ap (stored_service next) (same refl ∙ named) ∙ there ∙ e
       one q v false same is_b e =
           ap (option_map stored_form) (get-insert nat_list_cmp_total desk.services (subject_of command) becomes q ∙ ap (λ (b : Bool). cond b (Some becomes) (get desk.services q)) (ap (is_it q) (sym named) ∙ is_b)) ∙ are q v e
 
@@ -179,67 +178,83 @@ templates_after desk now command (AddsTemplate u) is m n are same name t there =
 
 pub kept_after : KeepsWhatIsSeen → (c : Contents) (s : Settlement) (old new : Cache) → IsSettling c s → AreInOrder (with_settlement c s).desk → IsCacheOf old c
     → IsWithin new.counts (insert old.counts s.caller s.number) → IsWithin new.services (with_changed old.services s.change) → new.templates ≡ without_revised old.templates s.change
-    → ((k : Contents) → AreReceipts old.receipts k → receipt_at k s.caller s.number ≡ Some s.receipt → AreReceipts new.receipts k)
+    → IsWithin new.histories (with_lines old.histories s.change) → ((k : Contents) → AreReceipts old.receipts k → receipt_at k s.caller s.number ≡ Some s.receipt → AreReceipts new.receipts k)
     → IsCacheOf new (with_settlement c s)
-kept_after law c s old new settling order are counts services templates receipts =
+kept_after law c s old new settling order are counts services templates histories receipts =
     record {
       counts = count_after c s old.counts new.counts settling.number are.counts counts;
       services = services_after law c.desk settling.step.0 s.receipt.command s.change settling.step.1.change settling.step.1.desk_after order old.services new.services are.services services;
       templates = templates_after c.desk settling.step.0 s.receipt.command s.change settling.step.1.change old.templates new.templates are.templates templates;
       receipts = receipts (with_settlement c s) (receipts_stay c s old.receipts are.receipts) (receipt_settled c s settling.number);
+      histories = histories_after law c.desk settling.step.0 s.receipt.command s.change settling.step.1.change settling.step.1.desk_after order old.histories new.histories are.histories histories;
     }
 
 -- One is read.
 
-pub count_kept : (c : Contents) (old new : Cache) (caller : List ℕ) (count : ℕ) → IsCacheOf old c → count ≡ count_of c caller → IsWithin new.counts (insert old.counts caller count) → new.services ≡ old.services → new.templates ≡ old.templates → new.receipts ≡ old.receipts → IsCacheOf new c
-count_kept c old new caller count are is counts services templates receipts =
+pub count_kept : (c : Contents) (old new : Cache) (caller : List ℕ) (count : ℕ) → IsCacheOf old c → count ≡ count_of c caller → IsWithin new.counts (insert old.counts caller count) → new.services ≡ old.services → new.templates ≡ old.templates → new.receipts ≡ old.receipts → new.histories ≡ old.histories → IsCacheOf new c
+count_kept c old new caller count are is counts services templates receipts histories =
     record {
       counts = one_count_more c old.counts new.counts caller count are.counts is counts;
       services = subst (λ (m : Named ServiceParts). AreServices m c) (sym services) are.services;
       templates = subst (λ (m : Named Template). AreTemplates m c) (sym templates) are.templates;
       receipts = subst (λ (m : Named NumberedReceipt). AreReceipts m c) (sym receipts) are.receipts;
+      histories = subst (λ (m : Named (List Line)). AreHistories m c) (sym histories) are.histories;
     }
 
-pub service_kept : (c : Contents) (old new : Cache) (name : List ℕ) (found : Option ServiceParts) → IsCacheOf old c → found ≡ stored_service c.desk name → new.counts ≡ old.counts → IsWithin new.services (put_some old.services name found) → new.templates ≡ old.templates → new.receipts ≡ old.receipts → IsCacheOf new c
-service_kept c old new name found are is counts services templates receipts =
+pub service_kept : (c : Contents) (old new : Cache) (name : List ℕ) (found : Option ServiceParts) → IsCacheOf old c → found ≡ stored_service c.desk name → new.counts ≡ old.counts → IsWithin new.services (put_some old.services name found) → new.templates ≡ old.templates → new.receipts ≡ old.receipts → new.histories ≡ old.histories → IsCacheOf new c
+service_kept c old new name found are is counts services templates receipts histories =
     record {
       counts = subst (λ (m : Named ℕ). AreCounts m c) (sym counts) are.counts;
       services = one_service_more c old.services new.services name found are.services is services;
       templates = subst (λ (m : Named Template). AreTemplates m c) (sym templates) are.templates;
       receipts = subst (λ (m : Named NumberedReceipt). AreReceipts m c) (sym receipts) are.receipts;
+      histories = subst (λ (m : Named (List Line)). AreHistories m c) (sym histories) are.histories;
     }
 
-pub template_kept : (c : Contents) (old new : Cache) (name : List ℕ) (found : Option Template) → IsCacheOf old c → found ≡ newest c.desk.templates name → new.counts ≡ old.counts → new.services ≡ old.services → IsWithin new.templates (put_some old.templates name found) → new.receipts ≡ old.receipts → IsCacheOf new c
-template_kept c old new name found are is counts services templates receipts =
+pub template_kept : (c : Contents) (old new : Cache) (name : List ℕ) (found : Option Template) → IsCacheOf old c → found ≡ newest c.desk.templates name → new.counts ≡ old.counts → new.services ≡ old.services → IsWithin new.templates (put_some old.templates name found) → new.receipts ≡ old.receipts → new.histories ≡ old.histories → IsCacheOf new c
+template_kept c old new name found are is counts services templates receipts histories =
     record {
       counts = subst (λ (m : Named ℕ). AreCounts m c) (sym counts) are.counts;
       services = subst (λ (m : Named ServiceParts). AreServices m c) (sym services) are.services;
       templates = one_template_more c old.templates new.templates name found are.templates is templates;
       receipts = subst (λ (m : Named NumberedReceipt). AreReceipts m c) (sym receipts) are.receipts;
+      histories = subst (λ (m : Named (List Line)). AreHistories m c) (sym histories) are.histories;
     }
 
-pub receipt_kept : (c : Contents) (old new : Cache) (caller : List ℕ) (number : ℕ) (found : Option Receipt) → IsCacheOf old c → found ≡ receipt_at c caller number → new.counts ≡ old.counts → new.services ≡ old.services → new.templates ≡ old.templates
+pub receipt_kept : (c : Contents) (old new : Cache) (caller : List ℕ) (number : ℕ) (found : Option Receipt) → IsCacheOf old c → found ≡ receipt_at c caller number → new.counts ≡ old.counts → new.services ≡ old.services → new.templates ≡ old.templates → new.histories ≡ old.histories
     → ((k : Contents) → AreReceipts old.receipts k → found ≡ receipt_at k caller number → AreReceipts new.receipts k) → IsCacheOf new c
-receipt_kept c old new caller number found are is counts services templates receipts =
+receipt_kept c old new caller number found are is counts services templates histories receipts =
     record {
       counts = subst (λ (m : Named ℕ). AreCounts m c) (sym counts) are.counts;
       services = subst (λ (m : Named ServiceParts). AreServices m c) (sym services) are.services;
       templates = subst (λ (m : Named Template). AreTemplates m c) (sym templates) are.templates;
       receipts = receipts c are.receipts is;
+      histories = subst (λ (m : Named (List Line)). AreHistories m c) (sym histories) are.histories;
     }
 
--- what is kept of a database is that of one that contains the same
+pub history_kept : (c : Contents) (old new : Cache) (name : List ℕ) (read : List Line) → IsCacheOf old c → read ≡ history_of c name → new.counts ≡ old.counts → new.services ≡ old.services → new.templates ≡ old.templates → new.receipts ≡ old.receipts → IsWithin new.histories (insert old.histories name read) → IsCacheOf new c
+history_kept c old new name read are is counts services templates receipts histories =
+    record {
+      counts = subst (λ (m : Named ℕ). AreCounts m c) (sym counts) are.counts;
+      services = subst (λ (m : Named ServiceParts). AreServices m c) (sym services) are.services;
+      templates = subst (λ (m : Named Template). AreTemplates m c) (sym templates) are.templates;
+      receipts = subst (λ (m : Named NumberedReceipt). AreReceipts m c) (sym receipts) are.receipts;
+      histories = one_history_more c old.histories new.histories name read are.histories is histories;
+    }
+
 -- what is kept once a request is settled
 pub settled_kept : KeepsWhatIsSeen → (old new : State) (s : Settlement) (before forgot after : Cache) → IsSettling (contents_in old) s → IsDesk new → contents_in new ≡ with_settlement (contents_in old) s → IsCacheOf before (contents_in old)
     → forgot.counts ≡ before.counts → forgot.services ≡ before.services → forgot.templates ≡ without_revised before.templates s.change → IsWithin after.counts (insert forgot.counts s.caller s.number) → IsWithin after.services (with_changed forgot.services s.change) → after.templates ≡ forgot.templates
     → forgot.receipts ≡ before.receipts → ((k : Contents) → AreReceipts forgot.receipts k → receipt_at k s.caller s.number ≡ Some s.receipt → AreReceipts after.receipts k)
+    → forgot.histories ≡ before.histories → IsWithin after.histories (with_lines forgot.histories s.change)
     → IsCacheOf after (contents_in new)
-settled_kept law old new s before forgot after settling desk settled are counts services templates more_counts more_services same_templates same_receipts more_receipts =
+settled_kept law old new s before forgot after settling desk settled are counts services templates more_counts more_services same_templates same_receipts more_receipts same_histories more_histories =
     subst (IsCacheOf after) (sym settled)
     (kept_after law (contents_in old) s before after settling (subst (λ (c : Contents). AreInOrder c.desk) settled desk.holds.lawful.desk) are
     (subst (λ (m : Named ℕ). IsWithin after.counts (insert m s.caller s.number)) counts more_counts)
     (subst (λ (m : Named ServiceParts). IsWithin after.services (with_changed m s.change)) services more_services)
     (same_templates ∙ templates)
+    (subst (λ (m : Named (List Line)). IsWithin after.histories (with_lines m s.change)) same_histories more_histories)
     (λ k before_are is. more_receipts k (subst (λ (m : Named NumberedReceipt). AreReceipts m k) (sym same_receipts) before_are) is))
 
 -- A change of a service, by its parts.
@@ -270,4 +285,5 @@ nothing_kept kept c nothing =
       services = λ name s e. absurd (none_of_nothing kept.services name s nothing.services e);
       templates = λ name t e. absurd (none_of_nothing kept.templates name t nothing.templates e);
       receipts = λ place r e. absurd (none_of_nothing kept.receipts place r nothing.receipts e);
+      histories = λ name lines e. absurd (none_of_nothing kept.histories name lines nothing.histories e);
     }

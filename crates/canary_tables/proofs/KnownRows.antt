@@ -10,27 +10,22 @@ use Rattle.canary_plan.specs.Plans.{all_revisions}
 use Rattle.canary_release.specs.declared.service.ServiceParts.{ServiceParts}
 use Rattle.canary_release.specs.Stored.{stored_service}
 use Rattle.canary_tables_rows.specs.declared.rows.BindingRow.{BindingRow}
-use Rattle.canary_tables_rows.specs.Tables.{Tables, is_service, is_binding, is_binding_of}
-use Rattle.canary_tables_contents.specs.Values.{service_row, binding_row}
+use Rattle.canary_tables_rows.specs.Tables.{Tables, is_binding, is_binding_of}
+use Rattle.canary_tables_contents.specs.Values.{binding_row}
 use Rattle.canary_tables_contents.specs.Tables.{row_if, binding_rows, is_of_template}
 use Rattle.canary_tables_contents.specs.Reading.{contents_of, HoldsContents}
-use Rattle.canary_tables_contents.specs.Settling.{has_service, has_bindings}
+use Rattle.canary_tables_contents.specs.Settling.{has_bindings}
 use Rattle.sqlite.specs.State.{State}
 use Rattle.canary_tables_schema.specs.Cells.{tables_in}
 use Rattle.canary_tables_schema.specs.Stores.{IsUsable, Stores}
 use Rattle.canary_tables_schema.specs.Laws.{OneReading}
 use Rattle.canary_tables.specs.Desk.{IsDesk, contents_in}
 use Rattle.canary_tables.specs.Caches.{IsKnownAs}
-use Rattle.canary_tables.proofs.KeptLemmas.{there_is}
+use Rattle.canary_tables.proofs.HistoryLemmas.{there_is}
 
 any_of_filter : {A : Type 0} (test : A → Bool) (xs : List A) (y : A) (ys : List A) → filter test xs ≡ y ∷ ys → list_any test xs ≡ true
 any_of_filter test [] y ys e = cc
 any_of_filter {A} test (x ∷ xs) y ys e = elim (test x) as (λ (b : Bool). cond b (x ∷ filter test xs) (filter test xs) ≡ y ∷ ys → (b || list_any test xs) ≡ true) [ true ↦ λ e. refl | false ↦ λ e. any_of_filter test xs y ys e ] e
-
-pub known_has_row : (t : Tables) (name : List ℕ) (k : ServiceParts) → HoldsContents t → stored_service (contents_of t).desk name ≡ Some k → has_service name t ≡ true
-known_has_row t name k holds e =
-    let m = there_is (get (contents_of t).desk.services name) k e in
-    any_of_filter (is_service name) t.services (service_row name m.0) [] (holds.rows.services name ∙ ap (row_if (service_row name)) m.1.0)
 
 either : (a b x : Bool) → (b ≡ true → x ≡ true) → (a || b) ≡ true → (a || x) ≡ true
 either true b x h e = refl
@@ -93,9 +88,6 @@ known_there : OneReading → (old : State) (t : Tables) (name : List ℕ) (cache
 known_there reading old t name cached k desk is there usable stored =
     let same : tables_in old.now ≡ t = reading old.now t stored in
     (subst HoldsContents same (desk usable).holds, subst (λ (r : Tables). stored_service (contents_of r).desk name ≡ Some k) same (is usable k there))
-
-pub row_there : OneReading → (old : State) (t : Tables) (name : List ℕ) (cached : Option ServiceParts) (k : ServiceParts) → (IsUsable old → IsDesk old) → (IsUsable old → IsKnownAs cached name (contents_in old)) → cached ≡ Some k → IsUsable old → Stores old t → has_service name t ≡ true
-row_there reading old t name cached k desk is there usable stored = let both = known_there reading old t name cached k desk is there usable stored in known_has_row t name k both.0 both.1
 
 pub bindings_there : OneReading → (old : State) (t : Tables) (name : List ℕ) (cached : Option ServiceParts) (k : ServiceParts) → (IsUsable old → IsDesk old) → (IsUsable old → IsKnownAs cached name (contents_in old)) → cached ≡ Some k → IsUsable old → Stores old t → has_bindings name t ≡ not (length (all_revisions k.service.bound) == 0)
 bindings_there reading old t name cached k desk is there usable stored = let both = known_there reading old t name cached k desk is there usable stored in known_has_bindings t name k both.0 both.1

@@ -4,10 +4,10 @@ mod Noted
 mod Booked
 mod Standing
 mod FoundRuns
-mod TemplateLemmas
 mod FoundPlans
 mod FoundServices
 mod Adopting
 mod EntryLemmas
+mod HistoryLemmas
 mod KeptLemmas
 mod KnownRows

@@ -15,22 +15,17 @@ use Rattle.canary_tables_schema.specs.Cells.{tables_in}
 use Rattle.canary_tables_schema.specs.Stores.{IsHeld, Stores, IsUsable}
 use Rattle.canary_tables_schema.specs.Laws.{OneReading}
 use Rattle.canary_tables_contents.specs.Reading.{contents_of, HoldsContents}
-use Rattle.canary_tables_contents.specs.Settling.{begins, has_service, has_bindings, request_settled, IsReadableSettlement}
+use Rattle.canary_tables_contents.specs.Settling.{begins, has_bindings, request_settled, IsReadableSettlement}
 use Rattle.canary_tables_contents.specs.Laws.{RequestsFind, RequestsSettle}
 use Rattle.canary_tables_read.specs.Finds.{IsSame}
 use Rattle.canary_tables.specs.Desk.{contents_in, IsDesk}
-use Rattle.canary_tables_write.specs.Commits.{IsThereSaid, IsBoundSaid, IsSaid, CommitAsks}
+use Rattle.canary_tables_write.specs.Commits.{IsBoundSaid, CommitAsks}
 
 -- what is said of the attempt of the service that the change names
 pub bound_said : {E : Type 0} (command : Command) (change : DeskChange) (s : ServiceParts) (effects : List Effect) (name : List ℕ) (t : Tables) (r : Result Bool E) → change ≡ Updates s effects → name ≡ s.service.name → IfOk r (λ has. begins command ≡ true → has ≡ has_bindings name t)
     → IfOk r (λ is_bound. IsBoundSaid is_bound command change t)
 bound_said command change s effects name t r is named told =
     subst (λ (x : DeskChange). IfOk r (λ (b : Bool). IsBoundSaid b command x t)) (sym is) (subst (λ (n : List ℕ). IfOk r (λ (has : Bool). begins command ≡ true → has ≡ has_bindings n t)) named told)
-
--- what is said of the service that the change names
-pub there_said : {E : Type 0} (change : DeskChange) (s : ServiceParts) (effects : List Effect) (name : List ℕ) (t : Tables) (r : Result Bool E) → change ≡ Updates s effects → name ≡ s.service.name → IfOk r (λ has. has ≡ has_service name t) → IfOk r (λ is_there. IsThereSaid is_there change t)
-there_said change s effects name t r is named told =
-    subst (λ (x : DeskChange). IfOk r (λ (b : Bool). IsThereSaid b x t)) (sym is) (subst (λ (n : List ℕ). IfOk r (λ (has : Bool). has ≡ has_service n t)) named told)
 
 on_both : {A E P Q R : Type 0} (r : Result A E) → OnOk r P → OnOk r Q → (P → Q → R) → OnOk r R
 on_both (Ok a) p q f = f p q
@@ -53,22 +48,19 @@ left reading law s old new few holds settling stored readable =
       contents = ap contents_of is ∙ settles.contents;
     }
 
--- a request that is committed in the state that two reads left
-pub settles : {A E : Type 0} → OneReading → RequestsFind → RequestsSettle → (s : Settlement) (is_there is_bound : Bool) (old there mid new : State) (r : Result A E) → s.number ≤ 1000000000
-    → (IsUsable old → IsDesk old) → (IsUsable old → IsSettling (contents_in old) s) → IsSame old there → IsSame there mid
-    → (IsUsable there → (t : Tables) → Stores old t → IsThereSaid is_there s.change t) → (IsUsable mid → (t : Tables) → Stores there t → IsBoundSaid is_bound s.receipt.command s.change t)
-    → (IsUsable new → IsUsable mid) → (IsUsable new → (t : Tables) → Stores mid t → CommitAsks is_there is_bound s t → OnOk r (Stores new (request_settled s t))) → OnOk r (IsReadableSettlement s)
+-- a request that is committed in the state that a read left
+pub settles : {A E : Type 0} → OneReading → RequestsFind → RequestsSettle → (s : Settlement) (is_bound : Bool) (old mid new : State) (r : Result A E) → s.number ≤ 1000000000
+    → (IsUsable old → IsDesk old) → (IsUsable old → IsSettling (contents_in old) s) → IsSame old mid
+    → (IsUsable mid → (t : Tables) → Stores old t → IsBoundSaid is_bound s.receipt.command s.change t)
+    → (IsUsable new → IsUsable mid) → (IsUsable new → (t : Tables) → Stores mid t → CommitAsks is_bound s t → OnOk r (Stores new (request_settled s t))) → OnOk r (IsReadableSettlement s)
     → IsUsable new → OnOk r (Leaves s old.now new.now)
-settles reading find law s is_there is_bound old there mid new r few desk settling first_same second_same there_said bound_said held stored readable usable =
+settles reading find law s is_bound old mid new r few desk settling same bound_said held stored readable usable =
     let midway : IsUsable mid = held usable in
-    let then_usable : IsUsable there = (second_same midway).0 in
-    let first : IsUsable old = (first_same then_usable).0 in
+    let first : IsUsable old = (same midway).0 in
     let d : IsDesk old = desk first in
     let t : Tables = tables_in old.now in
-    let after_one : Stores there t = subst (λ db. IsHeld db t) (sym (first_same then_usable).1) d.stores in
-    let after_two : Stores mid t = subst (λ db. IsHeld db t) (sym (second_same midway).1) after_one in
-    let said : IsSaid is_there is_bound s.receipt.command s.change t = (there_said then_usable t d.stores, bound_said midway t after_one) in
-    on_both r (stored usable t after_two (said, find s t d.holds (settling first))) readable (λ stores read. left reading law s old.now new.now few d.holds (settling first) stores read)
+    let after : Stores mid t = subst (λ db. IsHeld db t) (sym (same midway).1) d.stores in
+    on_both r (stored usable t after (bound_said midway t d.stores, find s t d.holds (settling first))) readable (λ stores read. left reading law s old.now new.now few d.holds (settling first) stores read)
 
 pub is_desk : {A E : Type 0} (s : Settlement) (old new : State) (r : Result A E) → OnOk r (Leaves s old.now new.now) → OnOk r (IsDesk new)
 is_desk s old new (Ok a) leaves = record { stores = leaves.stores; holds = leaves.holds }

@@ -1,13 +1,17 @@
 -- What a book keeps of what it has read.
-use Rattle.std.specs.Prelude.{◌≡◌, ℕ, List, Option, Some, None}
+use Rattle.std.specs.Prelude.{◌≡◌, ℕ, List, Option, Some, None, option_map}
 use Rattle.std.specs.FinMap.{get, insert, remove, empty}
+use Rattle.canary_plan.specs.declared.line.Line.{Line}
 use Rattle.canary_plan.specs.declared.template.Template.{Template}
 use Rattle.canary_release.specs.declared.service.ServiceParts.{ServiceParts}
+use Rattle.canary_release.specs.declared.effect.Effect.{Effect}
 use Rattle.canary_release.specs.declared.decide.DeskChange.{DeskChange}
 use Rattle.canary_release.specs.declared.decide.DeskChange.TheVariants.{Nothing, Template as AddsTemplate, Service as Updates}
 use Rattle.canary_release.specs.Desks.{newest}
 use Rattle.canary_release.specs.Stored.{stored_service}
-use Rattle.canary_once.specs.Contents.{Contents, count_of, receipt_at}
+use Rattle.canary_once.specs.Contents.{Contents, count_of, receipt_at, put_some}
+use Rattle.canary_once.specs.Records.{history_of}
+use Rattle.canary_once.specs.Showing.{lines_after}
 use Rattle.canary_tables.specs.CacheMaps.{Named}
 use Rattle.canary_tables.specs.declared.cache.Cache.{Cache}
 use Rattle.canary_tables.specs.declared.cache.NumberedReceipt.{NumberedReceipt}
@@ -35,12 +39,19 @@ AreReceipts receipts c =
     (place : List ℕ) (r : NumberedReceipt) → get receipts place ≡ Some r
     → receipt_at c r.caller r.number ≡ Some r.receipt
 
+-- each history is that of the service of that name, whole
+abbrev pub AreHistories : Named (List Line) → Contents → Type 0
+AreHistories histories c =
+    (name : List ℕ) (lines : List Line) → get histories name ≡ Some lines
+    → lines ≡ history_of c name
+
 -- what is kept is what the contents have
 pub record IsCacheOf (kept : Cache) (c : Contents) : Type 0 where
   pub counts : AreCounts kept.counts c
   pub services : AreServices kept.services c
   pub templates : AreTemplates kept.templates c
   pub receipts : AreReceipts kept.receipts c
+  pub histories : AreHistories kept.histories c
 
 -- nothing is kept
 pub record KeepsNothing (kept : Cache) : Type 0 where
@@ -48,6 +59,7 @@ pub record KeepsNothing (kept : Cache) : Type 0 where
   pub services : kept.services ≡ empty
   pub templates : kept.templates ≡ empty
   pub receipts : kept.receipts ≡ empty
+  pub histories : kept.histories ≡ empty
 
 -- without the template of which a change adds a revision
 abbrev pub without_revised : Named Template → DeskChange → Named Template
@@ -60,6 +72,17 @@ abbrev pub with_changed : Named ServiceParts → DeskChange → Named ServicePar
 with_changed services (Updates s effects) = insert services s.service.name s
 with_changed services Nothing = services
 with_changed services (AddsTemplate template) = services
+
+-- with the lines that effects tell at the end of the history under a name, if that is kept
+abbrev pub with_told : Named (List Line) → List ℕ → List Effect → Named (List Line)
+with_told histories name effects =
+    put_some histories name (option_map (λ lines. lines_after lines effects) (get histories name))
+
+-- with the lines that a change tells
+abbrev pub with_lines : Named (List Line) → DeskChange → Named (List Line)
+with_lines histories (Updates s effects) = with_told histories s.service.name effects
+with_lines histories Nothing = histories
+with_lines histories (AddsTemplate template) = histories
 
 -- what is kept of the service that a change names
 abbrev pub kept_of : Named ServiceParts → DeskChange → Option ServiceParts

@@ -1,5 +1,5 @@
 -- When a database is a desk's, and what it contains.
-use Rattle.std.specs.Prelude.{◌≡◌, false, List, ℕ, filter, Some}
+use Rattle.std.specs.Prelude.{◌≡◌, Bool, false, List, ℕ, filter, Some}
 use Rattle.sqlite.specs.Held.{Held, state}
 use Rattle.sqlite.specs.State.{State}
 use Rattle.sqlite_trees.specs.declared.store.Store.{Ghosts}
@@ -10,6 +10,7 @@ use Rattle.canary_plan.specs.Plans.{strategy_of}
 use Rattle.canary_tables_rows.specs.Tables.{is_service}
 use Rattle.canary_tables_schema.specs.Cells.{tables_in}
 use Rattle.canary_tables_schema.specs.Stores.{IsUsable, Stores}
+use Rattle.canary_tables_read.specs.Finds.{IsSame}
 use Rattle.canary_tables_contents.specs.Finding.{strategy_by}
 use Rattle.canary_tables_contents.specs.Reading.{contents_of, first_row, HoldsContents}
 use Rattle.canary_tables.specs.declared.notes.Notes.{Notes}
@@ -25,6 +26,16 @@ contents_in s = contents_of (tables_in s.now)
 pub record IsDesk (s : State) : Type 0 where
   pub stores : Stores s (tables_in s.now)
   pub holds : HoldsContents (tables_in s.now)
+
+-- a connection outside of a transaction, with a desk's database
+pub record HasDesk (in_transaction : Bool) (s : State) : Type 0 where
+  pub autocommit : in_transaction ≡ false
+  pub desk : IsUsable s → IsDesk s
+
+-- a look leaves the connection outside of a transaction, and its database as it was
+pub record Looks (in_transaction : Bool) (old new : State) : Type 0 where
+  pub mode : in_transaction ≡ false
+  pub same : IsSame old new
 
 -- the service of that name, by its row, has the strategy that was asked for so
 abbrev pub IsMadeBy : State → List ℕ → ServiceSpec → Type 0

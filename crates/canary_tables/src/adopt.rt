@@ -4,11 +4,11 @@ ghost use Rattle.sqlite.specs.Held.{state};
 ghost use Rattle.canary_tables_schema.specs.Formed.{IsDeskSchema, IsRising, IsFormed, HasRows};
 ghost use Rattle.canary_tables_schema.specs.Formed.{HasWholeTallies};
 ghost use Rattle.canary_tables_schema.specs.Stores.{IsUsable};
-ghost use Rattle.canary_tables_read.specs.Finds.{IsSame};
 ghost use Rattle.canary_tables.specs.Adopts.{HasDeskTables, HasSoundRowsWithin};
 ghost use Rattle.canary_tables.specs.Adopts.{IsBelieved, IsAdopted, TellsTables, LeavesRows};
 ghost use Rattle.canary_tables.specs.Adopts.{IsLeftBy, IsOutside};
 ghost use Rattle.canary_tables.specs.declared.fault.TableFault.TheVariants as fault;
+ghost use Rattle.canary_tables.specs.Desk.{Looks};
 
 use crate::book::{DEFAULT_ROOM, TableBook};
 use crate::cache::Cache;
@@ -33,8 +33,8 @@ fn has_rows<S: Alter>(conn: &mut Connection<S>, is_whole: bool) -> Result<(), Ta
         → IsRising (state S.Store conn.old).now }
     requires whole { IsUsable (state S.Store conn.old)
         → (IsTrue is_whole ↔ HasWholeTallies (state S.Store conn.old).now) }
-    ensures mode { conn.new.in_transaction ≡ false }
-    ensures same { IsSame (state S.Store conn.old) (state S.Store conn.new) }
+    ensures reads { Looks conn.new.in_transaction
+        (state S.Store conn.old) (state S.Store conn.new) }
     ensures formed { IsUsable (state S.Store conn.new)
         → OnOk result (IsFormed (state S.Store conn.old).now) }
     ensures rows { IsUsable (state S.Store conn.new)
@@ -71,8 +71,8 @@ fn validate_tables<S: Alter, G: JudgingProgress>(
         → IsRising (state S.Store conn.old).now }
     requires whole { IsUsable (state S.Store conn.old)
         → (IsTrue is_whole ↔ HasWholeTallies (state S.Store conn.old).now) }
-    ensures mode { conn.new.in_transaction ≡ false }
-    ensures same { IsSame (state S.Store conn.old) (state S.Store conn.new) }
+    ensures reads { Looks conn.new.in_transaction
+        (state S.Store conn.old) (state S.Store conn.new) }
     ensures believed { IsUsable (state S.Store conn.new)
         → OnOk result (IsBelieved (state S.Store conn.old).now) }
     ensures other { IsUsable (state S.Store conn.new) → result ≡ Err fault.OtherSchema

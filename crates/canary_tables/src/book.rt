@@ -103,9 +103,9 @@ impl<S: Alter> Book for TableBook<S> {
         cached::service(&mut self.conn, self.alloc, &mut self.cache, name).map_err(book_fault)
     }
 
-    // The history of the service, always from the tables.
+    // The history of the service, from the cache or else from the tables.
     fn history(&mut self, name: &Name) -> Result<Listed<Line>, BookFault> {
-        pages::history(&mut self.conn, self.alloc, name).map_err(book_fault)
+        cached::history(&mut self.conn, self.alloc, &mut self.cache, name).map_err(book_fault)
     }
 
     // The run of that number, always from the tables.

@@ -1,29 +1,37 @@
 //! What a book keeps of what it has read: how many requests of callers are settled, services,
-//! templates, and receipts.
+//! templates, receipts, and histories.
 ghost use Rattle.std.specs.Prelude.{◌≡◌, ◌+◌, true, None, Some, IfSome, option_copied};
 ghost use Rattle.std.specs.FinMap as map;
 ghost use Rattle.canary_once.specs.Contents.{Contents, put_some, receipt_at};
 ghost use Rattle.canary_tables.specs.CacheMaps.{IsWithin};
 ghost use Rattle.canary_tables.specs.Caches.{IsCacheOf, with_changed, kept_of, without_revised};
-ghost use Rattle.canary_tables.specs.Caches.{AreReceipts, KeepsNothing};
+ghost use Rattle.canary_tables.specs.Caches.{AreReceipts, with_lines, with_told, KeepsNothing};
 
 use crate::cache_map::CacheMap;
-use crate::weights::{BYTES_OF_COUNT, bytes_of_receipt, bytes_of_service, bytes_of_template};
+use crate::pages::lines_after;
+use crate::weights::{
+    BYTES_OF_COUNT, bytes_of_history, bytes_of_receipt, bytes_of_service, bytes_of_template,
+};
+use canary_base::lists::Listed;
 use canary_base::names::{MAX_BYTES, Name};
 use canary_base::numbers::Number;
 use canary_once::book::{Receipt, Settlement};
+use canary_plan::line::Line;
 use canary_plan::template::Template;
 use canary_release::decide::DeskChange;
+use canary_release::effect::Effect;
 use canary_release::service::Service;
 use std::alloc::Global;
 
-// Counts, templates and receipts each have one part in so many of the room, and services have the
-// rest.
+// Counts, templates, receipts and histories each have one part in so many of the room, and services
+// have the rest.
 const PARTS_OF_COUNTS: u64 = 4;
 
 const PARTS_OF_TEMPLATES: u64 = 8;
 
 const PARTS_OF_RECEIPTS: u64 = 8;
+
+const PARTS_OF_HISTORIES: u64 = 8;
 
 // The receipts of a caller have as many places as there are two letters of so many: 256. A repeat
 // comes soon, and what is kept stays small.
@@ -78,21 +86,25 @@ struct Parts {
     services: u64,
     templates: u64,
     receipts: u64,
+    histories: u64,
 }
 
 // The parts of a room, which they fill.
 fn parts_of(room: u64) -> Parts
-    ensures { result.counts + result.services + result.templates + result.receipts ≡ room }
+    ensures { result.counts + result.services + result.templates + result.receipts
+        + result.histories ≡ room }
 {
     let counts = room / PARTS_OF_COUNTS;
     let templates = room / PARTS_OF_TEMPLATES;
     let receipts = room / PARTS_OF_RECEIPTS;
-    let services = room - (counts + templates + receipts);
+    let histories = room / PARTS_OF_HISTORIES;
+    let services = room - (counts + templates + receipts + histories);
     Parts {
         counts,
         services,
         templates,
         receipts,
+        histories,
     }
 }
 
@@ -106,6 +118,8 @@ pub(crate) struct Cache {
     pub(crate) templates: CacheMap<Template>,
     /// Receipts, each in a place of its caller and number.
     receipts: CacheMap<NumberedReceipt>,
+    /// The histories of services, whole.
+    pub(crate) histories: CacheMap<Listed<Line>>,
     // The room for all of it, in bytes by estimate.
     room: u64,
 }
@@ -123,6 +137,7 @@ impl Cache {
             services: CacheMap::new(alloc, parts.services),
             templates: CacheMap::new(alloc, parts.templates),
             receipts: CacheMap::new(alloc, parts.receipts),
+            histories: CacheMap::new(alloc, parts.histories),
             room,
         }
     }
@@ -142,6 +157,7 @@ impl Cache {
         ensures services { self.new.services ≡ self.old.services }
         ensures templates { self.new.templates ≡ self.old.templates }
         ensures receipts { self.new.receipts ≡ self.old.receipts }
+        ensures histories { self.new.histories ≡ self.old.histories }
     {
         self.counts.put(caller, count, BYTES_OF_COUNT);
     }
@@ -155,6 +171,7 @@ impl Cache {
             (put_some self.old.services name (option_copied found.entry)) }
         ensures templates { self.new.templates ≡ self.old.templates }
         ensures receipts { self.new.receipts ≡ self.old.receipts }
+        ensures histories { self.new.histories ≡ self.old.histories }
     {
         let Some(service) = found else {
             return;
@@ -174,6 +191,7 @@ impl Cache {
         ensures templates { IsWithin self.new.templates
             (put_some self.old.templates name (option_copied found.entry)) }
         ensures receipts { self.new.receipts ≡ self.old.receipts }
+        ensures histories { self.new.histories ≡ self.old.histories }
     {
         let Some(template) = found else {
             return;
@@ -200,6 +218,7 @@ impl Cache {
         ensures services { self.new.services ≡ self.old.services }
         ensures templates { self.new.templates ≡ without_revised self.old.templates change.now }
         ensures receipts { self.new.receipts ≡ self.old.receipts }
+        ensures histories { self.new.histories ≡ self.old.histories }
     {
         if let DeskChange::Template(template) = change {
             let _ = self.templates.take(template.spec.name);
@@ -232,6 +251,7 @@ impl Cache {
         ensures receipts { (c : Contents) → AreReceipts self.old.receipts c
             → option_copied found.entry ≡ receipt_at c caller number
             → AreReceipts self.new.receipts c }
+        ensures histories { self.new.histories ≡ self.old.histories }
     {
         let Some(receipt) = found else {
             return;
@@ -253,6 +273,7 @@ impl Cache {
         ensures receipts { (c : Contents) → AreReceipts self.old.receipts c
             → receipt_at c receipt.caller receipt.number ≡ Some receipt.receipt
             → AreReceipts self.new.receipts c }
+        ensures histories { self.new.histories ≡ self.old.histories }
     {
         let place = place_of(&receipt.caller, receipt.number);
         let weight = bytes_of_receipt(&receipt.receipt);
@@ -260,7 +281,8 @@ impl Cache {
     }
 
     /// Keeps what a settled request left: how many requests of its caller are settled now, the
-    /// service that it changed, and its receipt. Each takes the place of what is kept there.
+    /// lines that it told, the service that it changed, and its receipt. Each takes the place of
+    /// what is kept there.
     pub(crate) fn keep(&mut self, settlement: Settlement)
         ensures counts { IsWithin self.new.counts
             (map.insert self.old.counts settlement.caller settlement.number) }
@@ -270,8 +292,11 @@ impl Cache {
         ensures receipts { (c : Contents) → AreReceipts self.old.receipts c
             → receipt_at c settlement.caller settlement.number ≡ Some settlement.receipt
             → AreReceipts self.new.receipts c }
+        ensures histories { IsWithin self.new.histories
+            (with_lines self.old.histories settlement.change) }
     {
         self.keep_count(settlement.caller, settlement.number.get());
+        self.keep_lines(&settlement.change);
         self.keep_changed(settlement.change);
         self.put_receipt(NumberedReceipt {
             caller: settlement.caller,
@@ -280,12 +305,63 @@ impl Cache {
         });
     }
 
+    /// Keeps a copy of the history of a service that was read, if there is memory for it. Nothing is
+    /// kept under its name yet.
+    pub(crate) fn keep_history(&mut self, alloc: Global, name: Name, history: &Listed<Line>)
+        requires { map.get self.old.histories name ≡ None }
+        ensures counts { self.new.counts ≡ self.old.counts }
+        ensures services { self.new.services ≡ self.old.services }
+        ensures templates { self.new.templates ≡ self.old.templates }
+        ensures receipts { self.new.receipts ≡ self.old.receipts }
+        ensures histories { IsWithin self.new.histories
+            (map.insert self.old.histories name history.now) }
+    {
+        if let Ok(copy) = history.copy(alloc) {
+            let weight = bytes_of_history(&copy);
+            self.histories.put(name, copy, weight);
+        }
+    }
+
+    // Adds the lines that the change tells to the history of its service, if that is kept.
+    fn keep_lines(&mut self, change: &DeskChange)
+        ensures counts { self.new.counts ≡ self.old.counts }
+        ensures services { self.new.services ≡ self.old.services }
+        ensures templates { self.new.templates ≡ self.old.templates }
+        ensures receipts { self.new.receipts ≡ self.old.receipts }
+        ensures histories { IsWithin self.new.histories
+            (with_lines self.old.histories change.now) }
+    {
+        if let DeskChange::Service { service, effects } = change {
+            self.add_lines(service.name(), effects.as_slice());
+        }
+    }
+
+    // Adds the lines that these effects tell to the history under that name, if it is kept. If there
+    // is no memory or no room for them, the history is forgotten.
+    fn add_lines(&mut self, name: Name, effects: &[Effect])
+        ensures counts { self.new.counts ≡ self.old.counts }
+        ensures services { self.new.services ≡ self.old.services }
+        ensures templates { self.new.templates ≡ self.old.templates }
+        ensures receipts { self.new.receipts ≡ self.old.receipts }
+        ensures histories { IsWithin self.new.histories
+            (with_told self.old.histories name effects.now) }
+    {
+        let Some(history) = self.histories.take(name) else {
+            return;
+        };
+        if let Ok(lines) = lines_after(history, effects) {
+            let weight = bytes_of_history(&lines);
+            self.histories.put(name, lines, weight);
+        }
+    }
+
     // Caches the service that the change leaves; nothing if it changes no service.
     fn keep_changed(&mut self, change: DeskChange)
         ensures counts { self.new.counts ≡ self.old.counts }
         ensures services { IsWithin self.new.services (with_changed self.old.services change) }
         ensures templates { self.new.templates ≡ self.old.templates }
         ensures receipts { self.new.receipts ≡ self.old.receipts }
+        ensures histories { self.new.histories ≡ self.old.histories }
     {
         if let DeskChange::Service { service, .. } = change {
             let weight = bytes_of_service(&service);

@@ -6,17 +6,19 @@ ghost use Rattle.canary_release.specs.Desks.{newest};
 ghost use Rattle.canary_release.specs.Stored.{stored_service};
 ghost use Rattle.canary_once.specs.Contents.{count_of, receipt_at, templates_named};
 ghost use Rattle.canary_once.specs.Contents.{IsSettling, with_settlement};
+ghost use Rattle.canary_once.specs.Records.{history_of};
 ghost use Rattle.canary_tables_schema.specs.Stores.{IsUsable};
-ghost use Rattle.canary_tables_read.specs.Finds.{IsSame};
-ghost use Rattle.canary_tables.specs.Desk.{IsDesk, contents_in};
+ghost use Rattle.canary_tables.specs.Desk.{HasDesk, Looks, IsDesk, contents_in};
 ghost use Rattle.canary_tables.specs.Caches.{IsCacheOf, KeepsNothing};
 
 use crate::cache::Cache;
 use crate::settle::settle;
-use crate::{load, load_plans, load_services};
+use crate::{load, load_plans, load_services, pages};
+use canary_base::lists::Listed;
 use canary_base::names::Name;
 use canary_base::numbers::Number;
 use canary_once::book::{Receipt, Settlement};
+use canary_plan::line::Line;
 use canary_plan::template::Template;
 use canary_plan::templates::Templates;
 use canary_release::laws as desk_laws;
@@ -36,12 +38,11 @@ pub(crate) fn count<S: Alter>(
     kept: &mut Cache,
     caller: &Name,
 ) -> Result<u32, StoreFault>
-    requires autocommit { conn.old.in_transaction ≡ false }
-    requires desk { IsUsable (state S.Store conn.old) → IsDesk (state S.Store conn.old) }
+    requires ready { HasDesk conn.old.in_transaction (state S.Store conn.old) }
     requires kept { IsUsable (state S.Store conn.old)
         → IsCacheOf kept.old (contents_in (state S.Store conn.old)) }
-    ensures mode { conn.new.in_transaction ≡ false }
-    ensures same { IsSame (state S.Store conn.old) (state S.Store conn.new) }
+    ensures reads { Looks conn.new.in_transaction
+        (state S.Store conn.old) (state S.Store conn.new) }
     ensures kept { IsUsable (state S.Store conn.new)
         → IsCacheOf kept.new (contents_in (state S.Store conn.new)) }
     ensures found { IsUsable (state S.Store conn.new) → IfOk result
@@ -67,12 +68,11 @@ pub(crate) fn receipt<S: Alter>(
     caller: &Name,
     number: Number,
 ) -> Result<Option<Receipt>, StoreFault>
-    requires autocommit { conn.old.in_transaction ≡ false }
-    requires desk { IsUsable (state S.Store conn.old) → IsDesk (state S.Store conn.old) }
+    requires ready { HasDesk conn.old.in_transaction (state S.Store conn.old) }
     requires kept { IsUsable (state S.Store conn.old)
         → IsCacheOf kept.old (contents_in (state S.Store conn.old)) }
-    ensures mode { conn.new.in_transaction ≡ false }
-    ensures same { IsSame (state S.Store conn.old) (state S.Store conn.new) }
+    ensures reads { Looks conn.new.in_transaction
+        (state S.Store conn.old) (state S.Store conn.new) }
     ensures kept { IsUsable (state S.Store conn.new)
         → IsCacheOf kept.new (contents_in (state S.Store conn.new)) }
     ensures found { IsUsable (state S.Store conn.new) → IfOk result (λ found.
@@ -105,12 +105,11 @@ pub(crate) fn service<S: Alter>(
     kept: &mut Cache,
     name: &Name,
 ) -> Result<Option<Service>, StoreFault>
-    requires autocommit { conn.old.in_transaction ≡ false }
-    requires desk { IsUsable (state S.Store conn.old) → IsDesk (state S.Store conn.old) }
+    requires ready { HasDesk conn.old.in_transaction (state S.Store conn.old) }
     requires kept { IsUsable (state S.Store conn.old)
         → IsCacheOf kept.old (contents_in (state S.Store conn.old)) }
-    ensures mode { conn.new.in_transaction ≡ false }
-    ensures same { IsSame (state S.Store conn.old) (state S.Store conn.new) }
+    ensures reads { Looks conn.new.in_transaction
+        (state S.Store conn.old) (state S.Store conn.new) }
     ensures kept { IsUsable (state S.Store conn.new)
         → IsCacheOf kept.new (contents_in (state S.Store conn.new)) }
     ensures found { IsUsable (state S.Store conn.new) → IfOk result (λ found.
@@ -126,6 +125,37 @@ pub(crate) fn service<S: Alter>(
     Ok(found)
 }
 
+/// The history of a service, oldest line first; none where there is no such service. If it is not
+/// kept yet, it is read from the tables, and a copy is kept if there is memory for one.
+///
+/// # Errors
+/// `Memory` if there is not enough, `Storage` if the database fails or holds what no desk writes.
+pub(crate) fn history<S: Alter>(
+    conn: &mut Connection<S>,
+    alloc: Global,
+    kept: &mut Cache,
+    name: &Name,
+) -> Result<Listed<Line>, StoreFault>
+    requires ready { HasDesk conn.old.in_transaction (state S.Store conn.old) }
+    requires kept { IsUsable (state S.Store conn.old)
+        → IsCacheOf kept.old (contents_in (state S.Store conn.old)) }
+    ensures reads { Looks conn.new.in_transaction
+        (state S.Store conn.old) (state S.Store conn.new) }
+    ensures kept { IsUsable (state S.Store conn.new)
+        → IsCacheOf kept.new (contents_in (state S.Store conn.new)) }
+    ensures found { IsUsable (state S.Store conn.new) → IfOk result
+        (λ lines. lines ≡ history_of (contents_in (state S.Store conn.old)) name.now) }
+    ensures storage { result ≡ Err StoreFault.Storage
+        → map.get kept.old.histories name.now ≡ None }
+{
+    if let Some(history) = kept.histories.get(*name) {
+        return Ok(history.copy(alloc)?);
+    }
+    let found = pages::history(conn, alloc, name)?;
+    kept.keep_history(alloc, *name, &found);
+    Ok(found)
+}
+
 // The newest revision of the template of that name, if there is one. If it is not kept yet, it is
 // read from the tables, and a copy is kept if there is memory for one.
 fn template<S: Alter>(
@@ -134,12 +164,11 @@ fn template<S: Alter>(
     kept: &mut Cache,
     name: &Name,
 ) -> Result<Option<Template>, StoreFault>
-    requires autocommit { conn.old.in_transaction ≡ false }
-    requires desk { IsUsable (state S.Store conn.old) → IsDesk (state S.Store conn.old) }
+    requires ready { HasDesk conn.old.in_transaction (state S.Store conn.old) }
     requires kept { IsUsable (state S.Store conn.old)
         → IsCacheOf kept.old (contents_in (state S.Store conn.old)) }
-    ensures mode { conn.new.in_transaction ≡ false }
-    ensures same { IsSame (state S.Store conn.old) (state S.Store conn.new) }
+    ensures reads { Looks conn.new.in_transaction
+        (state S.Store conn.old) (state S.Store conn.new) }
     ensures kept { IsUsable (state S.Store conn.new)
         → IsCacheOf kept.new (contents_in (state S.Store conn.new)) }
     ensures found { IsUsable (state S.Store conn.new) → IfOk result (λ found.
@@ -166,12 +195,11 @@ pub(crate) fn templates<S: Alter>(
     kept: &mut Cache,
     names: &[Name],
 ) -> Result<Templates, StoreFault>
-    requires autocommit { conn.old.in_transaction ≡ false }
-    requires desk { IsUsable (state S.Store conn.old) → IsDesk (state S.Store conn.old) }
+    requires ready { HasDesk conn.old.in_transaction (state S.Store conn.old) }
     requires kept { IsUsable (state S.Store conn.old)
         → IsCacheOf kept.old (contents_in (state S.Store conn.old)) }
-    ensures mode { conn.new.in_transaction ≡ false }
-    ensures same { IsSame (state S.Store conn.old) (state S.Store conn.new) }
+    ensures reads { Looks conn.new.in_transaction
+        (state S.Store conn.old) (state S.Store conn.new) }
     ensures kept { IsUsable (state S.Store conn.new)
         → IsCacheOf kept.new (contents_in (state S.Store conn.new)) }
     ensures found { IsUsable (state S.Store conn.new) → IfOk result (λ found.
@@ -187,8 +215,8 @@ pub(crate) fn templates<S: Alter>(
 }
 
 /// Settles a request, with all that it changes, or does nothing. Once it is settled, what is kept
-/// of its caller and of the service that it changes is replaced. A template of which it adds a
-/// revision is forgotten first.
+/// of its caller and of the service that it changes is replaced, and the lines that it tells are
+/// added to the history that is kept. A template of which it adds a revision is forgotten first.
 ///
 /// # Errors
 /// `Memory` if an allocation was refused, `Storage` if the store failed; nothing changed in the
@@ -199,8 +227,7 @@ pub(crate) fn commit<S: Alter>(
     kept: &mut Cache,
     settlement: Settlement,
 ) -> Result<(), StoreFault>
-    requires autocommit { conn.old.in_transaction ≡ false }
-    requires desk { IsUsable (state S.Store conn.old) → IsDesk (state S.Store conn.old) }
+    requires ready { HasDesk conn.old.in_transaction (state S.Store conn.old) }
     requires kept { IsUsable (state S.Store conn.old)
         → IsCacheOf kept.old (contents_in (state S.Store conn.old)) }
     requires settling { IsUsable (state S.Store conn.old)

@@ -3,9 +3,8 @@ ghost use Rattle.std.specs.Prelude.{◌≡◌, false, Some, None, Err, option_ma
 ghost use Rattle.sqlite.specs.Held.{state};
 ghost use Rattle.canary_once.specs.Contents.{count_of, receipt_at};
 ghost use Rattle.canary_tables_schema.specs.Stores.{IsUsable};
-ghost use Rattle.canary_tables_read.specs.Finds.{IsSame};
 ghost use Rattle.canary_tables_contents.specs.Values.{receipt_of_row};
-ghost use Rattle.canary_tables.specs.Desk.{IsDesk, contents_in};
+ghost use Rattle.canary_tables.specs.Desk.{HasDesk, Looks, contents_in};
 ghost use Rattle.canary_tables.specs.Faults.{fault_of_row};
 
 use canary_base::names::Name;
@@ -36,10 +35,9 @@ pub(crate) fn store_fault(fault: RowFault) -> StoreFault
 /// `Memory` where an allocation was refused, `Storage` where the database fails or holds what no
 /// desk writes.
 pub(crate) fn count<S: Alter>(conn: &mut Connection<S>, caller: &Name) -> Result<u32, StoreFault>
-    requires autocommit { conn.old.in_transaction ≡ false }
-    requires desk { IsUsable (state S.Store conn.old) → IsDesk (state S.Store conn.old) }
-    ensures mode { conn.new.in_transaction ≡ false }
-    ensures same { IsSame (state S.Store conn.old) (state S.Store conn.new) }
+    requires ready { HasDesk conn.old.in_transaction (state S.Store conn.old) }
+    ensures reads { Looks conn.new.in_transaction
+        (state S.Store conn.old) (state S.Store conn.new) }
     ensures found { IsUsable (state S.Store conn.new) → IfOk result
         (λ count. count ≡ count_of (contents_in (state S.Store conn.old)) caller.now) }
 {
@@ -59,10 +57,9 @@ pub(crate) fn receipt<S: Alter>(
     caller: &Name,
     number: Number,
 ) -> Result<Option<Receipt>, StoreFault>
-    requires autocommit { conn.old.in_transaction ≡ false }
-    requires desk { IsUsable (state S.Store conn.old) → IsDesk (state S.Store conn.old) }
-    ensures mode { conn.new.in_transaction ≡ false }
-    ensures same { IsSame (state S.Store conn.old) (state S.Store conn.new) }
+    requires ready { HasDesk conn.old.in_transaction (state S.Store conn.old) }
+    ensures reads { Looks conn.new.in_transaction
+        (state S.Store conn.old) (state S.Store conn.new) }
     ensures found { IsUsable (state S.Store conn.new) → IfOk result
         (λ found. found ≡ receipt_at (contents_in (state S.Store conn.old)) caller.now number) }
 {

@@ -14,9 +14,10 @@ ghost use Rattle.canary_tables_contents.specs.Values.{revision_of_row, made_from
 ghost use Rattle.canary_tables_contents.specs.Reading.{known_in};
 ghost use Rattle.canary_tables_contents.specs.declared.fault.RowFault.TheVariants.{Broken};
 ghost use Rattle.canary_tables_contents.specs.Reads.{IsRevisionRead};
-ghost use Rattle.canary_tables_read.specs.Finds.{IsSame};
-ghost use Rattle.canary_tables.specs.Desk.{IsDesk, contents_in};
+ghost use Rattle.canary_tables.specs.Desk.{HasDesk, Looks, contents_in};
 
+use crate::cache::Cache;
+use crate::cached;
 use crate::load::store_fault;
 use canary_base::error::Memory;
 use canary_base::lists::Listed;
@@ -46,10 +47,9 @@ pub(crate) fn template<S: Alter>(
     alloc: Global,
     name: &Name,
 ) -> Result<Option<Template>, StoreFault>
-    requires autocommit { conn.old.in_transaction ≡ false }
-    requires desk { IsUsable (state S.Store conn.old) → IsDesk (state S.Store conn.old) }
-    ensures mode { conn.new.in_transaction ≡ false }
-    ensures same { IsSame (state S.Store conn.old) (state S.Store conn.new) }
+    requires ready { HasDesk conn.old.in_transaction (state S.Store conn.old) }
+    ensures reads { Looks conn.new.in_transaction
+        (state S.Store conn.old) (state S.Store conn.new) }
     ensures found { IsUsable (state S.Store conn.new) → IfOk result (λ found.
         found ≡ newest (contents_in (state S.Store conn.old)).desk.templates name.now) }
 {
@@ -72,30 +72,20 @@ fn revision(alloc: Global, row: &RevisionRow) -> Result<Template, StoreFault>
     }
 }
 
-/// The newest revisions of the templates that have one of these names.
-///
-/// # Errors
-/// `Memory` where there is not enough, `Storage` where the database fails or holds what no desk
-/// writes.
-pub(crate) fn templates<S: Alter>(
+// The newest revisions of the templates that have one of these names, with nothing in a cache.
+fn templates<S: Alter>(
     conn: &mut Connection<S>,
     alloc: Global,
     names: &[Name],
 ) -> Result<Templates, StoreFault>
-    requires autocommit { conn.old.in_transaction ≡ false }
-    requires desk { IsUsable (state S.Store conn.old) → IsDesk (state S.Store conn.old) }
-    ensures mode { conn.new.in_transaction ≡ false }
-    ensures same { IsSame (state S.Store conn.old) (state S.Store conn.new) }
+    requires ready { HasDesk conn.old.in_transaction (state S.Store conn.old) }
+    ensures reads { Looks conn.new.in_transaction
+        (state S.Store conn.old) (state S.Store conn.new) }
     ensures found { IsUsable (state S.Store conn.new) → IfOk result (λ found.
         found ≡ templates_named (contents_in (state S.Store conn.old)) names.now) }
 {
-    let mut found = Templates::new(alloc);
-    for name in names {
-        if let Some(template) = template(conn, alloc, name)? {
-            found.insert(*name, template)?;
-        }
-    }
-    Ok(found)
+    let mut nothing = Cache::new(alloc, 0);
+    cached::templates(conn, alloc, &mut nothing, names)
 }
 
 /// The service that this text makes, as it was asked for.
@@ -153,10 +143,9 @@ fn strategy<S: Alter>(
     alloc: Global,
     made: &ServiceSpec,
 ) -> Result<Strategy, StoreFault>
-    requires autocommit { conn.old.in_transaction ≡ false }
-    requires desk { IsUsable (state S.Store conn.old) → IsDesk (state S.Store conn.old) }
-    ensures mode { conn.new.in_transaction ≡ false }
-    ensures same { IsSame (state S.Store conn.old) (state S.Store conn.new) }
+    requires ready { HasDesk conn.old.in_transaction (state S.Store conn.old) }
+    ensures reads { Looks conn.new.in_transaction
+        (state S.Store conn.old) (state S.Store conn.new) }
     ensures found { IfOk result (λ strategy. strategy ≡ strategy_of made.now) }
 {
     let names = names_of(alloc, made)?;
@@ -171,10 +160,9 @@ fn strategy_by<S: Alter>(
     made: &ServiceSpec,
     bound_templates: &Templates,
 ) -> Result<Strategy, StoreFault>
-    requires autocommit { conn.old.in_transaction ≡ false }
-    requires desk { IsUsable (state S.Store conn.old) → IsDesk (state S.Store conn.old) }
-    ensures mode { conn.new.in_transaction ≡ false }
-    ensures same { IsSame (state S.Store conn.old) (state S.Store conn.new) }
+    requires ready { HasDesk conn.old.in_transaction (state S.Store conn.old) }
+    ensures reads { Looks conn.new.in_transaction
+        (state S.Store conn.old) (state S.Store conn.new) }
     ensures found { IfOk result (λ strategy. strategy ≡ strategy_of made.now) }
 {
     match checked(alloc, made, bound_templates)? {
@@ -190,10 +178,9 @@ fn bound_templates<S: Alter>(
     name: &Name,
     run: u32,
 ) -> Result<Templates, StoreFault>
-    requires autocommit { conn.old.in_transaction ≡ false }
-    requires desk { IsUsable (state S.Store conn.old) → IsDesk (state S.Store conn.old) }
-    ensures mode { conn.new.in_transaction ≡ false }
-    ensures same { IsSame (state S.Store conn.old) (state S.Store conn.new) }
+    requires ready { HasDesk conn.old.in_transaction (state S.Store conn.old) }
+    ensures reads { Looks conn.new.in_transaction
+        (state S.Store conn.old) (state S.Store conn.new) }
     ensures found { IsUsable (state S.Store conn.new) → IfOk result (λ bound_templates.
         get bound_templates ≡ known_in (tables_in (state S.Store conn.old).now) name.now run) }
 {
@@ -216,10 +203,9 @@ pub(crate) fn plan<S: Alter>(
     name: &Name,
     run: u32,
 ) -> Result<(Strategy, Bound), StoreFault>
-    requires autocommit { conn.old.in_transaction ≡ false }
-    requires desk { IsUsable (state S.Store conn.old) → IsDesk (state S.Store conn.old) }
-    ensures mode { conn.new.in_transaction ≡ false }
-    ensures same { IsSame (state S.Store conn.old) (state S.Store conn.new) }
+    requires ready { HasDesk conn.old.in_transaction (state S.Store conn.old) }
+    ensures reads { Looks conn.new.in_transaction
+        (state S.Store conn.old) (state S.Store conn.new) }
     ensures strategy { IfOk result (λ found. found.0 ≡ strategy_of made.now) }
     ensures bound { IsUsable (state S.Store conn.new) → IfOk result (λ found. found.1
         ≡ bound_of (known_in (tables_in (state S.Store conn.old).now) name.now run)

@@ -9,8 +9,7 @@ ghost use Rattle.canary_tables_schema.specs.Stores.{IsUsable};
 ghost use Rattle.canary_tables_contents.specs.Reading.{known_in};
 ghost use Rattle.canary_tables_contents.specs.Finding.{tallies_of, record_of_row};
 ghost use Rattle.canary_tables_contents.specs.Finding.{open_run_of, open_runs_by};
-ghost use Rattle.canary_tables_read.specs.Finds.{IsSame};
-ghost use Rattle.canary_tables.specs.Desk.{IsDesk, IsMadeBy, contents_in};
+ghost use Rattle.canary_tables.specs.Desk.{HasDesk, Looks, IsMadeBy, contents_in};
 
 use crate::load::store_fault;
 use crate::load_plans::{made, plan};
@@ -42,10 +41,9 @@ pub(crate) fn tallies<S: Alter>(
     name: &Name,
     number: u32,
 ) -> Result<Listed<Tally>, StoreFault>
-    requires autocommit { conn.old.in_transaction ≡ false }
-    requires desk { IsUsable (state S.Store conn.old) → IsDesk (state S.Store conn.old) }
-    ensures mode { conn.new.in_transaction ≡ false }
-    ensures same { IsSame (state S.Store conn.old) (state S.Store conn.new) }
+    requires ready { HasDesk conn.old.in_transaction (state S.Store conn.old) }
+    ensures reads { Looks conn.new.in_transaction
+        (state S.Store conn.old) (state S.Store conn.new) }
     ensures found { IsUsable (state S.Store conn.new) → IfOk result (λ found.
         found ≡ tallies_of (contents_in (state S.Store conn.old)) name.now number) }
 {
@@ -77,10 +75,9 @@ pub(crate) fn run<S: Alter>(
     name: &Name,
     number: Number,
 ) -> Result<Option<RunRecord>, StoreFault>
-    requires autocommit { conn.old.in_transaction ≡ false }
-    requires desk { IsUsable (state S.Store conn.old) → IsDesk (state S.Store conn.old) }
-    ensures mode { conn.new.in_transaction ≡ false }
-    ensures same { IsSame (state S.Store conn.old) (state S.Store conn.new) }
+    requires ready { HasDesk conn.old.in_transaction (state S.Store conn.old) }
+    ensures reads { Looks conn.new.in_transaction
+        (state S.Store conn.old) (state S.Store conn.new) }
     ensures found { IsUsable (state S.Store conn.new) → IfOk result (λ found.
         found ≡ run_of (contents_in (state S.Store conn.old)) name.now number) }
 {
@@ -100,10 +97,9 @@ fn run_of<S: Alter>(
     name: &Name,
     number: u32,
 ) -> Result<Option<RunRecord>, StoreFault>
-    requires autocommit { conn.old.in_transaction ≡ false }
-    requires desk { IsUsable (state S.Store conn.old) → IsDesk (state S.Store conn.old) }
-    ensures mode { conn.new.in_transaction ≡ false }
-    ensures same { IsSame (state S.Store conn.old) (state S.Store conn.new) }
+    requires ready { HasDesk conn.old.in_transaction (state S.Store conn.old) }
+    ensures reads { Looks conn.new.in_transaction
+        (state S.Store conn.old) (state S.Store conn.new) }
     ensures found { IsUsable (state S.Store conn.new)
         → IsMadeBy (state S.Store conn.old) name.now made.now → IfOk result (λ found.
         found ≡ run_of (contents_in (state S.Store conn.old)) name.now number) }
@@ -124,10 +120,9 @@ fn bound_at<S: Alter>(
     made: &ServiceSpec,
     row: &RunRow,
 ) -> Result<Bound, StoreFault>
-    requires autocommit { conn.old.in_transaction ≡ false }
-    requires desk { IsUsable (state S.Store conn.old) → IsDesk (state S.Store conn.old) }
-    ensures mode { conn.new.in_transaction ≡ false }
-    ensures same { IsSame (state S.Store conn.old) (state S.Store conn.new) }
+    requires ready { HasDesk conn.old.in_transaction (state S.Store conn.old) }
+    ensures reads { Looks conn.new.in_transaction
+        (state S.Store conn.old) (state S.Store conn.new) }
     ensures found { IsUsable (state S.Store conn.new) → IfOk result (λ bound. bound
         ≡ bound_of
         (known_in (tables_in (state S.Store conn.old).now) row.now.service row.now.number)
@@ -173,10 +168,9 @@ pub(crate) fn open_runs<S: Alter>(
     name: &Name,
     bound: &Bound,
 ) -> Result<Listed<OpenRun>, StoreFault>
-    requires autocommit { conn.old.in_transaction ≡ false }
-    requires desk { IsUsable (state S.Store conn.old) → IsDesk (state S.Store conn.old) }
-    ensures mode { conn.new.in_transaction ≡ false }
-    ensures same { IsSame (state S.Store conn.old) (state S.Store conn.new) }
+    requires ready { HasDesk conn.old.in_transaction (state S.Store conn.old) }
+    ensures reads { Looks conn.new.in_transaction
+        (state S.Store conn.old) (state S.Store conn.new) }
     ensures found { IsUsable (state S.Store conn.new) → IfOk result (λ found.
         found ≡ open_runs_by (contents_in (state S.Store conn.old)) name.now bound.now) }
 {
@@ -193,10 +187,9 @@ fn with_tallies<S: Alter>(
     bound: &Bound,
     rows: &[RunRow],
 ) -> Result<Listed<OpenRun>, StoreFault>
-    requires autocommit { conn.old.in_transaction ≡ false }
-    requires desk { IsUsable (state S.Store conn.old) → IsDesk (state S.Store conn.old) }
-    ensures mode { conn.new.in_transaction ≡ false }
-    ensures same { IsSame (state S.Store conn.old) (state S.Store conn.new) }
+    requires ready { HasDesk conn.old.in_transaction (state S.Store conn.old) }
+    ensures reads { Looks conn.new.in_transaction
+        (state S.Store conn.old) (state S.Store conn.new) }
     ensures found { IsUsable (state S.Store conn.new) → IfOk result (λ found.
         found ≡ map (open_run_of bound.now (contents_in (state S.Store conn.old)) name.now)
         rows.now) }
@@ -216,10 +209,9 @@ fn open_run<S: Alter>(
     bound: &Bound,
     row: &RunRow,
 ) -> Result<OpenRun, StoreFault>
-    requires autocommit { conn.old.in_transaction ≡ false }
-    requires desk { IsUsable (state S.Store conn.old) → IsDesk (state S.Store conn.old) }
-    ensures mode { conn.new.in_transaction ≡ false }
-    ensures same { IsSame (state S.Store conn.old) (state S.Store conn.new) }
+    requires ready { HasDesk conn.old.in_transaction (state S.Store conn.old) }
+    ensures reads { Looks conn.new.in_transaction
+        (state S.Store conn.old) (state S.Store conn.new) }
     ensures found { IsUsable (state S.Store conn.new) → IfOk result (λ found.
         found ≡ open_run_of bound.now (contents_in (state S.Store conn.old)) name.now
         row.now) }

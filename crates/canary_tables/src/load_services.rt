@@ -7,8 +7,7 @@ ghost use Rattle.canary_release.specs.Stored.{stored_service};
 ghost use Rattle.canary_tables_schema.specs.Stores.{IsUsable};
 ghost use Rattle.canary_tables_contents.specs.Values.{stand_of};
 ghost use Rattle.canary_tables_contents.specs.Finding.{parts_standing};
-ghost use Rattle.canary_tables_read.specs.Finds.{IsSame};
-ghost use Rattle.canary_tables.specs.Desk.{IsDesk, contents_in};
+ghost use Rattle.canary_tables.specs.Desk.{HasDesk, Looks, contents_in};
 
 use crate::load::store_fault;
 use crate::load_plans::{made, plan};
@@ -36,10 +35,9 @@ pub(crate) fn service<S: Alter>(
     alloc: Global,
     name: &Name,
 ) -> Result<Option<Service>, StoreFault>
-    requires autocommit { conn.old.in_transaction ≡ false }
-    requires desk { IsUsable (state S.Store conn.old) → IsDesk (state S.Store conn.old) }
-    ensures mode { conn.new.in_transaction ≡ false }
-    ensures same { IsSame (state S.Store conn.old) (state S.Store conn.new) }
+    requires ready { HasDesk conn.old.in_transaction (state S.Store conn.old) }
+    ensures reads { Looks conn.new.in_transaction
+        (state S.Store conn.old) (state S.Store conn.new) }
     ensures found { IsUsable (state S.Store conn.new) → IfOk result (λ found.
         found ≡ stored_service (contents_in (state S.Store conn.old)).desk name.now) }
 {

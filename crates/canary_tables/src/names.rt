@@ -4,7 +4,7 @@ ghost use Rattle.sqlite.specs.Held.{state};
 ghost use Rattle.canary_tables_read.specs.Finds.{IsSame};
 ghost use Rattle.canary_tables_schema.specs.Cells.{tables_in};
 ghost use Rattle.canary_tables_schema.specs.Stores.{IsUsable};
-ghost use Rattle.canary_tables.specs.Desk.{IsDesk};
+ghost use Rattle.canary_tables.specs.Desk.{HasDesk, Looks};
 
 use crate::book::{TableBook, book_fault};
 use canary_base::lists::Listed;
@@ -31,10 +31,9 @@ impl<S: Alter> TableBook<S> {
 
 // The names of all services, by a contract of the connection that a book has.
 fn names<S: Alter>(conn: &mut Connection<S>, alloc: Global) -> Result<Listed<Name>, StoreFault>
-    requires autocommit { conn.old.in_transaction ≡ false }
-    requires desk { IsUsable (state S.Store conn.old) → IsDesk (state S.Store conn.old) }
-    ensures mode { conn.new.in_transaction ≡ false }
-    ensures same { IsSame (state S.Store conn.old) (state S.Store conn.new) }
+    requires ready { HasDesk conn.old.in_transaction (state S.Store conn.old) }
+    ensures reads { Looks conn.new.in_transaction
+        (state S.Store conn.old) (state S.Store conn.new) }
     ensures found { IsUsable (state S.Store conn.new) → IfOk result (λ names.
         names ≡ map (λ row. row.name) (tables_in (state S.Store conn.old).now).services) }
 {

@@ -6,12 +6,12 @@ ghost use Rattle.canary_plan.specs.declared.line.Line.{Line};
 ghost use Rattle.canary_plan.specs.Lines.{line_at};
 ghost use Rattle.canary_release.specs.declared.effect.Recorded.{Recorded};
 ghost use Rattle.canary_once.specs.Records.{history_of, measurements_of};
+ghost use Rattle.canary_once.specs.Showing.{lines_then, lines_after};
 ghost use Rattle.canary_tables_schema.specs.Stores.{IsUsable};
-ghost use Rattle.canary_tables_read.specs.Finds.{IsSame};
 ghost use Rattle.canary_tables_read.specs.Places.{IsMark, IsPlacedPage, row_of};
 ghost use Rattle.canary_tables_rows.specs.Tables.{Tables};
 ghost use Rattle.canary_tables_contents.specs.Values.{line_of_row, measurement_of_row};
-ghost use Rattle.canary_tables.specs.Desk.{IsDesk, contents_in};
+ghost use Rattle.canary_tables.specs.Desk.{HasDesk, Looks, contents_in};
 ghost use Rattle.canary_tables.specs.Notes.{IsMarked};
 
 use crate::load::store_fault;
@@ -21,7 +21,7 @@ use canary_base::lists::Listed;
 use canary_base::moments::Moment;
 use canary_base::names::Name;
 use canary_plan::line::{Line, LineEvent};
-use canary_release::effect::Recorded;
+use canary_release::effect::{Effect, Recorded};
 use canary_tables_contents::{laws, reading};
 use canary_tables_read::after::{self, MeasurementAt};
 use canary_tables_read::histories;
@@ -40,10 +40,9 @@ pub(crate) fn history<S: Alter>(
     alloc: Global,
     name: &Name,
 ) -> Result<Listed<Line>, StoreFault>
-    requires autocommit { conn.old.in_transaction ≡ false }
-    requires desk { IsUsable (state S.Store conn.old) → IsDesk (state S.Store conn.old) }
-    ensures mode { conn.new.in_transaction ≡ false }
-    ensures same { IsSame (state S.Store conn.old) (state S.Store conn.new) }
+    requires ready { HasDesk conn.old.in_transaction (state S.Store conn.old) }
+    ensures reads { Looks conn.new.in_transaction
+        (state S.Store conn.old) (state S.Store conn.new) }
     ensures found { IsUsable (state S.Store conn.new) → IfOk result
         (λ lines. lines ≡ history_of (contents_in (state S.Store conn.old)) name.now) }
 {
@@ -86,6 +85,40 @@ fn push_line(lines: Listed<Line>, moment: Moment, event: LineEvent) -> Result<Li
     Ok(lines)
 }
 
+/// A history with the lines that these effects tell at its end.
+///
+/// # Errors
+/// `Memory` where there is not enough for them.
+pub(crate) fn lines_after(history: Listed<Line>, effects: &[Effect]) -> Result<Listed<Line>, Memory>
+    ensures { IfOk result (λ lines. lines ≡ lines_after history effects.now) }
+{
+    let mut lines = history;
+    for effect in effects {
+        lines = lines_then(lines, effect)?;
+    }
+    Ok(lines)
+}
+
+// The lines after one effect, which adds a line at the end or leaves them as they are.
+fn lines_then(lines: Listed<Line>, effect: &Effect) -> Result<Listed<Line>, Memory>
+    ensures { IfOk result (λ more. more ≡ lines_then lines effect.now) }
+{
+    match effect {
+        Effect::LineAdded(line) => with_copy(lines, line),
+        Effect::RunOpened(_) => Ok(lines),
+        Effect::MeasurementRecorded(_) => Ok(lines),
+        Effect::RunClosed { .. } => Ok(lines),
+    }
+}
+
+// The lines with a copy of this one at the end, or `Memory`.
+fn with_copy(lines: Listed<Line>, line: &Line) -> Result<Listed<Line>, Memory>
+    ensures { IfOk result (λ more. more ≡ lines ++ line.now ∷ []) }
+{
+    let Line { moment, event } = *line;
+    push_line(lines, moment, event)
+}
+
 /// A page of a service's measurements, and how far they are read by it; no mark where it is empty.
 #[derive(Drop)]
 pub(crate) struct Page {
@@ -109,12 +142,11 @@ pub(crate) fn measurements<S: Alter>(
     noted: Option<i64>,
     most: u32,
 ) -> Result<Page, StoreFault>
-    requires autocommit { conn.old.in_transaction ≡ false }
-    requires desk { IsUsable (state S.Store conn.old) → IsDesk (state S.Store conn.old) }
+    requires ready { HasDesk conn.old.in_transaction (state S.Store conn.old) }
     requires noted { IsUsable (state S.Store conn.old)
         → IfSome noted (IsMark (state S.Store conn.old).now name.now from) }
-    ensures mode { conn.new.in_transaction ≡ false }
-    ensures same { IsSame (state S.Store conn.old) (state S.Store conn.new) }
+    ensures reads { Looks conn.new.in_transaction
+        (state S.Store conn.old) (state S.Store conn.new) }
     ensures found { IsUsable (state S.Store conn.new) → IfOk result (λ page. page.recorded
         ≡ measurements_of (contents_in (state S.Store conn.old)) name.now from most) }
     ensures mark { IsUsable (state S.Store conn.new)

@@ -4,13 +4,13 @@ ghost use Rattle.std.specs.Prelude.{option_copied, length, ◌==◌};
 ghost use Rattle.sqlite.specs.Held.{state};
 ghost use Rattle.canary_once.specs.Contents.{IsSettling, with_settlement};
 ghost use Rattle.canary_tables_rows.specs.Tables.{Tables};
-ghost use Rattle.canary_tables_read.specs.Finds.{IsSame, FindsSuch};
+ghost use Rattle.canary_tables_read.specs.Finds.{FindsSuch};
 ghost use Rattle.canary_tables_schema.specs.Stores.{IsUsable};
-ghost use Rattle.canary_tables.specs.Desk.{IsDesk, contents_in};
+ghost use Rattle.canary_tables.specs.Desk.{HasDesk, Looks, IsDesk, contents_in};
 ghost use Rattle.canary_plan.specs.Plans.{all_revisions};
-ghost use Rattle.canary_tables_contents.specs.Settling.{begins, has_service, has_bindings};
+ghost use Rattle.canary_tables_contents.specs.Settling.{begins, has_bindings};
 ghost use Rattle.canary_tables.specs.Caches.{IsKnown, IsKnownAs};
-ghost use Rattle.canary_tables_write.specs.Commits.{IsThereSaid, IsBoundSaid};
+ghost use Rattle.canary_tables_write.specs.Commits.{IsBoundSaid};
 
 use canary_base::error::Memory;
 use canary_base::names::Name;
@@ -20,56 +20,13 @@ use canary_plan::bound::Bound;
 use canary_release::decide::DeskChange;
 use canary_release::service::Service;
 use canary_tables_contents::laws;
-use canary_tables_read::services::{has_bindings, has_service};
+use canary_tables_read::services::has_bindings;
 use canary_tables_schema::fault::StoreFault;
 use canary_tables_schema::laws as schema_laws;
-use canary_tables_write::begins::begins;
 use canary_tables_write::commit::commit;
+use canary_tables_write::kinds::begins;
 use sqlite::{Alter, Connection};
 use std::alloc::Global;
-
-// Whether the service of that name is there. One that is known is.
-fn has_row<S: Alter>(
-    conn: &mut Connection<S>,
-    name: &Name,
-    cached: Option<&Service>,
-) -> Result<bool, StoreFault>
-    requires autocommit { conn.old.in_transaction ≡ false }
-    requires desk { IsUsable (state S.Store conn.old) → IsDesk (state S.Store conn.old) }
-    requires cached { IsUsable (state S.Store conn.old) → IsKnownAs (option_copied cached)
-        name.now (contents_in (state S.Store conn.old)) }
-    ensures mode { conn.new.in_transaction ≡ false }
-    ensures same { IsSame (state S.Store conn.old) (state S.Store conn.new) }
-    ensures found { FindsSuch (λ t has. has ≡ has_service name.now t)
-        (state S.Store conn.old) (state S.Store conn.new) result }
-{
-    schema_laws::one_reading();
-    match cached {
-        Some(_) => Ok(true),
-        None => Ok(has_service(conn, name)?),
-    }
-}
-
-// Whether the service that the change names is there.
-fn is_there<S: Alter>(
-    conn: &mut Connection<S>,
-    change: &DeskChange,
-    cached: Option<&Service>,
-) -> Result<bool, StoreFault>
-    requires autocommit { conn.old.in_transaction ≡ false }
-    requires desk { IsUsable (state S.Store conn.old) → IsDesk (state S.Store conn.old) }
-    requires cached { IsUsable (state S.Store conn.old) → IsKnown (option_copied cached)
-        change.now (contents_in (state S.Store conn.old)) }
-    ensures mode { conn.new.in_transaction ≡ false }
-    ensures same { IsSame (state S.Store conn.old) (state S.Store conn.new) }
-    ensures found { FindsSuch (λ t is_there. IsThereSaid is_there change.now t)
-        (state S.Store conn.old) (state S.Store conn.new) result }
-{
-    match change {
-        DeskChange::Service { service, .. } => has_row(conn, &service.name(), cached),
-        _ => Ok(false),
-    }
-}
 
 // Whether the present attempt of the service of that name is bound. What is known of the service
 // says so.
@@ -79,12 +36,11 @@ fn has_rows<S: Alter>(
     name: &Name,
     cached: Option<&Service>,
 ) -> Result<bool, StoreFault>
-    requires autocommit { conn.old.in_transaction ≡ false }
-    requires desk { IsUsable (state S.Store conn.old) → IsDesk (state S.Store conn.old) }
+    requires ready { HasDesk conn.old.in_transaction (state S.Store conn.old) }
     requires cached { IsUsable (state S.Store conn.old) → IsKnownAs (option_copied cached)
         name.now (contents_in (state S.Store conn.old)) }
-    ensures mode { conn.new.in_transaction ≡ false }
-    ensures same { IsSame (state S.Store conn.old) (state S.Store conn.new) }
+    ensures reads { Looks conn.new.in_transaction
+        (state S.Store conn.old) (state S.Store conn.new) }
     ensures found { FindsSuch (λ t has. has ≡ has_bindings name.now t)
         (state S.Store conn.old) (state S.Store conn.new) result }
 {
@@ -111,12 +67,11 @@ fn has_attempt<S: Alter>(
     name: &Name,
     cached: Option<&Service>,
 ) -> Result<bool, StoreFault>
-    requires autocommit { conn.old.in_transaction ≡ false }
-    requires desk { IsUsable (state S.Store conn.old) → IsDesk (state S.Store conn.old) }
+    requires ready { HasDesk conn.old.in_transaction (state S.Store conn.old) }
     requires cached { IsUsable (state S.Store conn.old) → IsKnownAs (option_copied cached)
         name.now (contents_in (state S.Store conn.old)) }
-    ensures mode { conn.new.in_transaction ≡ false }
-    ensures same { IsSame (state S.Store conn.old) (state S.Store conn.new) }
+    ensures reads { Looks conn.new.in_transaction
+        (state S.Store conn.old) (state S.Store conn.new) }
     ensures found { FindsSuch
         (λ t has. begins command.now ≡ true → has ≡ has_bindings name.now t)
         (state S.Store conn.old) (state S.Store conn.new) result }
@@ -135,12 +90,11 @@ fn is_bound<S: Alter>(
     settlement: &Settlement,
     cached: Option<&Service>,
 ) -> Result<bool, StoreFault>
-    requires autocommit { conn.old.in_transaction ≡ false }
-    requires desk { IsUsable (state S.Store conn.old) → IsDesk (state S.Store conn.old) }
+    requires ready { HasDesk conn.old.in_transaction (state S.Store conn.old) }
     requires cached { IsUsable (state S.Store conn.old) → IsKnown (option_copied cached)
         settlement.now.change (contents_in (state S.Store conn.old)) }
-    ensures mode { conn.new.in_transaction ≡ false }
-    ensures same { IsSame (state S.Store conn.old) (state S.Store conn.new) }
+    ensures reads { Looks conn.new.in_transaction
+        (state S.Store conn.old) (state S.Store conn.new) }
     ensures found { FindsSuch
         (λ t is_bound. IsBoundSaid is_bound settlement.now.receipt.command settlement.now.change t)
         (state S.Store conn.old) (state S.Store conn.new) result }
@@ -165,8 +119,7 @@ pub(crate) fn settle<S: Alter>(
     settlement: &Settlement,
     cached: Option<&Service>,
 ) -> Result<(), StoreFault>
-    requires autocommit { conn.old.in_transaction ≡ false }
-    requires desk { IsUsable (state S.Store conn.old) → IsDesk (state S.Store conn.old) }
+    requires ready { HasDesk conn.old.in_transaction (state S.Store conn.old) }
     requires cached { IsUsable (state S.Store conn.old) → IsKnown (option_copied cached)
         settlement.now.change (contents_in (state S.Store conn.old)) }
     requires settling { IsUsable (state S.Store conn.old)
@@ -184,7 +137,6 @@ pub(crate) fn settle<S: Alter>(
     laws::requests();
     schema_laws::one_reading();
     let _limits = settlement.number.get();
-    let is_there = is_there(conn, &settlement.change, cached)?;
     let is_bound = is_bound(conn, alloc, settlement, cached)?;
-    commit(conn, alloc, settlement, is_there, is_bound)
+    commit(conn, alloc, settlement, is_bound)
 }

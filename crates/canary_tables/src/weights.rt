@@ -1,17 +1,23 @@
 //! About how many bytes what a book keeps takes in memory.
-ghost use Rattle.std.specs.Prelude.{◌≤◌, ◌+◌, ◌-◌, ◌^◌, length, min};
+ghost use Rattle.std.specs.Prelude.{◌≤◌, ◌+◌, ◌*◌, ◌-◌, ◌^◌, length, min};
 ghost use Rattle.canary_canonical.specs.Texts.{command_text};
 
-use canary_base::lists::Text;
+use canary_base::lists::{Listed, Text};
 use canary_once::book::Receipt;
 use canary_plan::bound::Bound;
 use canary_plan::bound_analysis::BoundAnalysis;
+use canary_plan::line::Line;
 use canary_plan::template::Template;
 use canary_plan::template_spec::MetricSpec;
 use canary_release::service::Service;
 
 /// A count of requests, with its caller's name.
 pub(crate) const BYTES_OF_COUNT: u64 = 128;
+
+// A history without its lines, and each line, with the room that its list may have for one more.
+const BYTES_OF_HISTORY: u64 = 256;
+
+const BYTES_OF_LINE: u64 = 192;
 
 // A receipt without its texts.
 const BYTES_OF_RECEIPT: u64 = 512;
@@ -43,6 +49,14 @@ pub(crate) fn bytes_of_receipt(receipt: &Receipt) -> u64
     BYTES_OF_RECEIPT
         .saturating_add(command)
         .saturating_add(body)
+}
+
+/// A history, with its service's name: so many bytes for each of its lines at least.
+pub(crate) fn bytes_of_history(history: &Listed<Line>) -> u64
+    ensures lines { min (BYTES_OF_LINE * length history.now) (2 ^ 64 - 1) ≤ result }
+{
+    let lines = BYTES_OF_LINE.saturating_mul(history.as_slice().len() as u64);
+    BYTES_OF_HISTORY.saturating_add(lines)
 }
 
 /// A service, with its name. A metric counts as one with short conditions.

@@ -20,7 +20,7 @@ use Rattle.canary_tables_read.specs.Finds.{IsSame}
 use Rattle.canary_tables_adopt.specs.Measured.{AreCountedTo, AreMeasured, IsSoFar, IsPageCounted, measurements_of, page_after}
 use Rattle.canary_tables_adopt.specs.OfService.{AreRunsOf, AreMeasurementsOf}
 use Rattle.canary_tables_adopt.specs.OneService.{IsPastJudged}
-use Rattle.canary_tables_adopt.specs.declared.measured.SoFar.{SoFar}
+use Rattle.canary_tables_adopt.specs.declared.one_service.measured.SoFar.{SoFar}
 use Rattle.canary_tables_adopt.proofs.HistoryLemmas.{read_all}
 use Rattle.canary_tables_adopt.proofs.JudgedPasts.{tallied_there}
 use Rattle.canary_tables_adopt.proofs.Standing.{same_then, stores_then}

@@ -16,8 +16,8 @@ use Rattle.canary_tables_schema.specs.Stores.{IsUsable, Stores}
 use Rattle.canary_tables_read.specs.Finds.{IsSame}
 use Rattle.canary_tables_read.specs.Pages.{is_run_between, is_binding_between, is_tally_between}
 use Rattle.canary_tables_read.specs.Sorts.{Sorts, metric_of}
-use Rattle.canary_tables_adopt.specs.declared.pages.RunPage.{RunPage}
-use Rattle.canary_tables_adopt.specs.declared.runs.SoFar.{SoFar}
+use Rattle.canary_tables_adopt.specs.declared.one_service.pages.RunPage.{RunPage}
+use Rattle.canary_tables_adopt.specs.declared.one_service.runs.SoFar.{SoFar}
 use Rattle.canary_tables_adopt.specs.OfService.{HasSuch, IsRunOf, AreRunsOf}
 use Rattle.canary_tables_adopt.specs.Pages.{IsPageOf, AreCut, AreRowsOf, AreThere, AreSoFar, is_numbered, is_bound_at, is_tallied_at}
 use Rattle.canary_tables_adopt.specs.Remembered.{Memo, AreRevisions}

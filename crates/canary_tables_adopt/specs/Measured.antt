@@ -12,7 +12,7 @@ use Rattle.canary_tables_contents.specs.Services.{metrics_of_runs}
 use Rattle.canary_tables_read.specs.Places.{IsMark}
 use Rattle.canary_tables_schema.specs.Stores.{IsUsable, Stores}
 use Rattle.sqlite.specs.State.{State}
-use Rattle.canary_tables_adopt.specs.declared.measured.SoFar.{SoFar}
+use Rattle.canary_tables_adopt.specs.declared.one_service.measured.SoFar.{SoFar}
 
 -- each of these rows is read as a measurement that may come next, and they lead from the first
 -- counts to the last

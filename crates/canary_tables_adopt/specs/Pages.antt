@@ -8,8 +8,8 @@ use Rattle.canary_tables_rows.specs.declared.rows.TallyRow.{TallyRow}
 use Rattle.canary_tables_rows.specs.Tables.{Tables, is_run, is_binding_of, is_tally_of}
 use Rattle.canary_tables_read.specs.Pages.{is_run_between, is_binding_between, is_tally_between}
 use Rattle.canary_tables_read.specs.Sorts.{Sorts, metric_of}
-use Rattle.canary_tables_adopt.specs.declared.pages.RunPage.{RunPage}
-use Rattle.canary_tables_adopt.specs.declared.runs.SoFar.{SoFar}
+use Rattle.canary_tables_adopt.specs.declared.one_service.pages.RunPage.{RunPage}
+use Rattle.canary_tables_adopt.specs.declared.one_service.runs.SoFar.{SoFar}
 use Rattle.canary_tables_adopt.specs.OfService.{HasSuch, IsRunOf, AreRunsOf}
 use Rattle.canary_tables_adopt.specs.Remembered.{Memo, AreRevisions}
 

@@ -6,13 +6,13 @@ ghost use Rattle.std.specs.FinMap.{get};
 ghost use Rattle.canary_plan.specs.Plans.{distinct};
 ghost use Rattle.canary_tables_rows.specs.Limits.{AreWithin};
 ghost use Rattle.canary_tables_read.specs.Breaks.{BreaksUnless};
-ghost use Rattle.canary_tables_read.specs.Finds.{IsSame, FindsSuch};
+ghost use Rattle.canary_tables_read.specs.Finds.{FindsSuch};
 ghost use Rattle.canary_tables_adopt.specs.OfService.{HasSuch};
 ghost use Rattle.canary_tables_adopt.specs.OneService.{RefusesJudged};
 ghost use Rattle.canary_tables_adopt.specs.Bindings.{IsTemplateOf, IsKnownBy, IsKnownIn, IsBindingOf};
 ghost use Rattle.canary_tables_adopt.specs.Bindings.{IsBoundWhole, IsAttemptBound};
 ghost use Rattle.canary_tables_adopt.specs.Templates.{IsReadAs};
-ghost use Rattle.canary_tables_read.specs.Reader.{IsKept};
+ghost use Rattle.canary_tables_read.specs.Reader.{Reads};
 
 use canary_base::error::Memory;
 use canary_base::names::Name;
@@ -50,10 +50,7 @@ pub fn bound_templates<Q: Reader>(
     run: u32,
 ) -> Result<Option<Templates>, ReadFault>
     requires ready { Q.IsReady conn.old }
-    ensures mode { Q.IsReady conn.new }
-    ensures place { Q.place conn.new ≡ Q.place conn.old }
-    ensures kept { IsKept (Q.below conn.old) (Q.below conn.new) }
-    ensures same { IsSame (Q.shows conn.old) (Q.shows conn.new) }
+    ensures reads { Reads Q.IsReady Q.place Q.below Q.shows conn.old conn.new }
     ensures found { FindsSuch (λ t found. IsKnownIn service.now run t (option_map get found))
         (Q.shows conn.old) (Q.shows conn.new) result }
     ensures broken { BreaksUnless AreWithin (Q.shows conn.old) (Q.shows conn.new)
@@ -70,10 +67,7 @@ fn known_by<Q: Reader>(
     rows: &[BindingRow],
 ) -> Result<Option<Templates>, ReadFault>
     requires ready { Q.IsReady conn.old }
-    ensures mode { Q.IsReady conn.new }
-    ensures place { Q.place conn.new ≡ Q.place conn.old }
-    ensures kept { IsKept (Q.below conn.old) (Q.below conn.new) }
-    ensures same { IsSame (Q.shows conn.old) (Q.shows conn.new) }
+    ensures reads { Reads Q.IsReady Q.place Q.below Q.shows conn.old conn.new }
     ensures found { FindsSuch (λ t found. IsKnownBy rows.now t (option_map get found))
         (Q.shows conn.old) (Q.shows conn.new) result }
     ensures broken { BreaksUnless AreWithin (Q.shows conn.old) (Q.shows conn.new)
@@ -103,10 +97,7 @@ pub(crate) fn template_of<Q: Reader>(
     row: &BindingRow,
 ) -> Result<Option<Template>, ReadFault>
     requires ready { Q.IsReady conn.old }
-    ensures mode { Q.IsReady conn.new }
-    ensures place { Q.place conn.new ≡ Q.place conn.old }
-    ensures kept { IsKept (Q.below conn.old) (Q.below conn.new) }
-    ensures same { IsSame (Q.shows conn.old) (Q.shows conn.new) }
+    ensures reads { Reads Q.IsReady Q.place Q.below Q.shows conn.old conn.new }
     ensures found { FindsSuch (IsTemplateOf row.now)
         (Q.shows conn.old) (Q.shows conn.new) result }
     ensures broken { BreaksUnless AreWithin (Q.shows conn.old) (Q.shows conn.new)
@@ -142,10 +133,7 @@ pub(crate) fn attempt<Q: Reader>(
     strategy: &Strategy,
 ) -> Result<Bound, ReadFault>
     requires ready { Q.IsReady conn.old }
-    ensures mode { Q.IsReady conn.new }
-    ensures place { Q.place conn.new ≡ Q.place conn.old }
-    ensures kept { IsKept (Q.below conn.old) (Q.below conn.new) }
-    ensures same { IsSame (Q.shows conn.old) (Q.shows conn.new) }
+    ensures reads { Reads Q.IsReady Q.place Q.below Q.shows conn.old conn.new }
     ensures found { FindsSuch (IsAttemptBound service.now strategy.now)
         (Q.shows conn.old) (Q.shows conn.new) result }
     ensures broken { RefusesJudged (HasSuch (IsAttemptBound service.now strategy.now))
@@ -169,10 +157,7 @@ fn bound<Q: Reader>(
     strategy: &Strategy,
 ) -> Result<Binding, ReadFault>
     requires ready { Q.IsReady conn.old }
-    ensures mode { Q.IsReady conn.new }
-    ensures place { Q.place conn.new ≡ Q.place conn.old }
-    ensures kept { IsKept (Q.below conn.old) (Q.below conn.new) }
-    ensures same { IsSame (Q.shows conn.old) (Q.shows conn.new) }
+    ensures reads { Reads Q.IsReady Q.place Q.below Q.shows conn.old conn.new }
     ensures found { FindsSuch (IsBindingOf service.now 0 strategy.now)
         (Q.shows conn.old) (Q.shows conn.new) result }
     ensures broken { RefusesJudged (IsBoundWhole service.now 0)

@@ -5,11 +5,11 @@ ghost use Rattle.std.specs.List.{AllByRecursion, sum_by};
 ghost use Rattle.canary_tables_contents.specs.Values.{receipt_of_row};
 ghost use Rattle.canary_tables_contents.specs.Judged.{AreCallersJudged, IsCallerJudged};
 ghost use Rattle.canary_tables_read.specs.declared.fault.ReadFault.TheVariants.{Broken, Storage};
-ghost use Rattle.canary_tables_read.specs.Finds.{IsSame, FindsSuch};
+ghost use Rattle.canary_tables_read.specs.Finds.{FindsSuch};
 ghost use Rattle.canary_tables_adopt.specs.Alone.{HasValue, only};
 ghost use Rattle.canary_tables_adopt.specs.Judges.{FindsThat, RefusesUnless};
 ghost use Rattle.canary_tables_adopt.specs.Receipts.{AreReceipts, AreReceived};
-ghost use Rattle.canary_tables_read.specs.Reader.{IsKept};
+ghost use Rattle.canary_tables_read.specs.Reader.{Reads};
 
 use crate::fault::read_fault;
 use crate::progress::JudgingProgress;
@@ -40,10 +40,7 @@ pub(crate) fn validate<Q: Reader, G: JudgingProgress>(
     progress: &mut G,
 ) -> Result<(), ReadFault>
     requires ready { Q.IsReady conn.old }
-    ensures mode { Q.IsReady conn.new }
-    ensures place { Q.place conn.new ≡ Q.place conn.old }
-    ensures kept { IsKept (Q.below conn.old) (Q.below conn.new) }
-    ensures same { IsSame (Q.shows conn.old) (Q.shows conn.new) }
+    ensures reads { Reads Q.IsReady Q.place Q.below Q.shows conn.old conn.new }
     ensures judged { FindsThat AreCallersJudged
         (Q.shows conn.old) (Q.shows conn.new) result }
     ensures refused { RefusesUnless AreCallersJudged
@@ -63,10 +60,7 @@ fn judge_each<Q: Reader, G: JudgingProgress>(
     progress: &mut G,
 ) -> Result<u64, ReadFault>
     requires ready { Q.IsReady conn.old }
-    ensures mode { Q.IsReady conn.new }
-    ensures place { Q.place conn.new ≡ Q.place conn.old }
-    ensures kept { IsKept (Q.below conn.old) (Q.below conn.new) }
-    ensures same { IsSame (Q.shows conn.old) (Q.shows conn.new) }
+    ensures reads { Reads Q.IsReady Q.place Q.below Q.shows conn.old conn.new }
     ensures judged { FindsSuch (λ t settled. AllByRecursion (IsCallerJudged t) callers.now
         × (settled ≡ sum_by (λ (row : _). row.settled) callers.now))
         (Q.shows conn.old) (Q.shows conn.new) result }
@@ -89,10 +83,7 @@ fn judge_one<Q: Reader, G: JudgingProgress>(
     progress: &mut G,
 ) -> Result<(), ReadFault>
     requires ready { Q.IsReady conn.old }
-    ensures mode { Q.IsReady conn.new }
-    ensures place { Q.place conn.new ≡ Q.place conn.old }
-    ensures kept { IsKept (Q.below conn.old) (Q.below conn.new) }
-    ensures same { IsSame (Q.shows conn.old) (Q.shows conn.new) }
+    ensures reads { Reads Q.IsReady Q.place Q.below Q.shows conn.old conn.new }
     ensures judged { FindsThat (λ t. IsCallerJudged t caller.now)
         (Q.shows conn.old) (Q.shows conn.new) result }
     ensures refused { RefusesUnless (λ t. IsCallerJudged t caller.now)
@@ -139,10 +130,7 @@ fn judge_receipts<Q: Reader, G: JudgingProgress>(
     progress: &mut G,
 ) -> Result<(), ReadFault>
     requires ready { Q.IsReady conn.old }
-    ensures mode { Q.IsReady conn.new }
-    ensures place { Q.place conn.new ≡ Q.place conn.old }
-    ensures kept { IsKept (Q.below conn.old) (Q.below conn.new) }
-    ensures same { IsSame (Q.shows conn.old) (Q.shows conn.new) }
+    ensures reads { Reads Q.IsReady Q.place Q.below Q.shows conn.old conn.new }
     ensures judged { FindsThat (AreReceived caller.now 0 settled)
         (Q.shows conn.old) (Q.shows conn.new) result }
     ensures refused { RefusesUnless (AreReceived caller.now 0 settled)
@@ -178,10 +166,7 @@ fn judge_page<Q: Reader>(
 ) -> Result<(), ReadFault>
     requires ready { Q.IsReady conn.old }
     requires some { before < last }
-    ensures mode { Q.IsReady conn.new }
-    ensures place { Q.place conn.new ≡ Q.place conn.old }
-    ensures kept { IsKept (Q.below conn.old) (Q.below conn.new) }
-    ensures same { IsSame (Q.shows conn.old) (Q.shows conn.new) }
+    ensures reads { Reads Q.IsReady Q.place Q.below Q.shows conn.old conn.new }
     ensures judged { FindsThat (AreReceived caller.now before last)
         (Q.shows conn.old) (Q.shows conn.new) result }
     ensures refused { RefusesUnless (AreReceived caller.now before last)

@@ -17,15 +17,9 @@
 mod alone;
 pub mod bindings;
 mod callers;
-mod counts;
 mod fault;
-mod histories;
-mod measured;
-mod pages;
+mod one_service;
 pub mod progress;
-mod remembered;
-mod runs;
-mod service;
 mod services;
 mod strategies;
 mod templates;

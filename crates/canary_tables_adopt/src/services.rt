@@ -3,14 +3,13 @@ ghost use Rattle.std.specs.Prelude.{◌≡◌, ◌≢◌, ℕ, min, false, Err, 
 ghost use Rattle.std.specs.List.{AllByRecursion};
 ghost use Rattle.canary_tables_contents.specs.Services.{AreServicesJudged};
 ghost use Rattle.canary_tables_read.specs.declared.fault.ReadFault.TheVariants.{Broken};
-ghost use Rattle.canary_tables_read.specs.Finds.{IsSame};
 ghost use Rattle.canary_tables_adopt.specs.Judges.{FindsThat, RefusesUnless};
 ghost use Rattle.canary_tables_adopt.specs.OneService.{FindsJudged, RefusesJudged};
 ghost use Rattle.canary_tables_adopt.specs.OneService.{IsServiceUnder, AreServicesFound, HaveTotals};
-ghost use Rattle.canary_tables_read.specs.Reader.{IsKept};
+ghost use Rattle.canary_tables_read.specs.Reader.{Reads};
 
+use crate::one_service::service;
 use crate::progress::JudgingProgress;
-use crate::service;
 use crate::totals::{self, Totals};
 use canary_base::names::Name;
 use canary_tables_contents::judged_laws as judged;
@@ -31,10 +30,7 @@ pub(crate) fn validate<Q: Reader, G: JudgingProgress>(
     progress: &mut G,
 ) -> Result<(), ReadFault>
     requires ready { Q.IsReady conn.old }
-    ensures mode { Q.IsReady conn.new }
-    ensures place { Q.place conn.new ≡ Q.place conn.old }
-    ensures kept { IsKept (Q.below conn.old) (Q.below conn.new) }
-    ensures same { IsSame (Q.shows conn.old) (Q.shows conn.new) }
+    ensures reads { Reads Q.IsReady Q.place Q.below Q.shows conn.old conn.new }
     ensures judged { FindsJudged (λ t judged. AreServicesJudged t)
         (Q.shows conn.old) (Q.shows conn.new) result }
     ensures refused { RefusesJudged AreServicesJudged
@@ -54,10 +50,7 @@ fn judge_each<Q: Reader, G: JudgingProgress>(
     progress: &mut G,
 ) -> Result<Totals, ReadFault>
     requires ready { Q.IsReady conn.old }
-    ensures mode { Q.IsReady conn.new }
-    ensures place { Q.place conn.new ≡ Q.place conn.old }
-    ensures kept { IsKept (Q.below conn.old) (Q.below conn.new) }
-    ensures same { IsSame (Q.shows conn.old) (Q.shows conn.new) }
+    ensures reads { Reads Q.IsReady Q.place Q.below Q.shows conn.old conn.new }
     ensures judged { FindsJudged (AreServicesFound names.now)
         (Q.shows conn.old) (Q.shows conn.new) result }
     ensures refused { RefusesJudged (λ t. AllByRecursion (IsServiceUnder t) names.now)
@@ -75,10 +68,7 @@ fn judge_each<Q: Reader, G: JudgingProgress>(
 // That the tables have no more than that.
 fn are_all<Q: Reader>(conn: &mut Q, totals: &Totals) -> Result<(), ReadFault>
     requires ready { Q.IsReady conn.old }
-    ensures mode { Q.IsReady conn.new }
-    ensures place { Q.place conn.new ≡ Q.place conn.old }
-    ensures kept { IsKept (Q.below conn.old) (Q.below conn.new) }
-    ensures same { IsSame (Q.shows conn.old) (Q.shows conn.new) }
+    ensures reads { Reads Q.IsReady Q.place Q.below Q.shows conn.old conn.new }
     ensures judged { FindsThat (λ t. HaveTotals t totals.now)
         (Q.shows conn.old) (Q.shows conn.new) result }
     ensures refused { RefusesUnless (λ t. HaveTotals t totals.now)

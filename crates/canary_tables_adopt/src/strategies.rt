@@ -9,10 +9,9 @@ ghost use Rattle.canary_tables_rows.specs.Limits.{AreWithin};
 ghost use Rattle.canary_tables_schema.specs.Stores.{IsUsable, Stores};
 ghost use Rattle.canary_tables_contents.specs.Judged.{AreTemplatesJudged};
 ghost use Rattle.canary_tables_read.specs.declared.fault.ReadFault.TheVariants.{Broken, Storage};
-ghost use Rattle.canary_tables_read.specs.Finds.{IsSame};
 ghost use Rattle.canary_tables_adopt.specs.Strategies.{newest_in, known_among, IsStrategyAccepted};
 ghost use Rattle.canary_tables_adopt.specs.Strategies.{IsStrategyOf};
-ghost use Rattle.canary_tables_read.specs.Reader.{IsKept};
+ghost use Rattle.canary_tables_read.specs.Reader.{Reads};
 
 use crate::templates;
 use canary_base::error::Memory;
@@ -42,10 +41,7 @@ pub(crate) fn strategy<Q: Reader>(
     spec: &ServiceSpec,
 ) -> Result<Strategy, ReadFault>
     requires ready { Q.IsReady conn.old }
-    ensures mode { Q.IsReady conn.new }
-    ensures place { Q.place conn.new ≡ Q.place conn.old }
-    ensures kept { IsKept (Q.below conn.old) (Q.below conn.new) }
-    ensures same { IsSame (Q.shows conn.old) (Q.shows conn.new) }
+    ensures reads { Reads Q.IsReady Q.place Q.below Q.shows conn.old conn.new }
     ensures found { IsUsable (Q.shows conn.new) → (t : Tables)
         → Stores (Q.shows conn.old) t → AreTemplatesJudged t
         → IfOk result (IsStrategyOf t spec.now) }
@@ -86,10 +82,7 @@ fn templates_of<Q: Reader>(
     names: &[Name],
 ) -> Result<Templates, ReadFault>
     requires ready { Q.IsReady conn.old }
-    ensures mode { Q.IsReady conn.new }
-    ensures place { Q.place conn.new ≡ Q.place conn.old }
-    ensures kept { IsKept (Q.below conn.old) (Q.below conn.new) }
-    ensures same { IsSame (Q.shows conn.old) (Q.shows conn.new) }
+    ensures reads { Reads Q.IsReady Q.place Q.below Q.shows conn.old conn.new }
     ensures found { IsUsable (Q.shows conn.new) → (t : Tables)
         → Stores (Q.shows conn.old) t → AreTemplatesJudged t
         → IfOk result (λ found. get found ≡ known_among (newest_in t) names.now) }
@@ -113,10 +106,7 @@ fn template<Q: Reader>(
     name: &Name,
 ) -> Result<Option<Template>, ReadFault>
     requires ready { Q.IsReady conn.old }
-    ensures mode { Q.IsReady conn.new }
-    ensures place { Q.place conn.new ≡ Q.place conn.old }
-    ensures kept { IsKept (Q.below conn.old) (Q.below conn.new) }
-    ensures same { IsSame (Q.shows conn.old) (Q.shows conn.new) }
+    ensures reads { Reads Q.IsReady Q.place Q.below Q.shows conn.old conn.new }
     ensures found { IsUsable (Q.shows conn.new) → (t : Tables)
         → Stores (Q.shows conn.old) t → AreTemplatesJudged t
         → IfOk result (λ found. found ≡ newest_in t name.now) }

@@ -4,12 +4,11 @@ ghost use Rattle.std.specs.List.{AllByRecursion};
 ghost use Rattle.canary_plan.specs.declared.template.Template.{Template};
 ghost use Rattle.canary_tables_contents.specs.Judged.{AreTemplatesJudged};
 ghost use Rattle.canary_tables_read.specs.declared.fault.ReadFault.TheVariants.{Broken, Storage};
-ghost use Rattle.canary_tables_read.specs.Finds.{IsSame};
 ghost use Rattle.canary_tables_adopt.specs.Alone.{IsAlone};
 ghost use Rattle.canary_tables_adopt.specs.Judges.{FindsThat, RefusesUnless};
 ghost use Rattle.canary_tables_adopt.specs.Templates.{IsAccepted, IsAcceptedAs, IsNumbered};
 ghost use Rattle.canary_tables_adopt.specs.Templates.{IsJudgedUnder};
-ghost use Rattle.canary_tables_read.specs.Reader.{IsKept};
+ghost use Rattle.canary_tables_read.specs.Reader.{Reads};
 
 use crate::alone;
 use crate::fault::read_fault;
@@ -33,10 +32,7 @@ use std::alloc::Global;
 /// fails.
 pub(crate) fn validate<Q: Reader>(conn: &mut Q, alloc: Global) -> Result<(), ReadFault>
     requires ready { Q.IsReady conn.old }
-    ensures mode { Q.IsReady conn.new }
-    ensures place { Q.place conn.new ≡ Q.place conn.old }
-    ensures kept { IsKept (Q.below conn.old) (Q.below conn.new) }
-    ensures same { IsSame (Q.shows conn.old) (Q.shows conn.new) }
+    ensures reads { Reads Q.IsReady Q.place Q.below Q.shows conn.old conn.new }
     ensures judged { FindsThat AreTemplatesJudged
         (Q.shows conn.old) (Q.shows conn.new) result }
     ensures refused { RefusesUnless AreTemplatesJudged
@@ -49,10 +45,7 @@ pub(crate) fn validate<Q: Reader>(conn: &mut Q, alloc: Global) -> Result<(), Rea
 // That `judge_one` accepts each of the keys.
 fn judge_each<Q: Reader>(conn: &mut Q, alloc: Global, keys: &[RevisionKey]) -> Result<(), ReadFault>
     requires ready { Q.IsReady conn.old }
-    ensures mode { Q.IsReady conn.new }
-    ensures place { Q.place conn.new ≡ Q.place conn.old }
-    ensures kept { IsKept (Q.below conn.old) (Q.below conn.new) }
-    ensures same { IsSame (Q.shows conn.old) (Q.shows conn.new) }
+    ensures reads { Reads Q.IsReady Q.place Q.below Q.shows conn.old conn.new }
     ensures judged { FindsThat (λ t. AllByRecursion (IsJudgedUnder t) keys.now)
         (Q.shows conn.old) (Q.shows conn.new) result }
     ensures refused { RefusesUnless (λ t. AllByRecursion (IsJudgedUnder t) keys.now)
@@ -67,10 +60,7 @@ fn judge_each<Q: Reader>(conn: &mut Q, alloc: Global, keys: &[RevisionKey]) -> R
 // That the key has one row of an accepted template, and is revision 1 or follows another one.
 fn judge_one<Q: Reader>(conn: &mut Q, alloc: Global, key: &RevisionKey) -> Result<(), ReadFault>
     requires ready { Q.IsReady conn.old }
-    ensures mode { Q.IsReady conn.new }
-    ensures place { Q.place conn.new ≡ Q.place conn.old }
-    ensures kept { IsKept (Q.below conn.old) (Q.below conn.new) }
-    ensures same { IsSame (Q.shows conn.old) (Q.shows conn.new) }
+    ensures reads { Reads Q.IsReady Q.place Q.below Q.shows conn.old conn.new }
     ensures judged { FindsThat (λ t. IsJudgedUnder t key.now)
         (Q.shows conn.old) (Q.shows conn.new) result }
     ensures refused { RefusesUnless (λ t. IsJudgedUnder t key.now)
@@ -108,10 +98,7 @@ fn is_of(template: &Template, name: &Name) -> bool
 // That it is one of the numbers of revisions, and follows another revision, or is the first.
 fn judge_number<Q: Reader>(conn: &mut Q, key: &RevisionKey) -> Result<(), ReadFault>
     requires ready { Q.IsReady conn.old }
-    ensures mode { Q.IsReady conn.new }
-    ensures place { Q.place conn.new ≡ Q.place conn.old }
-    ensures kept { IsKept (Q.below conn.old) (Q.below conn.new) }
-    ensures same { IsSame (Q.shows conn.old) (Q.shows conn.new) }
+    ensures reads { Reads Q.IsReady Q.place Q.below Q.shows conn.old conn.new }
     ensures judged { FindsThat (λ t. IsNumbered t key.now)
         (Q.shows conn.old) (Q.shows conn.new) result }
     ensures refused { RefusesUnless (λ t. IsNumbered t key.now)

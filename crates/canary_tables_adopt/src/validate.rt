@@ -1,9 +1,8 @@
 //! Judging the tables of a desk.
 ghost use Rattle.std.specs.Prelude.{◌≡◌, ◌≢◌, false, Err};
 ghost use Rattle.canary_tables_contents.specs.Services.{IsJudged};
-ghost use Rattle.canary_tables_read.specs.Finds.{IsSame};
 ghost use Rattle.canary_tables_adopt.specs.Judges.{FindsThat, RefusesUnless};
-ghost use Rattle.canary_tables_read.specs.Reader.{IsKept};
+ghost use Rattle.canary_tables_read.specs.Reader.{Reads};
 
 use crate::progress::JudgingProgress;
 use crate::{callers, services, templates};
@@ -26,10 +25,7 @@ pub fn validate<Q: Reader, G: JudgingProgress>(
     progress: &mut G,
 ) -> Result<(), ReadFault>
     requires ready { Q.IsReady conn.old }
-    ensures mode { Q.IsReady conn.new }
-    ensures place { Q.place conn.new ≡ Q.place conn.old }
-    ensures kept { IsKept (Q.below conn.old) (Q.below conn.new) }
-    ensures same { IsSame (Q.shows conn.old) (Q.shows conn.new) }
+    ensures reads { Reads Q.IsReady Q.place Q.below Q.shows conn.old conn.new }
     ensures judged { FindsThat IsJudged (Q.shows conn.old) (Q.shows conn.new) result }
     ensures refused { RefusesUnless IsJudged
         (Q.shows conn.old) (Q.shows conn.new) result }
@@ -41,10 +37,7 @@ pub fn validate<Q: Reader, G: JudgingProgress>(
 // How many rows `progress` is told of.
 fn count_rows<Q: Reader>(conn: &mut Q) -> Result<u64, ReadFault>
     requires ready { Q.IsReady conn.old }
-    ensures mode { Q.IsReady conn.new }
-    ensures place { Q.place conn.new ≡ Q.place conn.old }
-    ensures kept { IsKept (Q.below conn.old) (Q.below conn.new) }
-    ensures same { IsSame (Q.shows conn.old) (Q.shows conn.new) }
+    ensures reads { Reads Q.IsReady Q.place Q.below Q.shows conn.old conn.new }
     ensures whole { result ≢ Err ReadFault.Broken }
 {
     let kept = lists::kept_count(conn)?;
@@ -56,10 +49,7 @@ fn count_rows<Q: Reader>(conn: &mut Q) -> Result<u64, ReadFault>
 // How many rows of runs, bindings, tallies and histories there are, up to 2^64 - 1.
 fn count_others<Q: Reader>(conn: &mut Q) -> Result<u64, ReadFault>
     requires ready { Q.IsReady conn.old }
-    ensures mode { Q.IsReady conn.new }
-    ensures place { Q.place conn.new ≡ Q.place conn.old }
-    ensures kept { IsKept (Q.below conn.old) (Q.below conn.new) }
-    ensures same { IsSame (Q.shows conn.old) (Q.shows conn.new) }
+    ensures reads { Reads Q.IsReady Q.place Q.below Q.shows conn.old conn.new }
     ensures whole { result ≢ Err ReadFault.Broken }
 {
     let runs = count_runs(conn)?;
@@ -71,10 +61,7 @@ fn count_others<Q: Reader>(conn: &mut Q) -> Result<u64, ReadFault>
 // The runs, and what they are bound to.
 fn count_runs<Q: Reader>(conn: &mut Q) -> Result<u64, ReadFault>
     requires ready { Q.IsReady conn.old }
-    ensures mode { Q.IsReady conn.new }
-    ensures place { Q.place conn.new ≡ Q.place conn.old }
-    ensures kept { IsKept (Q.below conn.old) (Q.below conn.new) }
-    ensures same { IsSame (Q.shows conn.old) (Q.shows conn.new) }
+    ensures reads { Reads Q.IsReady Q.place Q.below Q.shows conn.old conn.new }
     ensures whole { result ≢ Err ReadFault.Broken }
 {
     let runs = lists::run_count(conn)?;
@@ -89,10 +76,7 @@ fn judge_all<Q: Reader, G: JudgingProgress>(
     progress: &mut G,
 ) -> Result<(), ReadFault>
     requires ready { Q.IsReady conn.old }
-    ensures mode { Q.IsReady conn.new }
-    ensures place { Q.place conn.new ≡ Q.place conn.old }
-    ensures kept { IsKept (Q.below conn.old) (Q.below conn.new) }
-    ensures same { IsSame (Q.shows conn.old) (Q.shows conn.new) }
+    ensures reads { Reads Q.IsReady Q.place Q.below Q.shows conn.old conn.new }
     ensures judged { FindsThat IsJudged (Q.shows conn.old) (Q.shows conn.new) result }
     ensures refused { RefusesUnless IsJudged
         (Q.shows conn.old) (Q.shows conn.new) result }

@@ -1,6 +1,6 @@
 -- An attempt is bound wholly, to a revision of each template of its strategy, or not at all.
 use Rattle.std.proofs.Common.{◌≡◌, inl, inr, ℕ, ◌-◌, List, [], ◌∷◌, ◌++◌, map, Bool, true, false, Some, None, refl, sym, ap, ◌∙◌}
-use Rattle.std.specs.Prelude.{◌⊎◌, Option, ◌||◌, ◌&&◌, ◌==◌, nat_lt, not, filter, find, flat_map, length, is_none, is_some}
+use Rattle.std.specs.Prelude.{◌⊎◌, Option, ◌||◌, ◌&&◌, ◌==◌, not, find, flat_map, length, is_none, is_some}
 use Rattle.std.specs.Str.{bytes_eq}
 use Rattle.std.specs.List.{list_any, list_all, filter_map, AllByRecursion}
 use Rattle.std.specs.Cmp.Lexicographic.{pointwise}
@@ -22,13 +22,12 @@ use Rattle.canary_plan.specs.PlanRefusals.{names_of_step, names_of_background, a
 use Rattle.canary_plan.specs.Refusals.{first_that_holds}
 use Rattle.canary_plan.proofs.BoundRevisions.{bound_revisions}
 use Rattle.canary_release.specs.declared.state.ServiceState.{ServiceState}
-use Rattle.canary_release.specs.declared.service.ServiceParts.{ServiceParts}
-use Rattle.canary_release.specs.Services.{is_in_progress, is_done, is_held}
-use Rattle.canary_release.specs.Passing.{next_move, is_by}
+use Rattle.canary_release.specs.Services.{is_done}
 use Rattle.canary_release.specs.Desks.{ModelService, RevisionMap}
 use Rattle.canary_release.specs.Order.{IsInOrder}
-use Rattle.canary_release.specs.Parts.{is_background_run, is_step_run, has_background_run, runs_wanted, is_misplaced, is_misnumbered, repeats_number, has_wrong_tallies, has_other_revisions, is_astray, is_judged, is_bound_to, is_step_bound, is_background_bound, is_bound, is_unbound, is_refused, is_misbound, is_broken}
+use Rattle.canary_release.specs.Parts.{is_bound_to, is_step_bound, is_background_bound, is_bound, is_unbound, is_refused}
 use Rattle.canary_release.specs.Stored.{stored_form}
+use Rattle.canary_release.proofs.PartsKept.{fit_of}
 use Rattle.canary_tables_contents.specs.Tables.{is_of_template}
 use Rattle.canary_tables_contents.proofs.BindingsBack.{any_found, IsKnown, all_known}
 
@@ -41,11 +40,6 @@ neither false b e = (refl, e)
 pub both : (a b : Bool) → (a && b) ≡ true → (a ≡ true) × (b ≡ true)
 both true b e = (refl, e)
 both false b e = absurd (cc)
-
--- no cause holds
-pub none_holds : (bs : List Bool) → list_any (λ (b : Bool). b) bs ≡ false → AllByRecursion (λ (b : Bool). b ≡ false) bs
-none_holds [] e = tt
-none_holds (b ∷ bs) e = let parts = neither b (list_any (λ (b : Bool). b) bs) e in (parts.0, none_holds bs parts.1)
 
 -- Names.
 
@@ -131,43 +125,6 @@ unbound_none s = none_known (all_revisions (unbound s)) (all_known no_templates 
 
 -- A service in order.
 
--- the causes for which parts make no service
-abbrev causes : ServiceParts → List Bool
-causes s =
-    let service = s.service in
-    let going = is_in_progress service.state in
-    let runs = s.runs.open_runs in
-    is_misplaced service
-    ∷ nat_lt service.last service.entered
-    ∷ nat_lt 1000000 s.runs.count
-    ∷ (going && nat_lt (1000000 - s.runs.count) (runs_wanted s))
-    ∷ list_any (is_misnumbered s.runs.count) runs
-    ∷ repeats_number runs
-    ∷ list_any has_wrong_tallies runs
-    ∷ (not going && nat_lt 0 (length runs))
-    ∷ nat_lt 1 (length (filter is_background_run runs))
-    ∷ nat_lt 1 (length (filter is_step_run runs))
-    ∷ list_any (is_astray service) runs
-    ∷ (has_background_run s && (not service.background || service.background_hold))
-    ∷ (is_held service && not going)
-    ∷ (service.background && is_none service.strategy.background)
-    ∷ (service.background_hold && not service.background)
-    ∷ list_any is_judged runs
-    ∷ is_by service.last (next_move service)
-    ∷ is_misbound service
-    ∷ list_any (has_other_revisions service) runs
-    ∷ []
-
--- unbroken parts are bound as they may be, and their open runs to the same revisions
-pub record IsBoundSo (s : ServiceParts) : Type 0 where
-  pub bound : is_misbound s.service ≡ false
-  pub same : list_any (has_other_revisions s.service) s.runs.open_runs ≡ false
-
-pub bound_so : (s : ServiceParts) → is_broken s ≡ false → IsBoundSo s
-bound_so s e =
-    let none : AllByRecursion (λ (b : Bool). b ≡ false) (causes s) = none_holds (causes s) e in
-    record { bound = none.1.1.1.1.1.1.1.1.1.1.1.1.1.1.1.1.1.0; same = none.1.1.1.1.1.1.1.1.1.1.1.1.1.1.1.1.1.1.0 }
-
 either : (a b c d : Bool) → (not (a || (b && c)) || d) ≡ false → (a ≡ true) ⊎ (c ≡ true)
 either true b c d e = inl refl
 either false true true d e = inr refl
@@ -177,7 +134,7 @@ either false false c d e = absurd (cc)
 pub wholly : (templates : RevisionMap) (name : List ℕ) (m : ModelService) → IsInOrder templates name m
     → (templates_in (all_revisions m.service.bound) ≡ all_names (analyses m.made)) ⊎ (all_revisions m.service.bound ≡ [])
 wholly templates name m order =
-    elim (either (is_bound m.service) (is_done m.service.state) (is_unbound m.service) (is_refused m.service.bound) (bound_so (stored_form m) order.parts).bound) [
+    elim (either (is_bound m.service) (is_done m.service.state) (is_unbound m.service) (is_refused m.service.bound) (fit_of (stored_form m) order.parts).0.bound) [
       | inl whole ↦ inl (bound_named m.service whole ∙ ap (λ (s : CheckedStrategy). all_names (analyses_in s.steps s.background)) order.strategy)
       | inr none ↦ inr (unbound_named m.service none)
     ]

@@ -162,7 +162,7 @@ service_settles law t desk asked s effects are order is =
           (record { same = same; attempt = attempt.0; rest = applied.rest; own = applied.rows; others = applied.others })
           (λ q. service_puts desk.templates t desk.services asked s effects q is are.services);
       asks = record {
-        service = service_asks t desk.services name (are.services name);
+        service = service_asks desk.templates t desk.services asked s effects is (are.services name);
         bindings = attempt.1;
         effects_ask = applied.asks;
       };

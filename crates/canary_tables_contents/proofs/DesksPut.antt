@@ -18,8 +18,8 @@ use Rattle.canary_tables_rows.specs.Tables.{Tables, is_revision, is_service}
 use Rattle.canary_tables_rows.specs.Changes.{with_revision, with_service, with_standing, change_where, HasService}
 use Rattle.canary_tables_contents.specs.Values.{revision_row, service_row, standing_of}
 use Rattle.canary_tables_contents.specs.Tables.{row_if, revision_rows}
-use Rattle.canary_tables_contents.specs.Settling.{has_service, service_put}
-use Rattle.canary_tables_contents.proofs.SettledKeys.{NameMap, equal_names, own_name, other_name, at_name, same_value, changed_under, is_any, any_found}
+use Rattle.canary_tables_contents.specs.Settling.{makes_service, service_put}
+use Rattle.canary_tables_contents.proofs.SettledKeys.{NameMap, equal_names, own_name, other_name, at_name, same_value, changed_under}
 use Rattle.canary_tables_contents.proofs.Pushed.{rows_at, pushed}
 use Rattle.canary_tables_contents.proofs.SettledPasts.{HaveSamePasts}
 use Rattle.canary_tables_contents.proofs.DesksRuled.{IsUpdate}
@@ -103,18 +103,6 @@ stood_after k q standing o there old new true e at is stands =
     ∙ ap (λ (row : ServiceRow). row ∷ []) stands
 stood_after k q standing o there old new false e at is stands = stood_other k q standing o e
 
--- whether the service is there
-pub service_there : (t : Tables) (services : NameMap ModelService) (k : List ℕ) → filter (is_service k) t.services ≡ row_if (service_row k) (get services k) → has_service k t ≡ is_any (row_if (service_row k) (get services k))
-service_there t services k are = any_found (is_service k) t.services ∙ ap is_any are
-
-some_found : (k : List ℕ) (o : Option ModelService) → is_any (row_if (service_row k) o) ≡ true → (m : ModelService) × (o ≡ Some m)
-some_found k None e = let never : ⊥ = cc e in absurd never
-some_found k (Some m) e = (m, refl)
-
-none_found : (k : List ℕ) (o : Option ModelService) → is_any (row_if (service_row k) o) ≡ false → o ≡ None
-none_found k None e = refl
-none_found k (Some m) e = let never : ⊥ = cc e in absurd never
-
 -- the tables apart from that of services
 pub record HaveSameElse (old new : Tables) : Type 0 where
   pub callers : new.callers ≡ old.callers
@@ -122,44 +110,46 @@ pub record HaveSameElse (old new : Tables) : Type 0 where
   pub revisions : new.revisions ≡ old.revisions
   pub pasts : HaveSamePasts old new
 
-else_same : (t : Tables) (k : List ℕ) (standing : ServiceColumns) (row : ServiceRow) (there : Bool) → HaveSameElse t (if there then with_standing k standing t else with_service row t)
+else_same : (t : Tables) (k : List ℕ) (standing : ServiceColumns) (row : ServiceRow) (makes : Bool) → HaveSameElse t (if makes then with_service row t else with_standing k standing t)
 else_same t k standing row true = record { callers = refl; kept = refl; revisions = refl; pasts = record { bindings = refl; runs = refl; tallies = refl; measurements = refl; history = refl } }
 else_same t k standing row false = record { callers = refl; kept = refl; revisions = refl; pasts = record { bindings = refl; runs = refl; tallies = refl; measurements = refl; history = refl } }
 
 pub put_leaves : (asked : Command) (s : ServiceParts) (t : Tables) → HaveSameElse t (service_put asked s t)
-put_leaves asked s t = else_same t s.service.name (standing_of s.service s.runs.count) (record { name = s.service.name; spec = command_text asked; standing = standing_of s.service s.runs.count }) (has_service s.service.name t)
+put_leaves asked s t = else_same t s.service.name (standing_of s.service s.runs.count) (record { name = s.service.name; spec = command_text asked; standing = standing_of s.service s.runs.count }) (makes_service asked)
 
-put_by : (templates : RevisionMap) (t : Tables) (services : NameMap ModelService) (asked : Command) (s : ServiceParts) (effects : List Effect) (q : List ℕ) (there : Bool)
-    → is_any (row_if (service_row s.service.name) (get services s.service.name)) ≡ there → IsUpdate templates (get services s.service.name) asked s effects
+put_by : (templates : RevisionMap) (t : Tables) (services : NameMap ModelService) (asked : Command) (s : ServiceParts) (effects : List Effect) (q : List ℕ) (makes : Bool)
+    → makes_service asked ≡ makes → IsUpdate templates (get services s.service.name) asked s effects
     → filter (is_service q) t.services ≡ row_if (service_row q) (get services q)
-    → filter (is_service q) (if there then with_standing s.service.name (standing_of s.service s.runs.count) t else with_service (record { name = s.service.name; spec = command_text asked; standing = standing_of s.service s.runs.count }) t).services
+    → filter (is_service q) (if makes then with_service (record { name = s.service.name; spec = command_text asked; standing = standing_of s.service s.runs.count }) t else with_standing s.service.name (standing_of s.service s.runs.count) t).services
     ≡ row_if (service_row q) (cond (bytes_eq q s.service.name) (Some (after (get services s.service.name) s.service effects)) (get services q))
-put_by templates t services asked s effects q true there is are =
-    let k : List ℕ = s.service.name in
-    let standing : ServiceColumns = standing_of s.service s.runs.count in
-    let some = some_found k (get services k) there in
-    changed_under (is_service q) (is_service k) (λ (row : ServiceRow). record row { standing = standing }) (λ row. refl) t.services
-    ∙ ap (stood k standing) are
-    ∙ stood_after k q standing (get services q) (get services k) some.0 (after (get services k) s.service effects) (bytes_eq q k) refl (same_value services q k (bytes_eq q k) refl) some.1
-    (old_row q (get services k) some.0 s effects some.1 is.count)
-put_by templates t services asked s effects q false there is are =
+put_by templates t services asked s effects q true makes is are =
     let k : List ℕ = s.service.name in
     let m : ModelService = after (get services k) s.service effects in
-    let none : get services k ≡ None = none_found k (get services k) there in
+    let none : get services k ≡ None = is.new makes in
     ap (λ (row : ServiceRow). filter (is_service q) (t.services ++ row ∷ [])) (new_row (get services k) asked s effects none (is.made none) is.count)
     ∙ filter-append (is_service q) t.services (service_row k m ∷ [])
     ∙ ap (λ (rows : List ServiceRow). rows ++ cond (bytes_eq q k) (service_row k m ∷ []) []) are
     ∙ row_added service_row k q m (get services q) (get services k) (bytes_eq q k) refl (same_value services q k (bytes_eq q k) refl) none
+put_by templates t services asked s effects q false makes is are =
+    let k : List ℕ = s.service.name in
+    let standing : ServiceColumns = standing_of s.service s.runs.count in
+    let some = is.there makes in
+    changed_under (is_service q) (is_service k) (λ (row : ServiceRow). record row { standing = standing }) (λ row. refl) t.services
+    ∙ ap (stood k standing) are
+    ∙ stood_after k q standing (get services q) (get services k) some.0 (after (get services k) s.service effects) (bytes_eq q k) refl (same_value services q k (bytes_eq q k) refl) some.1
+    (old_row q (get services k) some.0 s effects some.1 is.count)
 
 -- with the service that it comes to
 pub service_puts : (templates : RevisionMap) (t : Tables) (services : NameMap ModelService) (asked : Command) (s : ServiceParts) (effects : List Effect) (q : List ℕ) → IsUpdate templates (get services s.service.name) asked s effects
     → ((q : List ℕ) → filter (is_service q) t.services ≡ row_if (service_row q) (get services q))
     → filter (is_service q) (service_put asked s t).services ≡ row_if (service_row q) (get (insert services s.service.name (after (get services s.service.name) s.service effects)) q)
 service_puts templates t services asked s effects q is are =
-    put_by templates t services asked s effects q (has_service s.service.name t) (sym (service_there t services s.service.name (are s.service.name))) is (are q)
+    put_by templates t services asked s effects q (makes_service asked) refl is (are q)
     ∙ ap (row_if (service_row q)) (sym (at_name services s.service.name (after (get services s.service.name) s.service effects) q))
 
 -- the service that an UPDATE looks for stands in one row
-pub service_asks : (t : Tables) (services : NameMap ModelService) (k : List ℕ) → filter (is_service k) t.services ≡ row_if (service_row k) (get services k) → has_service k t ≡ true → HasService k t
-service_asks t services k are there =
-    let some = some_found k (get services k) (sym (service_there t services k are) ∙ there) in (service_row k some.0, are ∙ ap (row_if (service_row k)) some.1)
+pub service_asks : (templates : RevisionMap) (t : Tables) (services : NameMap ModelService) (asked : Command) (s : ServiceParts) (effects : List Effect) → IsUpdate templates (get services s.service.name) asked s effects
+    → filter (is_service s.service.name) t.services ≡ row_if (service_row s.service.name) (get services s.service.name) → makes_service asked ≡ false → HasService s.service.name t
+service_asks templates t services asked s effects is are makes =
+    let k : List ℕ = s.service.name in
+    let some = is.there makes in (service_row k some.0, are ∙ ap (row_if (service_row k)) some.1)

@@ -17,13 +17,13 @@ use Rattle.canary_release.specs.declared.service.ServiceParts.{ServiceParts}
 use Rattle.canary_release.specs.declared.decide.DeskChange.{DeskChange}
 use Rattle.canary_release.specs.declared.decide.DeskChange.TheVariants as change
 use Rattle.canary_release.specs.Evolutions.{Evolution}
-use Rattle.canary_release.specs.Commands.{ModelResult, succeeds_with, unless, start_refusal_at, start_refusal, retry_refusal_at, retry_refusal}
-use Rattle.canary_release.specs.Passing.{pass}
+use Rattle.canary_release.specs.Rules.Commands.{ModelResult, succeeds_with, unless, start_refusal_at, start_refusal, retry_refusal_at, retry_refusal}
+use Rattle.canary_release.specs.Rules.Passing.{pass}
 use Rattle.canary_release.specs.Desks.{ModelService, RevisionMap, Desk, revisions_of, newest, before, after, made_as, new_service, adds_unless, newest_number, revision_refusal, rule_template, rule_service, rules, passed_on, model_decision, ruling_on, model_evolution, apply}
 use Rattle.canary_release.specs.Stored.{stored_form, change_of, desk_with, stored_service, stored_by, KeepsWhatIsSeen}
 use Rattle.canary_release.specs.Effects.{Changes, IsChange, CommandsChange}
 use Rattle.canary_release.specs.Order.{AreInOrder}
-use Rattle.canary_tables_contents.specs.Settling.{begins}
+use Rattle.canary_tables_contents.specs.Settling.{begins, makes_service}
 use Rattle.canary_tables_contents.proofs.SettledKeys.{at_own_name, some_same}
 use Rattle.canary_tables_contents.proofs.PassKeeps.{passing_keeps}
 
@@ -104,6 +104,26 @@ made_new known now (command.Retry name) s effects e = absurd (stays s effects e)
 made_new known now (command.Tick name) s effects e = absurd (stays s effects e)
 made_new known now (command.Report report) s effects e = absurd (stays s effects e)
 
+-- and a command that makes a service changes none that is there
+none_before : (known : Templates) (found : Option ModelService) (now : ℕ) (asked : Command) (s : ServiceParts) (effects : List Effect) → makes_service asked ≡ true → change.Service s effects ≡ change_of (model_decision known (option_map model_evolution found) now asked).change → found ≡ None
+none_before known None now asked s effects makes e = refl
+none_before known (Some m) now (command.Service spec) s effects makes e = absurd (stays s effects e)
+none_before known (Some m) now (command.Template spec) s effects makes e = absurd (cc)
+none_before known (Some m) now (command.Start name version) s effects makes e = absurd (cc)
+none_before known (Some m) now (command.Promote name) s effects makes e = absurd (cc)
+none_before known (Some m) now (command.PromoteFull name) s effects makes e = absurd (cc)
+none_before known (Some m) now (command.Abort name) s effects makes e = absurd (cc)
+none_before known (Some m) now (command.Retry name) s effects makes e = absurd (cc)
+none_before known (Some m) now (command.Tick name) s effects makes e = absurd (cc)
+none_before known (Some m) now (command.Report report) s effects makes e = absurd (cc)
+
+one_before : (known : Templates) (found : Option ModelService) (now : ℕ) (asked : Command) (s : ServiceParts) (effects : List Effect) → makes_service asked ≡ false → change.Service s effects ≡ change_of (model_decision known (option_map model_evolution found) now asked).change
+    → (m : ModelService) × (found ≡ Some m)
+one_before known None now asked s effects makes e =
+    let made : asked ≡ command.Service (made_as s.service) = made_new known now asked s effects e in
+    let no : true ≡ false = sym (ap makes_service made) ∙ makes in absurd (cc)
+one_before known (Some m) now asked s effects makes e = (m, refl)
+
 -- An attempt that begins.
 
 unless_none : (r : Option Refusal) (a : ModelResult) (t : ℕ) (s : ServiceParts) (effects : List Effect) → change.Service s effects ≡ change_of (rules (passed_on (unless r a) t)).change → r ≡ None
@@ -141,11 +161,13 @@ begun_if known (Some m) now asked s effects same begin e = ap (bound_refusal kno
 
 -- A service that changes.
 
--- what happens may happen to the service as it was found; its parts count the runs that it has then; a new one is the command's; and an attempt begins only if nothing refuses to bind it
+-- what happens may happen to the service as it was found; its parts count the runs that it has then; it is there, unless its command makes it; and an attempt begins only if nothing refuses to bind it
 pub record IsUpdate (templates : RevisionMap) (found : Option ModelService) (asked : Command) (s : ServiceParts) (effects : List Effect) : Type 0 where
   pub changes : Changes templates found asked s effects
   pub count : s.runs.count ≡ length (after found s.service effects).past.runs
   pub made : found ≡ None → asked ≡ command.Service (made_as s.service)
+  pub new : makes_service asked ≡ true → found ≡ None
+  pub there : makes_service asked ≡ false → (m : ModelService) × (found ≡ Some m)
   pub begun : begins asked ≡ true → bound_refusal (newest templates) s.service.strategy ≡ None
 
 counted : KeepsWhatIsSeen → (desk : Desk) (now : ℕ) (asked : Command) (s : ServiceParts) (effects : List Effect) → change.Service s effects ≡ change_of (ruling_on desk now asked).change → desk_with desk asked (change.Service s effects) ≡ (apply desk now asked).desk
@@ -167,6 +189,8 @@ updating commands keeps desk now asked s effects order is then =
         changes = changes;
         count = counted keeps desk now asked s effects is then;
         made = λ none. made_new known now asked s effects (subst (λ (o : Option ModelService). change.Service s effects ≡ change_of (model_decision known (option_map model_evolution o) now asked).change) none is);
+        new = λ makes. none_before known found now asked s effects makes is;
+        there = λ makes. one_before known found now asked s effects makes is;
         begun = λ begin. begun_if known found now asked s effects changes.strategy begin is;
       }),
     )

@@ -1,75 +1,75 @@
-pub mod Keys
-pub mod RowsBack
-pub mod InOrder
-pub mod Numbered
-pub mod RevisionsBack
-pub mod BindingsBack
-pub mod ReadBack
-pub mod Empty
-pub mod Found
-pub mod BoundWholly
-pub mod RunsFound
-pub mod PastRows
-pub mod Filters
-pub mod Pushed
-pub mod RunsAt
-pub mod OneHappens
-pub mod RunsClosed
-pub mod Few
-pub mod RunsMeasured
-pub mod BindingsPut
-pub mod RunsOpened
-pub mod EffectsHappen
-pub mod SettledKeys
-pub mod SettledPasts
-pub mod Callers
-pub mod PassKeeps
-pub mod DesksRuled
-pub mod DesksPut
-pub mod Rebound
-pub mod Desks
-pub mod SettledReadable
-pub mod SettledLawful
-pub mod Settled
-pub mod Soundness
-pub mod Strays
-pub mod Numbers
-pub mod Named
-pub mod CommandTexts
-pub mod JudgedCallers
-pub mod CallersHold
-pub mod CallersJudged
-pub mod CountingLemmas
-pub mod CountingExact
-pub mod Levels
-pub mod CountingRuns
-pub mod Parts
-pub mod NamedRows
-pub mod RowTexts
-pub mod MeasurementRows
-pub mod ServicesJudgedLists
-pub mod Templates
-pub mod TemplatesFound
-pub mod KnownRevisions
-pub mod BindingRows
-pub mod KnownRows
-pub mod NamedRevisions
-pub mod JudgedKeys
-pub mod BindingKeys
-pub mod ServicesHoldFacts
-pub mod ServicesHoldLists
-pub mod ServicesHoldRows
-pub mod ServicesHoldRuns
-pub mod ServicesHoldTallies
-pub mod ServicesHoldBindings
-pub mod ServicesHoldSound
-pub mod ServicesHold
-pub mod ServicesJudgedRead
-pub mod ServicesJudgedRuns
-pub mod ServicesJudgedCounted
-pub mod ServicesJudgedOne
-pub mod ServicesJudgedSums
-pub mod ServicesJudged
-pub mod Judging
-pub mod Totals
+mod Keys
+mod RowsBack
+mod InOrder
+mod Numbered
+mod RevisionsBack
+mod BindingsBack
+mod ReadBack
+mod Empty
+mod Found
+mod BoundWholly
+mod RunsFound
+mod PastRows
+mod Filters
+mod Pushed
+mod RunsAt
+mod OneHappens
+mod RunsClosed
+mod Few
+mod RunsMeasured
+mod BindingsPut
+mod RunsOpened
+mod EffectsHappen
+mod SettledKeys
+mod SettledPasts
+mod Callers
+mod PassKeeps
+mod DesksRuled
+mod DesksPut
+mod Rebound
+mod Desks
+mod SettledReadable
+mod SettledLawful
+mod Settled
+mod Soundness
+mod Strays
+mod Numbers
+mod Named
+mod CommandTexts
+mod JudgedCallers
+mod CallersHold
+mod CallersJudged
+mod CountingLemmas
+mod CountingExact
+mod Levels
+mod CountingRuns
+mod Parts
+mod NamedRows
+mod RowTexts
+mod MeasurementRows
+mod ServicesJudgedLists
+mod Templates
+mod TemplatesFound
+mod KnownRevisions
+mod BindingRows
+mod KnownRows
+mod NamedRevisions
+mod JudgedKeys
+mod BindingKeys
+mod ServicesHoldFacts
+mod ServicesHoldLists
+mod ServicesHoldRows
+mod ServicesHoldRuns
+mod ServicesHoldTallies
+mod ServicesHoldBindings
+mod ServicesHoldSound
+mod ServicesHold
+mod ServicesJudgedRead
+mod ServicesJudgedRuns
+mod ServicesJudgedCounted
+mod ServicesJudgedOne
+mod ServicesJudgedSums
+mod ServicesJudged
+mod Judging
+mod Totals
 mod CountLemmas

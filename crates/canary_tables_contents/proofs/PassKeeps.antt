@@ -5,8 +5,8 @@ use Rattle.canary_plan.specs.declared.step.Step.{Step}
 use Rattle.canary_plan.specs.declared.step.Step.TheVariants.{SetWeight, Pause, Analysis}
 use Rattle.canary_release.specs.declared.runs.OpenRun.{OpenRun}
 use Rattle.canary_release.specs.Evolutions.{Evolution, with_service_state, runs_now, end_run, end_runs}
-use Rattle.canary_release.specs.Entering.{begins_background, begin_background, open_background, finish, show_step, enter}
-use Rattle.canary_release.specs.Passing.{next_move, is_by, move_at, chain_end, judged_at, pass}
+use Rattle.canary_release.specs.Rules.Entering.{begins_background, begin_background, open_background, finish, show_step, enter}
+use Rattle.canary_release.specs.Rules.Passing.{next_move, is_by, move_at, chain_end, judged_at, pass}
 
 ended : (at : ℕ) (c : Evolution) (rs : List OpenRun) → (end_runs at c rs).service ≡ c.service
 ended at c [] = refl

@@ -18,6 +18,7 @@ use Rattle.canary_release.specs.Order.{AreNumbered, IsRun, IsInOrder, AreRevisio
 use Rattle.canary_release.specs.Parts.{has_other_revisions}
 use Rattle.canary_release.specs.Pasts.{Run, is_open, counts_of, tallied, tracked}
 use Rattle.canary_release.specs.Stored.{stored_form}
+use Rattle.canary_release.proofs.PartsKept.{fit_of}
 use Rattle.canary_release.specs.Desks.{ModelService, RevisionMap, revisions_of}
 use Rattle.canary_once.specs.declared.record.RunRecord.{RunRecord}
 use Rattle.canary_once.specs.Contents.{Contents}
@@ -36,7 +37,7 @@ use Rattle.canary_tables_contents.specs.Laws.{TalliesAreFound, RunsAreFound, Run
 use Rattle.canary_tables_contents.proofs.Keys.{optional}
 use Rattle.canary_tables_contents.proofs.RowsBack.{closing_back, stand_back, all_at}
 use Rattle.canary_tables_contents.proofs.BindingsBack.{in_order as revisions_in_order, bound_back, analysis_back, open_analysis}
-use Rattle.canary_tables_contents.proofs.BoundWholly.{neither, bound_so}
+use Rattle.canary_tables_contents.proofs.BoundWholly.{neither}
 use Rattle.canary_tables_contents.proofs.InOrder.{filter_twice, filter_map_of, same_one, rises, same_order, none_below}
 use Rattle.canary_tables_contents.proofs.Numbered.{both_in_turn, other_first, either_order, filters_swap, find_first, Follow, follow_above, follow_rises, key_at, at_place, all_filter, rise_filter, rise_map, by_place, map_both, map_then}
 
@@ -282,7 +283,7 @@ own_open_runs templates name m are order =
     let bound : BoundParts = m.service.bound in
     let open_runs : List Run = filter is_open m.past.runs in
     let P : Run → Type 0 = λ r. tallied_by bound r ≡ tallied r in
-    let same : list_any (has_other_revisions m.service) (map tallied open_runs) ≡ false = (bound_so (stored_form m) order.parts).same in
+    let same : list_any (has_other_revisions m.service) (map tallied open_runs) ≡ false = (fit_of (stored_form m) order.parts).0.same in
     map_both (with_analysis bound) tallied tallied open_runs (each open_runs (all_filter is_open (IsRun templates m) m.past.runs order.runs) same)
   where
     each : (rs : List Run) → AllByRecursion (IsRun templates m) rs → list_any (has_other_revisions m.service) (map tallied rs) ≡ false → AllByRecursion (λ (r : Run). tallied_by m.service.bound r ≡ tallied r) rs

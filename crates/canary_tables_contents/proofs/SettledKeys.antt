@@ -1,10 +1,9 @@
 -- Rows under a key, where one row is added or those of a key are changed, and maps that change at one name.
 use Rattle.std.proofs.Common.{◌≡◌, ℕ, List, [], ◌∷◌, map, Bool, true, false, Some, refl, sym, ap, ◌∙◌}
-use Rattle.std.specs.Prelude.{Option, cond, if◌then◌else◌, ◌||◌, filter}
+use Rattle.std.specs.Prelude.{Option, cond, if◌then◌else◌, filter}
 use Rattle.std.specs.Ordering.{nat_cmp}
 use Rattle.std.specs.Cmp.Lexicographic.{slice_cmp, nat_list_cmp_total}
 use Rattle.std.specs.Str.{bytes_eq}
-use Rattle.std.specs.List.{list_any}
 use Rattle.std.specs.FinMap.{FinMap, get, insert, get-insert}
 use Rattle.std.proofs.lemmas.Map.Text.{is_eq-slice_cmp}
 use Rattle.std.proofs.lemmas.Slice.Eq.{bytes_eq-Decides}
@@ -57,18 +56,3 @@ filter_changed p f same (row ∷ rows) = (λ i. cond (same row i) (f row ∷ fil
 -- a change that leaves the key changes what is found under it
 pub changed_under : {R : Type 0} (p test : R → Bool) (change : R → R) → ((row : R) → p (change row) ≡ p row) → (rows : List R) → filter p (change_where test change rows) ≡ change_where test change (filter p rows)
 changed_under p test change same rows = filter_changed p (λ row. if test row then change row else row) (λ row. kept_by_change p change same row (test row)) rows
-
--- Rows that are there.
-
-abbrev pub is_any : {R : Type 0} → List R → Bool
-is_any [] = false
-is_any (row ∷ rows) = true
-
-any_there : {R : Type 0} (p : R → Bool) (row : R) (rows : List R) (b found : Bool) → found ≡ is_any (filter p rows) → (b || found) ≡ is_any (cond b (row ∷ filter p rows) (filter p rows))
-any_there p row rows true found e = refl
-any_there p row rows false found e = e
-
--- a row passes the test exactly where the filter finds one
-pub any_found : {R : Type 0} (p : R → Bool) (rows : List R) → list_any p rows ≡ is_any (filter p rows)
-any_found p [] = refl
-any_found p (row ∷ rows) = any_there p row rows (p row) (list_any p rows) (any_found p rows)

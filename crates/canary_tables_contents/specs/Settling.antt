@@ -4,7 +4,9 @@ use Rattle.std.specs.List.{AllByRecursion, list_any}
 use Rattle.canary_condition.specs.PhaseTexts.{phase_of_number}
 use Rattle.canary_plan.specs.declared.analysis_parts.Revision.{Revision}
 use Rattle.canary_plan.specs.declared.command.Command.{Command}
-use Rattle.canary_plan.specs.declared.command.Command.TheVariants.{Start, Retry}
+use Rattle.canary_plan.specs.declared.command.CommandKind.{CommandKind}
+use Rattle.canary_plan.specs.declared.command.CommandKind.TheVariants as kind
+use Rattle.canary_plan.specs.Commands.{kind_of}
 use Rattle.canary_plan.specs.Plans.{all_revisions, distinct}
 use Rattle.canary_canonical.specs.Texts.{command_text}
 use Rattle.canary_release.specs.declared.effect.Effect.{Effect}
@@ -14,7 +16,7 @@ use Rattle.canary_release.specs.declared.service.ServiceParts.{ServiceParts}
 use Rattle.canary_release.specs.declared.decide.DeskChange.{DeskChange}
 use Rattle.canary_release.specs.declared.decide.DeskChange.TheVariants.{Nothing, Template as AddsTemplate, Service as Updates}
 use Rattle.canary_once.specs.declared.book.Settlement.{Settlement}
-use Rattle.canary_tables_rows.specs.Tables.{Tables, is_service, is_binding_of}
+use Rattle.canary_tables_rows.specs.Tables.{Tables, is_binding_of}
 use Rattle.canary_tables_rows.specs.Changes.{with_caller, with_settled, with_kept, with_revision, with_service, with_standing, with_binding, with_bound, with_run, with_measurement, with_counted, with_ending, with_line, tallies_opened, HasCaller, HasService, HasBinding, HasRun, HasTally}
 use Rattle.canary_tables_contents.specs.Numbers.{phase_column}
 use Rattle.canary_tables_contents.specs.Values.{caller_row, kept_row, binding_row, standing_of, ending_of, measurement_row, history_row}
@@ -62,22 +64,31 @@ abbrev pub all_happened : List ℕ → List Effect → Tables → Tables
 all_happened name [] t = t
 all_happened name (x ∷ xs) t = all_happened name xs (happened name x t)
 
-abbrev pub has_service : List ℕ → Tables → Bool
-has_service name t = list_any (is_service name) t.services
+abbrev pub is_making : CommandKind → Bool
+is_making kind.Service = true
+is_making other = false
 
--- the service stands so: it is there, or was made by this command
+-- the command makes a service; another one is on a service that is there
+abbrev pub makes_service : Command → Bool
+makes_service command = is_making (kind_of command)
+
+-- the service stands so: it is made by this command, or was there
 abbrev pub service_put : Command → ServiceParts → Tables → Tables
 service_put command s t =
     let name = s.service.name in
     let standing = standing_of s.service s.runs.count in
-    if has_service name t then with_standing name standing t
-    else with_service (record { name = name; spec = command_text command; standing = standing }) t
+    if makes_service command
+    then with_service (record { name = name; spec = command_text command; standing = standing }) t
+    else with_standing name standing t
+
+abbrev pub is_beginning : CommandKind → Bool
+is_beginning kind.Start = true
+is_beginning kind.Retry = true
+is_beginning other = false
 
 -- a command that begins an attempt binds it
 abbrev pub begins : Command → Bool
-begins (Start name version) = true
-begins (Retry name) = true
-begins other = false
+begins command = is_beginning (kind_of command)
 
 abbrev pub has_bindings : List ℕ → Tables → Bool
 has_bindings name t = list_any (is_binding_of name 0) t.bindings
@@ -138,7 +149,7 @@ CallerAsks name number t = (number == 1) ≡ false → HasCaller name t
 
 pub record ServiceAsks (command : Command) (s : ServiceParts) (effects : List Effect)
     (t : Tables) : Type 0 where
-  pub service : has_service s.service.name t ≡ true → HasService s.service.name t
+  pub service : makes_service command ≡ false → HasService s.service.name t
   pub bindings : BindingsAsk command s (service_put command s t)
   pub effects_ask : AllAsk s.service.name effects (bindings_put command s (service_put command s t))
 

@@ -5,7 +5,7 @@ ghost use Rattle.std.specs.Option.{option_copied};
 ghost use Rattle.canary_metric.specs.Measurements.{is_measured};
 ghost use Rattle.canary_once.specs.declared.record.RunRecord.{RunRecord};
 ghost use Rattle.canary_release.specs.Pasts.{change_at};
-ghost use Rattle.canary_release.specs.Recording.{is_not_full};
+ghost use Rattle.canary_release.specs.Rules.Recording.{is_not_full};
 ghost use Rattle.canary_release.specs.Watching.{counted};
 ghost use Rattle.canary_tables_contents.specs.Counting.{of_metric, counted_at};
 

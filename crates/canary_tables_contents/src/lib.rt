@@ -5,8 +5,8 @@
 //! these, if all of them can be read back; tables without rows hold empty contents. Where tables
 //! hold contents, a settled request finds what its statements ask for, and after them they hold the
 //! contents with that request; under each key stands one row at most, and what is sought under it
-//! is read of its rows, none passed over. `writing` and `reading` turn values into what rows have,
-//! and back; what stands for no value is `Broken`.
+//! is read of its rows, and none is left out. `writing` and `reading` turn values into what rows
+//! have, and back; what stands for no value is `Broken`.
 //!
 //! In use (canary_tables, src/pages.rt):
 //!
@@ -33,7 +33,7 @@
 //! the tallies of the runs; `has_own_verdict` holds exactly where `HasOwnVerdict` does. The metrics
 //! of a run are those of its own analysis.
 //!
-//! In use (canary_tables_adopt, src/measured.rt):
+//! In use (canary_tables_adopt, src/one_service/measured.rt):
 //!
 //!     if count_next(runs, &mut counts, &measurement) {
 //!         Ok(counts)

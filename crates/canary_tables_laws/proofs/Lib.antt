@@ -1,2 +1,2 @@
-pub mod TableBooks
-pub mod FirstDesks
+mod TableBooks
+mod FirstDesks

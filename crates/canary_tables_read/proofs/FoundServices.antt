@@ -6,7 +6,6 @@ use Rattle.sqlite.specs.declared.types.Value.TheVariants.{Text as Words}
 use Rattle.sqlite.specs.Order.{Row, column}
 use Rattle.sqlite.specs.State.{State, Shown}
 use Rattle.canary_tables_rows.specs.declared.rows.RevisionRow.{RevisionRow}
-use Rattle.canary_tables_rows.specs.declared.rows.ServiceRow.{ServiceRow}
 use Rattle.canary_tables_rows.specs.declared.rows.BindingRow.{BindingRow}
 use Rattle.canary_tables_rows.specs.Tables.{Tables, is_revision, is_revision_of, is_service, is_binding_of}
 use Rattle.canary_tables_schema.specs.Layout.{service_at, revision_at, binding_at}
@@ -19,7 +18,7 @@ use Rattle.canary_tables_read.proofs.Asking.{all_found}
 use Rattle.canary_tables_read.proofs.Newest.{IsFirst}
 use Rattle.canary_tables_read.proofs.Ordering.{NotBehind, not_above, listed_found}
 use Rattle.canary_tables_read.proofs.Tests.{and_true, words_same, same_words, both_same, first_same}
-use Rattle.canary_tables_read.proofs.Texts.{revision_text, revision_tests, revision_shown, revision_asks, newest_text, newest_tests, newest_asks, only_one, bindings_text, bindings_tests, bindings_shown, bindings_asks, has_bindings_text, has_bindings_tests, has_bindings_shown, has_bindings_asks, service_text, service_tests, service_shown, service_asks, has_service_text, has_service_tests, has_service_shown, has_service_asks}
+use Rattle.canary_tables_read.proofs.Texts.{revision_text, revision_tests, revision_shown, revision_asks, newest_text, newest_tests, newest_asks, only_one, bindings_text, bindings_tests, bindings_shown, bindings_asks, has_bindings_text, has_bindings_tests, has_bindings_shown, has_bindings_asks, service_text, service_tests, service_shown, service_asks}
 use Rattle.canary_tables_read.proofs.TypedRows.{Tells, taken}
 
 tells_revision : (name : List ℕ) (number : ℕ) → Tells revision_cells (is_revision name number) revision_cells (λ row. Words name ∷ row) (passes revision_tests (Words name ∷ integer number ∷ [])) (shows revision_shown (Words name ∷ integer number ∷ []))
@@ -92,16 +91,6 @@ binding_rows old new t service run params rows has given h =
     all_found bindings_text binding_at bindings_tests bindings_shown bindings_asks binding_cells (is_binding_of service run) binding_cells (λ row. Words service ∷ row) (Words service ∷ integer run ∷ []) (tells_binding service run) t.bindings rows
     (record { old = old; new = new; layout = has.layout; schema = has.holds.schema; numbered = has.holds.numbered.1.1.1.1.1.1.1.1.0; stored = has.holds.bindings; shows_rows = subst (λ p. Shown bindings_text p old new rows) given h })
 
-abbrev name_of : ServiceRow → Row
-name_of x = Words x.name ∷ []
-
-tells_name : (name : List ℕ) → Tells service_cells (is_service name) name_of (λ row. row) (passes has_service_tests (Words name ∷ [])) (shows has_service_shown (Words name ∷ []))
-tells_name name = record {
-  filled = λ x. (_, _, refl);
-  tests = λ id x. and_true _ ∙ words_same x.name name;
-  shown = λ id x h. refl;
-}
-
 same_length : {A B C : Type 0} (f : A → C) (g : B → C) (xs : List A) (ys : List B) → map f xs ≡ map g ys → length xs ≡ length ys
 same_length f g [] [] e = refl
 same_length f g [] (y ∷ ys) e = absurd (cc)
@@ -115,14 +104,6 @@ twice false = refl
 -- a row is shown where one passes the test
 some_shown : {X : Type 0} (whole : Row → Row) (told : X → Row) (test : X → Bool) (xs : List X) (rows : List Row) → map whole rows ≡ map told (filter test xs) → not (length rows == 0) ≡ list_any test xs
 some_shown whole told test xs rows found = ap (λ n. not (n == 0)) (same_length whole told rows (filter test xs) found) ∙ ap not (none_counted test xs) ∙ twice _
-
--- a row is shown where there is such a service
-pub has_service_found : (old new : State) (t : Tables) (name : List ℕ) (params : Row) (rows : List Row) → Stores old t → params ≡ Words name ∷ [] → Shown has_service_text params old new rows
-    → not (length rows == 0) ≡ list_any (is_service name) t.services
-has_service_found old new t name params rows has given h =
-    let found = all_found has_service_text service_at has_service_tests has_service_shown has_service_asks service_cells (is_service name) name_of (λ row. row) (Words name ∷ []) (tells_name name) t.services rows
-    (record { old = old; new = new; layout = has.layout; schema = has.holds.schema; numbered = has.holds.numbered.1.1.1.0; stored = has.holds.services; shows_rows = subst (λ p. Shown has_service_text p old new rows) given h }) in
-    some_shown (λ row. row) name_of (is_service name) t.services rows found
 
 abbrev template_of : BindingRow → Row
 template_of x = Words x.template ∷ []

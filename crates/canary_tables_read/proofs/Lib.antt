@@ -1,32 +1,32 @@
-pub mod Queries
-pub mod Answer
-pub mod TypedRows
-pub mod Tests
-pub mod ByColumns
-pub mod Breaking
-pub mod Asking
-pub mod Ordering
-pub mod Texts
-pub mod Fronts
-pub mod Newest
-pub mod FoundCallers
-pub mod FoundServices
-pub mod FoundRuns
-pub mod FoundLines
-pub mod FoundPages
-pub mod FoundRunPages
-pub mod Holding
-pub mod FoundLists
-pub mod Counting
-pub mod CountTexts
-pub mod Seeking
-pub mod SeekTexts
-pub mod Holdings
-pub mod StrictRows
-pub mod TableRows
-pub mod DeskRows
-pub mod Sequence
-pub mod MetaRows
+mod Queries
+mod Answer
+mod TypedRows
+mod Tests
+mod ByColumns
+mod Breaking
+mod Asking
+mod Ordering
+mod Texts
+mod Fronts
+mod Newest
+mod FoundCallers
+mod FoundServices
+mod FoundRuns
+mod FoundLines
+mod FoundPages
+mod FoundRunPages
+mod Holding
+mod FoundLists
+mod Counting
+mod CountTexts
+mod Seeking
+mod SeekTexts
+mod Holdings
+mod StrictRows
+mod TableRows
+mod DeskRows
+mod Sequence
+mod MetaRows
 mod FirstTexts
 mod FoundMetrics
 mod PlacedLists

@@ -107,25 +107,6 @@ service_asks made = record { names = _; is = refl; plain = (refl, refl); unliste
 service_asks moved = record { names = _; is = refl; plain = (refl, refl); unlisted = refl }
 service_asks packed = record { names = _; is = refl; plain = (refl, refl); unlisted = refl }
 
-abbrev pub has_service_text : List ℕ
-has_service_text = codes "SELECT name FROM service WHERE name = ?1 ORDER BY rowid"
-
-abbrev pub has_service_tests : List Term
-has_service_tests = equals 1 0 ∷ []
-
-abbrev pub has_service_shown : List Term
-has_service_shown = col 1 1 ∷ []
-
-pub has_service_query : IsQuery has_service_text
-unfolding everything
-has_service_query = tt
-
-pub has_service_asks : Asks has_service_text service_at has_service_tests has_service_shown (by_column 0) no_limit from_start
-unfolding understood everything
-has_service_asks made = record { names = _; is = refl; plain = (refl, refl); unlisted = refl }
-has_service_asks moved = record { names = _; is = refl; plain = (refl, refl); unlisted = refl }
-has_service_asks packed = record { names = _; is = refl; plain = (refl, refl); unlisted = refl }
-
 abbrev pub bindings_text : List ℕ
 bindings_text = codes "SELECT run, template, revision FROM binding WHERE service = ?1 AND run = ?2 ORDER BY rowid"
 

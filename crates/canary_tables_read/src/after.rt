@@ -9,9 +9,9 @@ ghost use Rattle.canary_tables_rows.specs.Limits.{IsMeasurementWithin};
 ghost use Rattle.canary_tables_rows.specs.Tables.{Tables};
 ghost use Rattle.canary_tables_schema.specs.Stores.{IsUsable, Stores};
 ghost use Rattle.canary_tables_read.specs.Breaks.{BreaksUnless};
-ghost use Rattle.canary_tables_read.specs.Finds.{IsSame, FindsRows};
+ghost use Rattle.canary_tables_read.specs.Finds.{FindsRows};
 ghost use Rattle.canary_tables_read.specs.Places.{placed_for, IsMark, IsPlacedPage};
-ghost use Rattle.canary_tables_read.specs.Reader.{IsKept};
+ghost use Rattle.canary_tables_read.specs.Reader.{Reads};
 
 use crate::columns;
 use crate::fault::ReadFault;
@@ -93,10 +93,7 @@ pub fn measurements<Q: Reader>(
     most: u32,
 ) -> Result<Listed<MeasurementAt>, ReadFault>
     requires ready { Q.IsReady conn.old }
-    ensures mode { Q.IsReady conn.new }
-    ensures place { Q.place conn.new ≡ Q.place conn.old }
-    ensures kept { IsKept (Q.below conn.old) (Q.below conn.new) }
-    ensures same { IsSame (Q.shows conn.old) (Q.shows conn.new) }
+    ensures reads { Reads Q.IsReady Q.place Q.below Q.shows conn.old conn.new }
     ensures found { IsUsable (Q.shows conn.new) → (t : Tables) → Stores (Q.shows conn.old) t
         → IfSome place (IsMark (Q.shows conn.old).now service.now from)
         → IfOk result (IsPlacedPage (Q.shows conn.old).now t service.now from most) }
@@ -144,10 +141,7 @@ fn from_index<Q: Reader>(
     most: u32,
 ) -> Result<Listed<MeasurementAt>, ReadFault>
     requires ready { Q.IsReady conn.old }
-    ensures mode { Q.IsReady conn.new }
-    ensures place { Q.place conn.new ≡ Q.place conn.old }
-    ensures kept { IsKept (Q.below conn.old) (Q.below conn.new) }
-    ensures same { IsSame (Q.shows conn.old) (Q.shows conn.new) }
+    ensures reads { Reads Q.IsReady Q.place Q.below Q.shows conn.old conn.new }
     ensures found { FindsRows
         (λ _. take most (drop from (placed_for service.now (Q.shows conn.old).now)))
         (Q.shows conn.old) (Q.shows conn.new) result }
@@ -173,10 +167,7 @@ fn after<Q: Reader>(
     most: u32,
 ) -> Result<Listed<MeasurementAt>, ReadFault>
     requires ready { Q.IsReady conn.old }
-    ensures mode { Q.IsReady conn.new }
-    ensures place { Q.place conn.new ≡ Q.place conn.old }
-    ensures kept { IsKept (Q.below conn.old) (Q.below conn.new) }
-    ensures same { IsSame (Q.shows conn.old) (Q.shows conn.new) }
+    ensures reads { Reads Q.IsReady Q.place Q.below Q.shows conn.old conn.new }
     ensures found { FindsRows
         (λ _. take most
         (filter (λ p. int_lt place p.place) (placed_for service.now (Q.shows conn.old).now)))

@@ -5,9 +5,9 @@ ghost use Rattle.sqlite.specs.declared.types.Value.TheVariants.{Text as Words};
 ghost use Rattle.canary_tables_rows.specs.Tables.{is_caller, is_kept};
 ghost use Rattle.canary_tables_rows.specs.Limits.{IsCallerWithin, IsKeptWithin};
 ghost use Rattle.canary_tables_schema.specs.Cells.{caller_cells, kept_cells};
-ghost use Rattle.canary_tables_read.specs.Finds.{IsSame, FindsRows, FindsSuch, TellsCells, first};
+ghost use Rattle.canary_tables_read.specs.Finds.{FindsRows, FindsSuch, TellsCells, first};
 ghost use Rattle.canary_tables_read.specs.Breaks.{BreaksUnless};
-ghost use Rattle.canary_tables_read.specs.Reader.{IsKept};
+ghost use Rattle.canary_tables_read.specs.Reader.{Reads};
 
 use crate::fault::ReadFault;
 use crate::from_row;
@@ -24,10 +24,7 @@ use std::alloc::Global;
 /// hold.
 pub fn settled<Q: Reader>(conn: &mut Q, caller: &Name) -> Result<Option<u32>, ReadFault>
     requires ready { Q.IsReady conn.old }
-    ensures mode { Q.IsReady conn.new }
-    ensures place { Q.place conn.new ≡ Q.place conn.old }
-    ensures kept { IsKept (Q.below conn.old) (Q.below conn.new) }
-    ensures same { IsSame (Q.shows conn.old) (Q.shows conn.new) }
+    ensures reads { Reads Q.IsReady Q.place Q.below Q.shows conn.old conn.new }
     ensures found { FindsRows
         (λ t. option_map (λ row. row.settled) (first (filter (is_caller caller.now) t.callers)))
         (Q.shows conn.old) (Q.shows conn.new) result }
@@ -47,10 +44,7 @@ pub fn caller_rows<Q: Reader>(
     name: &Name,
 ) -> Result<Listed<CallerRow>, ReadFault>
     requires ready { Q.IsReady conn.old }
-    ensures mode { Q.IsReady conn.new }
-    ensures place { Q.place conn.new ≡ Q.place conn.old }
-    ensures kept { IsKept (Q.below conn.old) (Q.below conn.new) }
-    ensures same { IsSame (Q.shows conn.old) (Q.shows conn.new) }
+    ensures reads { Reads Q.IsReady Q.place Q.below Q.shows conn.old conn.new }
     ensures found { FindsRows (λ t. filter (is_caller name.now) t.callers)
         (Q.shows conn.old) (Q.shows conn.new) result }
     ensures broken { BreaksUnless (λ t. AllByRecursion IsCallerWithin t.callers)
@@ -63,10 +57,7 @@ pub fn caller_rows<Q: Reader>(
 // What is shown of the caller's rows, behind its name.
 fn caller_shown<Q: Reader>(conn: &mut Q, name: &Name) -> Result<Vec<Row>, StoreFault>
     requires ready { Q.IsReady conn.old }
-    ensures mode { Q.IsReady conn.new }
-    ensures place { Q.place conn.new ≡ Q.place conn.old }
-    ensures kept { IsKept (Q.below conn.old) (Q.below conn.new) }
-    ensures same { IsSame (Q.shows conn.old) (Q.shows conn.new) }
+    ensures reads { Reads Q.IsReady Q.place Q.below Q.shows conn.old conn.new }
     ensures found { FindsSuch (λ t rows. TellsCells caller_cells (λ row. Words name.now ∷ row)
         (filter (is_caller name.now) t.callers) rows.items)
         (Q.shows conn.old) (Q.shows conn.new) result }
@@ -86,10 +77,7 @@ pub fn kept<Q: Reader>(
     number: u32,
 ) -> Result<Option<KeptRow>, ReadFault>
     requires ready { Q.IsReady conn.old }
-    ensures mode { Q.IsReady conn.new }
-    ensures place { Q.place conn.new ≡ Q.place conn.old }
-    ensures kept { IsKept (Q.below conn.old) (Q.below conn.new) }
-    ensures same { IsSame (Q.shows conn.old) (Q.shows conn.new) }
+    ensures reads { Reads Q.IsReady Q.place Q.below Q.shows conn.old conn.new }
     ensures found { FindsRows (λ t. first (filter (is_kept caller.now number) t.kept))
         (Q.shows conn.old) (Q.shows conn.new) result }
     ensures broken { BreaksUnless (λ t. AllByRecursion IsKeptWithin t.kept)
@@ -102,10 +90,7 @@ pub fn kept<Q: Reader>(
 // What is shown of the request's rows, behind the caller.
 fn kept_shown<Q: Reader>(conn: &mut Q, caller: &Name, number: u32) -> Result<Vec<Row>, StoreFault>
     requires ready { Q.IsReady conn.old }
-    ensures mode { Q.IsReady conn.new }
-    ensures place { Q.place conn.new ≡ Q.place conn.old }
-    ensures kept { IsKept (Q.below conn.old) (Q.below conn.new) }
-    ensures same { IsSame (Q.shows conn.old) (Q.shows conn.new) }
+    ensures reads { Reads Q.IsReady Q.place Q.below Q.shows conn.old conn.new }
     ensures found { FindsSuch (λ t rows. TellsCells kept_cells (λ row. Words caller.now ∷ row)
         (filter (is_kept caller.now number) t.kept) rows.items)
         (Q.shows conn.old) (Q.shows conn.new) result }

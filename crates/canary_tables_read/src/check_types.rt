@@ -11,8 +11,7 @@ ghost use Rattle.canary_tables_schema.specs.Cells.{measurement_cells, history_ce
 ghost use Rattle.canary_tables_schema.specs.Cells.{revision_cells, binding_cells, tally_cells};
 ghost use Rattle.canary_tables_read.specs.TreeRows.{HasCells, HasEarlyRows, HasLateRows, Assures, Denies};
 ghost use Rattle.canary_tables_read.specs.Queries.{IsQuery};
-ghost use Rattle.canary_tables_read.specs.Finds.{IsSame};
-ghost use Rattle.canary_tables_read.specs.Reader.{IsKept};
+ghost use Rattle.canary_tables_read.specs.Reader.{Reads};
 
 use crate::fault::ReadFault;
 use crate::reader::Reader;
@@ -22,10 +21,7 @@ use crate::reader::Reader;
 /// negative.
 pub fn check_types<Q: Reader>(conn: &mut Q) -> Result<(), ReadFault>
     requires ready { Q.IsReady conn.old }
-    ensures mode { Q.IsReady conn.new }
-    ensures place { Q.place conn.new ≡ Q.place conn.old }
-    ensures kept { IsKept (Q.below conn.old) (Q.below conn.new) }
-    ensures same { IsSame (Q.shows conn.old) (Q.shows conn.new) }
+    ensures reads { Reads Q.IsReady Q.place Q.below Q.shows conn.old conn.new }
     ensures typed { IsUsable (Q.shows conn.new) → IsFormed (Q.shows conn.old).now
         → HasWholeTallies (Q.shows conn.old).now
         → OnOk result (HasRows (Q.shows conn.old).now) }
@@ -41,10 +37,7 @@ pub fn check_types<Q: Reader>(conn: &mut Q) -> Result<(), ReadFault>
 // negative.
 fn early_typed<Q: Reader>(conn: &mut Q) -> Result<(), ReadFault>
     requires ready { Q.IsReady conn.old }
-    ensures mode { Q.IsReady conn.new }
-    ensures place { Q.place conn.new ≡ Q.place conn.old }
-    ensures kept { IsKept (Q.below conn.old) (Q.below conn.new) }
-    ensures same { IsSame (Q.shows conn.old) (Q.shows conn.new) }
+    ensures reads { Reads Q.IsReady Q.place Q.below Q.shows conn.old conn.new }
     ensures typed { Assures HasEarlyRows
         (Q.shows conn.old) (Q.shows conn.new) result }
     ensures broken { Denies HasEarlyRows
@@ -60,10 +53,7 @@ fn early_typed<Q: Reader>(conn: &mut Q) -> Result<(), ReadFault>
 // tallies is negative.
 fn late_typed<Q: Reader>(conn: &mut Q) -> Result<(), ReadFault>
     requires ready { Q.IsReady conn.old }
-    ensures mode { Q.IsReady conn.new }
-    ensures place { Q.place conn.new ≡ Q.place conn.old }
-    ensures kept { IsKept (Q.below conn.old) (Q.below conn.new) }
-    ensures same { IsSame (Q.shows conn.old) (Q.shows conn.new) }
+    ensures reads { Reads Q.IsReady Q.place Q.below Q.shows conn.old conn.new }
     ensures typed { Assures (λ at db. HasWholeTallies db → HasLateRows at db)
         (Q.shows conn.old) (Q.shows conn.new) result }
     ensures broken { Denies HasLateRows
@@ -79,10 +69,7 @@ fn late_typed<Q: Reader>(conn: &mut Q) -> Result<(), ReadFault>
 // That no number in `caller` is negative; else `Broken`.
 fn callers_typed<Q: Reader>(conn: &mut Q) -> Result<(), ReadFault>
     requires ready { Q.IsReady conn.old }
-    ensures mode { Q.IsReady conn.new }
-    ensures place { Q.place conn.new ≡ Q.place conn.old }
-    ensures kept { IsKept (Q.below conn.old) (Q.below conn.new) }
-    ensures same { IsSame (Q.shows conn.old) (Q.shows conn.new) }
+    ensures reads { Reads Q.IsReady Q.place Q.below Q.shows conn.old conn.new }
     ensures typed { Assures (λ at db. HasCells caller_cells (db.trees 1))
         (Q.shows conn.old) (Q.shows conn.new) result }
     ensures broken { Denies (λ at db. HasCells caller_cells (db.trees 1))
@@ -95,10 +82,7 @@ fn callers_typed<Q: Reader>(conn: &mut Q) -> Result<(), ReadFault>
 // That no number in `kept` is negative; else `Broken`.
 fn kept_typed<Q: Reader>(conn: &mut Q) -> Result<(), ReadFault>
     requires ready { Q.IsReady conn.old }
-    ensures mode { Q.IsReady conn.new }
-    ensures place { Q.place conn.new ≡ Q.place conn.old }
-    ensures kept { IsKept (Q.below conn.old) (Q.below conn.new) }
-    ensures same { IsSame (Q.shows conn.old) (Q.shows conn.new) }
+    ensures reads { Reads Q.IsReady Q.place Q.below Q.shows conn.old conn.new }
     ensures typed { Assures (λ at db. HasCells kept_cells (db.trees 3))
         (Q.shows conn.old) (Q.shows conn.new) result }
     ensures broken { Denies (λ at db. HasCells kept_cells (db.trees 3))
@@ -114,10 +98,7 @@ fn kept_typed<Q: Reader>(conn: &mut Q) -> Result<(), ReadFault>
 // That no number in `service` is negative; else `Broken`.
 fn services_typed<Q: Reader>(conn: &mut Q) -> Result<(), ReadFault>
     requires ready { Q.IsReady conn.old }
-    ensures mode { Q.IsReady conn.new }
-    ensures place { Q.place conn.new ≡ Q.place conn.old }
-    ensures kept { IsKept (Q.below conn.old) (Q.below conn.new) }
-    ensures same { IsSame (Q.shows conn.old) (Q.shows conn.new) }
+    ensures reads { Reads Q.IsReady Q.place Q.below Q.shows conn.old conn.new }
     ensures typed { Assures (λ at db. HasCells service_cells (db.trees (service_at at)))
         (Q.shows conn.old) (Q.shows conn.new) result }
     ensures broken { Denies (λ at db. HasCells service_cells (db.trees (service_at at)))
@@ -135,10 +116,7 @@ fn services_typed<Q: Reader>(conn: &mut Q) -> Result<(), ReadFault>
 // That no number in `run` is negative; else `Broken`.
 fn runs_typed<Q: Reader>(conn: &mut Q) -> Result<(), ReadFault>
     requires ready { Q.IsReady conn.old }
-    ensures mode { Q.IsReady conn.new }
-    ensures place { Q.place conn.new ≡ Q.place conn.old }
-    ensures kept { IsKept (Q.below conn.old) (Q.below conn.new) }
-    ensures same { IsSame (Q.shows conn.old) (Q.shows conn.new) }
+    ensures reads { Reads Q.IsReady Q.place Q.below Q.shows conn.old conn.new }
     ensures typed { Assures (λ at db. HasCells run_cells (db.trees (run_at at)))
         (Q.shows conn.old) (Q.shows conn.new) result }
     ensures broken { Denies (λ at db. HasCells run_cells (db.trees (run_at at)))
@@ -156,10 +134,7 @@ fn runs_typed<Q: Reader>(conn: &mut Q) -> Result<(), ReadFault>
 // That no number in `measurement` is negative; else `Broken`.
 fn measurements_typed<Q: Reader>(conn: &mut Q) -> Result<(), ReadFault>
     requires ready { Q.IsReady conn.old }
-    ensures mode { Q.IsReady conn.new }
-    ensures place { Q.place conn.new ≡ Q.place conn.old }
-    ensures kept { IsKept (Q.below conn.old) (Q.below conn.new) }
-    ensures same { IsSame (Q.shows conn.old) (Q.shows conn.new) }
+    ensures reads { Reads Q.IsReady Q.place Q.below Q.shows conn.old conn.new }
     ensures typed { Assures
         (λ at db. HasCells measurement_cells (db.trees (measurement_at at)))
         (Q.shows conn.old) (Q.shows conn.new) result }
@@ -177,10 +152,7 @@ fn measurements_typed<Q: Reader>(conn: &mut Q) -> Result<(), ReadFault>
 // That no number in `history` is negative; else `Broken`.
 fn history_typed<Q: Reader>(conn: &mut Q) -> Result<(), ReadFault>
     requires ready { Q.IsReady conn.old }
-    ensures mode { Q.IsReady conn.new }
-    ensures place { Q.place conn.new ≡ Q.place conn.old }
-    ensures kept { IsKept (Q.below conn.old) (Q.below conn.new) }
-    ensures same { IsSame (Q.shows conn.old) (Q.shows conn.new) }
+    ensures reads { Reads Q.IsReady Q.place Q.below Q.shows conn.old conn.new }
     ensures typed { Assures (λ at db. HasCells history_cells (db.trees (history_at at)))
         (Q.shows conn.old) (Q.shows conn.new) result }
     ensures broken { Denies (λ at db. HasCells history_cells (db.trees (history_at at)))
@@ -193,10 +165,7 @@ fn history_typed<Q: Reader>(conn: &mut Q) -> Result<(), ReadFault>
 // That no number in `revision` is negative; else `Broken`.
 fn revisions_typed<Q: Reader>(conn: &mut Q) -> Result<(), ReadFault>
     requires ready { Q.IsReady conn.old }
-    ensures mode { Q.IsReady conn.new }
-    ensures place { Q.place conn.new ≡ Q.place conn.old }
-    ensures kept { IsKept (Q.below conn.old) (Q.below conn.new) }
-    ensures same { IsSame (Q.shows conn.old) (Q.shows conn.new) }
+    ensures reads { Reads Q.IsReady Q.place Q.below Q.shows conn.old conn.new }
     ensures typed { Assures (λ at db. HasCells revision_cells (db.trees (revision_at at)))
         (Q.shows conn.old) (Q.shows conn.new) result }
     ensures broken { Denies (λ at db. HasCells revision_cells (db.trees (revision_at at)))
@@ -209,10 +178,7 @@ fn revisions_typed<Q: Reader>(conn: &mut Q) -> Result<(), ReadFault>
 // That no number in `binding` is negative; else `Broken`.
 fn bindings_typed<Q: Reader>(conn: &mut Q) -> Result<(), ReadFault>
     requires ready { Q.IsReady conn.old }
-    ensures mode { Q.IsReady conn.new }
-    ensures place { Q.place conn.new ≡ Q.place conn.old }
-    ensures kept { IsKept (Q.below conn.old) (Q.below conn.new) }
-    ensures same { IsSame (Q.shows conn.old) (Q.shows conn.new) }
+    ensures reads { Reads Q.IsReady Q.place Q.below Q.shows conn.old conn.new }
     ensures typed { Assures (λ at db. HasCells binding_cells (db.trees (binding_at at)))
         (Q.shows conn.old) (Q.shows conn.new) result }
     ensures broken { Denies (λ at db. HasCells binding_cells (db.trees (binding_at at)))
@@ -228,10 +194,7 @@ fn bindings_typed<Q: Reader>(conn: &mut Q) -> Result<(), ReadFault>
 // That no number in `tally` is negative; else `Broken`.
 fn tallies_typed<Q: Reader>(conn: &mut Q) -> Result<(), ReadFault>
     requires ready { Q.IsReady conn.old }
-    ensures mode { Q.IsReady conn.new }
-    ensures place { Q.place conn.new ≡ Q.place conn.old }
-    ensures kept { IsKept (Q.below conn.old) (Q.below conn.new) }
-    ensures same { IsSame (Q.shows conn.old) (Q.shows conn.new) }
+    ensures reads { Reads Q.IsReady Q.place Q.below Q.shows conn.old conn.new }
     ensures typed { Assures
         (λ at db. HasWholeTallies db → HasCells tally_cells (db.trees (tally_at at)))
         (Q.shows conn.old) (Q.shows conn.new) result }
@@ -251,10 +214,7 @@ fn tallies_typed<Q: Reader>(conn: &mut Q) -> Result<(), ReadFault>
 fn none_shown<Q: Reader>(conn: &mut Q, text: &str) -> Result<(), ReadFault>
     requires ready { Q.IsReady conn.old }
     requires query { IsQuery text.now }
-    ensures mode { Q.IsReady conn.new }
-    ensures place { Q.place conn.new ≡ Q.place conn.old }
-    ensures kept { IsKept (Q.below conn.old) (Q.below conn.new) }
-    ensures same { IsSame (Q.shows conn.old) (Q.shows conn.new) }
+    ensures reads { Reads Q.IsReady Q.place Q.below Q.shows conn.old conn.new }
     ensures none { IsUsable (Q.shows conn.new)
         → OnOk result (Shown text.now [] (Q.shows conn.old) (Q.shows conn.new) []) }
     ensures some { IsUsable (Q.shows conn.new) → result ≡ Err ReadFault.Broken

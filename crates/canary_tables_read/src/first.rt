@@ -6,10 +6,9 @@ ghost use Rattle.sqlite.specs.Order.{Row as Cells};
 ghost use Rattle.canary_tables_schema.specs.Stores.{IsUsable};
 ghost use Rattle.canary_tables_read.specs.declared.first.TemplateRow.{TemplateRow as OfTemplate};
 ghost use Rattle.canary_tables_read.specs.declared.first.FirstTally.{FirstTally as OfTally};
-ghost use Rattle.canary_tables_read.specs.Finds.{IsSame};
 ghost use Rattle.canary_tables_read.specs.First.{IsFirst, AreTemplatesIn, AreTalliesIn};
 ghost use Rattle.canary_tables_read.specs.First.{IsTemplateWithin, IsFirstTallyWithin};
-ghost use Rattle.canary_tables_read.specs.Reader.{IsKept};
+ghost use Rattle.canary_tables_read.specs.Reader.{Reads};
 
 use crate::columns;
 use crate::fault::ReadFault;
@@ -119,10 +118,7 @@ fn all<R: FromFirstRow>(alloc: Global, rows: &[Row]) -> Result<Listed<R>, ReadFa
 /// that a program can hold.
 pub fn templates<Q: Reader>(conn: &mut Q, alloc: Global) -> Result<Listed<TemplateRow>, ReadFault>
     requires ready { Q.IsReady conn.old }
-    ensures mode { Q.IsReady conn.new }
-    ensures place { Q.place conn.new ≡ Q.place conn.old }
-    ensures kept { IsKept (Q.below conn.old) (Q.below conn.new) }
-    ensures same { IsSame (Q.shows conn.old) (Q.shows conn.new) }
+    ensures reads { Reads Q.IsReady Q.place Q.below Q.shows conn.old conn.new }
     ensures found { IsUsable (Q.shows conn.new) → IsFirst (Q.shows conn.old).now
         → IfOk result (AreTemplatesIn (Q.shows conn.old).now) }
     ensures only { IsUsable (Q.shows conn.new) → IsFirst (Q.shows conn.old).now
@@ -141,10 +137,7 @@ pub fn templates<Q: Reader>(conn: &mut Q, alloc: Global) -> Result<Listed<Templa
 /// that a program can hold.
 pub fn tallies<Q: Reader>(conn: &mut Q, alloc: Global) -> Result<Listed<FirstTally>, ReadFault>
     requires ready { Q.IsReady conn.old }
-    ensures mode { Q.IsReady conn.new }
-    ensures place { Q.place conn.new ≡ Q.place conn.old }
-    ensures kept { IsKept (Q.below conn.old) (Q.below conn.new) }
-    ensures same { IsSame (Q.shows conn.old) (Q.shows conn.new) }
+    ensures reads { Reads Q.IsReady Q.place Q.below Q.shows conn.old conn.new }
     ensures found { IsUsable (Q.shows conn.new) → IsFirst (Q.shows conn.old).now
         → IfOk result (AreTalliesIn (Q.shows conn.old).now) }
     ensures only { IsUsable (Q.shows conn.new) → IsFirst (Q.shows conn.old).now

@@ -3,9 +3,9 @@ ghost use Rattle.std.specs.Prelude.{◌≡◌, ◌≤◌, ◌^◌, pos, false, f
 ghost use Rattle.std.specs.List.{AllByRecursion};
 ghost use Rattle.canary_tables_rows.specs.Tables.{is_line_of, is_measurement_of};
 ghost use Rattle.canary_tables_rows.specs.Limits.{IsLineWithin, IsMeasurementWithin};
-ghost use Rattle.canary_tables_read.specs.Finds.{IsSame, FindsRows};
+ghost use Rattle.canary_tables_read.specs.Finds.{FindsRows};
 ghost use Rattle.canary_tables_read.specs.Breaks.{BreaksUnless};
-ghost use Rattle.canary_tables_read.specs.Reader.{IsKept};
+ghost use Rattle.canary_tables_read.specs.Reader.{Reads};
 
 use crate::fault::ReadFault;
 use crate::from_row;
@@ -24,10 +24,7 @@ pub fn history<Q: Reader>(
     service: &Name,
 ) -> Result<Listed<HistoryRow>, ReadFault>
     requires ready { Q.IsReady conn.old }
-    ensures mode { Q.IsReady conn.new }
-    ensures place { Q.place conn.new ≡ Q.place conn.old }
-    ensures kept { IsKept (Q.below conn.old) (Q.below conn.new) }
-    ensures same { IsSame (Q.shows conn.old) (Q.shows conn.new) }
+    ensures reads { Reads Q.IsReady Q.place Q.below Q.shows conn.old conn.new }
     ensures found { FindsRows (λ t. filter (is_line_of service.now) t.history)
         (Q.shows conn.old) (Q.shows conn.new) result }
     ensures broken { BreaksUnless (λ t. AllByRecursion IsLineWithin t.history)
@@ -62,10 +59,7 @@ pub fn lines<Q: Reader>(
     most: u32,
 ) -> Result<Listed<HistoryRow>, ReadFault>
     requires ready { Q.IsReady conn.old }
-    ensures mode { Q.IsReady conn.new }
-    ensures place { Q.place conn.new ≡ Q.place conn.old }
-    ensures kept { IsKept (Q.below conn.old) (Q.below conn.new) }
-    ensures same { IsSame (Q.shows conn.old) (Q.shows conn.new) }
+    ensures reads { Reads Q.IsReady Q.place Q.below Q.shows conn.old conn.new }
     ensures found { FindsRows
         (λ t. take most (drop from (filter (is_line_of service.now) t.history)))
         (Q.shows conn.old) (Q.shows conn.new) result }
@@ -88,10 +82,7 @@ pub fn measurement_rows<Q: Reader>(
     service: &Name,
 ) -> Result<Listed<MeasurementRow>, ReadFault>
     requires ready { Q.IsReady conn.old }
-    ensures mode { Q.IsReady conn.new }
-    ensures place { Q.place conn.new ≡ Q.place conn.old }
-    ensures kept { IsKept (Q.below conn.old) (Q.below conn.new) }
-    ensures same { IsSame (Q.shows conn.old) (Q.shows conn.new) }
+    ensures reads { Reads Q.IsReady Q.place Q.below Q.shows conn.old conn.new }
     ensures found { FindsRows (λ t. filter (is_measurement_of service.now) t.measurements)
         (Q.shows conn.old) (Q.shows conn.new) result }
     ensures broken { BreaksUnless (λ t. AllByRecursion IsMeasurementWithin t.measurements)

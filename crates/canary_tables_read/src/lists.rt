@@ -10,9 +10,9 @@ ghost use Rattle.canary_tables_schema.specs.Cells.{integer};
 ghost use Rattle.canary_tables_schema.specs.Stores.{IsUsable};
 ghost use Rattle.canary_tables_read.specs.Keys.{key_of};
 ghost use Rattle.canary_tables_read.specs.Queries.{IsQuery};
-ghost use Rattle.canary_tables_read.specs.Finds.{IsSame, FindsRows};
+ghost use Rattle.canary_tables_read.specs.Finds.{FindsRows};
 ghost use Rattle.canary_tables_read.specs.Breaks.{BreaksUnless};
-ghost use Rattle.canary_tables_read.specs.Reader.{IsKept};
+ghost use Rattle.canary_tables_read.specs.Reader.{Reads};
 
 use crate::fault::ReadFault;
 use crate::held;
@@ -35,10 +35,7 @@ pub struct RevisionKey {
 /// `Storage` where the database fails, `Broken` where a caller is none that a program can hold.
 pub fn callers<Q: Reader>(conn: &mut Q, alloc: Global) -> Result<Listed<CallerRow>, ReadFault>
     requires ready { Q.IsReady conn.old }
-    ensures mode { Q.IsReady conn.new }
-    ensures place { Q.place conn.new ≡ Q.place conn.old }
-    ensures kept { IsKept (Q.below conn.old) (Q.below conn.new) }
-    ensures same { IsSame (Q.shows conn.old) (Q.shows conn.new) }
+    ensures reads { Reads Q.IsReady Q.place Q.below Q.shows conn.old conn.new }
     ensures found { FindsRows (λ t. t.callers)
         (Q.shows conn.old) (Q.shows conn.new) result }
     ensures broken { BreaksUnless (λ t. AllByRecursion IsCallerWithin t.callers)
@@ -56,10 +53,7 @@ pub fn revision_keys<Q: Reader>(
     alloc: Global,
 ) -> Result<Listed<RevisionKey>, ReadFault>
     requires ready { Q.IsReady conn.old }
-    ensures mode { Q.IsReady conn.new }
-    ensures place { Q.place conn.new ≡ Q.place conn.old }
-    ensures kept { IsKept (Q.below conn.old) (Q.below conn.new) }
-    ensures same { IsSame (Q.shows conn.old) (Q.shows conn.new) }
+    ensures reads { Reads Q.IsReady Q.place Q.below Q.shows conn.old conn.new }
     ensures found { FindsRows (λ t. map key_of t.revisions)
         (Q.shows conn.old) (Q.shows conn.new) result }
     ensures broken { BreaksUnless (λ t. AllByRecursion IsRevisionWithin t.revisions)
@@ -74,10 +68,7 @@ pub fn revision_keys<Q: Reader>(
 /// hold.
 pub fn service_names<Q: Reader>(conn: &mut Q, alloc: Global) -> Result<Listed<Name>, ReadFault>
     requires ready { Q.IsReady conn.old }
-    ensures mode { Q.IsReady conn.new }
-    ensures place { Q.place conn.new ≡ Q.place conn.old }
-    ensures kept { IsKept (Q.below conn.old) (Q.below conn.new) }
-    ensures same { IsSame (Q.shows conn.old) (Q.shows conn.new) }
+    ensures reads { Reads Q.IsReady Q.place Q.below Q.shows conn.old conn.new }
     ensures found { FindsRows (λ t. map (λ row. row.name) t.services)
         (Q.shows conn.old) (Q.shows conn.new) result }
     ensures broken { BreaksUnless (λ t. AllByRecursion IsServiceWithin t.services)
@@ -91,10 +82,7 @@ pub fn service_names<Q: Reader>(conn: &mut Q, alloc: Global) -> Result<Listed<Na
 /// there is not enough, `Storage` where the database fails.
 pub fn kept_count<Q: Reader>(conn: &mut Q) -> Result<u64, ReadFault>
     requires ready { Q.IsReady conn.old }
-    ensures mode { Q.IsReady conn.new }
-    ensures place { Q.place conn.new ≡ Q.place conn.old }
-    ensures kept { IsKept (Q.below conn.old) (Q.below conn.new) }
-    ensures same { IsSame (Q.shows conn.old) (Q.shows conn.new) }
+    ensures reads { Reads Q.IsReady Q.place Q.below Q.shows conn.old conn.new }
     ensures found { FindsRows (λ t. min (length t.kept) 9223372036854775807)
         (Q.shows conn.old) (Q.shows conn.new) result }
     ensures whole { result ≢ Err ReadFault.Broken }
@@ -106,10 +94,7 @@ pub fn kept_count<Q: Reader>(conn: &mut Q) -> Result<u64, ReadFault>
 /// not enough, `Storage` where the database fails.
 pub fn run_count<Q: Reader>(conn: &mut Q) -> Result<u64, ReadFault>
     requires ready { Q.IsReady conn.old }
-    ensures mode { Q.IsReady conn.new }
-    ensures place { Q.place conn.new ≡ Q.place conn.old }
-    ensures kept { IsKept (Q.below conn.old) (Q.below conn.new) }
-    ensures same { IsSame (Q.shows conn.old) (Q.shows conn.new) }
+    ensures reads { Reads Q.IsReady Q.place Q.below Q.shows conn.old conn.new }
     ensures found { FindsRows (λ t. min (length t.runs) 9223372036854775807)
         (Q.shows conn.old) (Q.shows conn.new) result }
     ensures whole { result ≢ Err ReadFault.Broken }
@@ -121,10 +106,7 @@ pub fn run_count<Q: Reader>(conn: &mut Q) -> Result<u64, ReadFault>
 /// `Memory` where there is not enough, `Storage` where the database fails.
 pub fn binding_count<Q: Reader>(conn: &mut Q) -> Result<u64, ReadFault>
     requires ready { Q.IsReady conn.old }
-    ensures mode { Q.IsReady conn.new }
-    ensures place { Q.place conn.new ≡ Q.place conn.old }
-    ensures kept { IsKept (Q.below conn.old) (Q.below conn.new) }
-    ensures same { IsSame (Q.shows conn.old) (Q.shows conn.new) }
+    ensures reads { Reads Q.IsReady Q.place Q.below Q.shows conn.old conn.new }
     ensures found { FindsRows (λ t. min (length t.bindings) 9223372036854775807)
         (Q.shows conn.old) (Q.shows conn.new) result }
     ensures whole { result ≢ Err ReadFault.Broken }
@@ -136,10 +118,7 @@ pub fn binding_count<Q: Reader>(conn: &mut Q) -> Result<u64, ReadFault>
 /// not enough, `Storage` where the database fails.
 pub fn tally_count<Q: Reader>(conn: &mut Q) -> Result<u64, ReadFault>
     requires ready { Q.IsReady conn.old }
-    ensures mode { Q.IsReady conn.new }
-    ensures place { Q.place conn.new ≡ Q.place conn.old }
-    ensures kept { IsKept (Q.below conn.old) (Q.below conn.new) }
-    ensures same { IsSame (Q.shows conn.old) (Q.shows conn.new) }
+    ensures reads { Reads Q.IsReady Q.place Q.below Q.shows conn.old conn.new }
     ensures found { FindsRows (λ t. min (length t.tallies) 9223372036854775807)
         (Q.shows conn.old) (Q.shows conn.new) result }
     ensures whole { result ≢ Err ReadFault.Broken }
@@ -151,10 +130,7 @@ pub fn tally_count<Q: Reader>(conn: &mut Q) -> Result<u64, ReadFault>
 /// is not enough, `Storage` where the database fails.
 pub fn measurement_count<Q: Reader>(conn: &mut Q) -> Result<u64, ReadFault>
     requires ready { Q.IsReady conn.old }
-    ensures mode { Q.IsReady conn.new }
-    ensures place { Q.place conn.new ≡ Q.place conn.old }
-    ensures kept { IsKept (Q.below conn.old) (Q.below conn.new) }
-    ensures same { IsSame (Q.shows conn.old) (Q.shows conn.new) }
+    ensures reads { Reads Q.IsReady Q.place Q.below Q.shows conn.old conn.new }
     ensures found { FindsRows (λ t. min (length t.measurements) 9223372036854775807)
         (Q.shows conn.old) (Q.shows conn.new) result }
     ensures whole { result ≢ Err ReadFault.Broken }
@@ -166,10 +142,7 @@ pub fn measurement_count<Q: Reader>(conn: &mut Q) -> Result<u64, ReadFault>
 /// there is not enough, `Storage` where the database fails.
 pub fn history_count<Q: Reader>(conn: &mut Q) -> Result<u64, ReadFault>
     requires ready { Q.IsReady conn.old }
-    ensures mode { Q.IsReady conn.new }
-    ensures place { Q.place conn.new ≡ Q.place conn.old }
-    ensures kept { IsKept (Q.below conn.old) (Q.below conn.new) }
-    ensures same { IsSame (Q.shows conn.old) (Q.shows conn.new) }
+    ensures reads { Reads Q.IsReady Q.place Q.below Q.shows conn.old conn.new }
     ensures found { FindsRows (λ t. min (length t.history) 9223372036854775807)
         (Q.shows conn.old) (Q.shows conn.new) result }
     ensures whole { result ≢ Err ReadFault.Broken }
@@ -181,10 +154,7 @@ pub fn history_count<Q: Reader>(conn: &mut Q) -> Result<u64, ReadFault>
 fn count_of<Q: Reader>(conn: &mut Q, text: &str) -> Result<u64, ReadFault>
     requires ready { Q.IsReady conn.old }
     requires query { IsQuery text.now }
-    ensures mode { Q.IsReady conn.new }
-    ensures place { Q.place conn.new ≡ Q.place conn.old }
-    ensures kept { IsKept (Q.below conn.old) (Q.below conn.new) }
-    ensures same { IsSame (Q.shows conn.old) (Q.shows conn.new) }
+    ensures reads { Reads Q.IsReady Q.place Q.below Q.shows conn.old conn.new }
     ensures shown { IsUsable (Q.shows conn.new) → IfOk result (λ count. (rows : List Cells)
         × Shown text.now [] (Q.shows conn.old) (Q.shows conn.new) rows
         × (column (slice_index_or rows 0 []) 0 ≡ integer count)) }

@@ -4,11 +4,10 @@ ghost use Rattle.canary_tables_schema.specs.Cells.{meta_rows};
 ghost use Rattle.canary_tables_schema.specs.First.{HasFirstMeta};
 ghost use Rattle.canary_tables_schema.specs.Formed.{IsDeskSchema, IsRising};
 ghost use Rattle.canary_tables_schema.specs.Stores.{IsUsable};
-ghost use Rattle.canary_tables_read.specs.Finds.{IsSame};
 ghost use Rattle.canary_tables_read.specs.First.{IsFirst};
 ghost use Rattle.canary_tables_read.specs.Meta.{Stands, standing as standing_by, IsShown};
 ghost use Rattle.canary_tables_read.specs.Queries.{IsQuery};
-ghost use Rattle.canary_tables_read.specs.Reader.{IsKept};
+ghost use Rattle.canary_tables_read.specs.Reader.{Reads};
 
 use crate::fault::ReadFault;
 use crate::reader::Reader;
@@ -28,10 +27,7 @@ pub enum MetaRow {
 /// where there is not enough, `Storage` where the database fails; never `Broken`.
 pub fn desk_row<Q: Reader>(conn: &mut Q) -> Result<MetaRow, ReadFault>
     requires ready { Q.IsReady conn.old }
-    ensures mode { Q.IsReady conn.new }
-    ensures place { Q.place conn.new ≡ Q.place conn.old }
-    ensures kept { IsKept (Q.below conn.old) (Q.below conn.new) }
-    ensures same { IsSame (Q.shows conn.old) (Q.shows conn.new) }
+    ensures reads { Reads Q.IsReady Q.place Q.below Q.shows conn.old conn.new }
     ensures found { IsUsable (Q.shows conn.new)
         → IsDeskSchema (Q.shows conn.old).now.schema
         → IsRising (Q.shows conn.old).now
@@ -52,10 +48,7 @@ pub fn desk_row<Q: Reader>(conn: &mut Q) -> Result<MetaRow, ReadFault>
 /// `Memory` where there is not enough, `Storage` where the database fails; never `Broken`.
 pub fn first_row<Q: Reader>(conn: &mut Q) -> Result<MetaRow, ReadFault>
     requires ready { Q.IsReady conn.old }
-    ensures mode { Q.IsReady conn.new }
-    ensures place { Q.place conn.new ≡ Q.place conn.old }
-    ensures kept { IsKept (Q.below conn.old) (Q.below conn.new) }
-    ensures same { IsSame (Q.shows conn.old) (Q.shows conn.new) }
+    ensures reads { Reads Q.IsReady Q.place Q.below Q.shows conn.old conn.new }
     ensures found { IsUsable (Q.shows conn.new) → IsFirst (Q.shows conn.old).now
         → IfOk result (Stands 1 (HasFirstMeta ((Q.shows conn.old).now.trees 0))
         ((Q.shows conn.old).now.trees 0)) }
@@ -85,10 +78,7 @@ fn standing(is_there: bool, has_others: bool) -> MetaRow
 fn is_shown<Q: Reader>(conn: &mut Q, text: &str) -> Result<bool, ReadFault>
     requires ready { Q.IsReady conn.old }
     requires query { IsQuery text.now }
-    ensures mode { Q.IsReady conn.new }
-    ensures place { Q.place conn.new ≡ Q.place conn.old }
-    ensures kept { IsKept (Q.below conn.old) (Q.below conn.new) }
-    ensures same { IsSame (Q.shows conn.old) (Q.shows conn.new) }
+    ensures reads { Reads Q.IsReady Q.place Q.below Q.shows conn.old conn.new }
     ensures shown { IsUsable (Q.shows conn.new)
         → IfOk result (IsShown text.now (Q.shows conn.old) (Q.shows conn.new)) }
     ensures whole { result ≢ Err ReadFault.Broken }

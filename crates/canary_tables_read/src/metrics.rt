@@ -3,9 +3,9 @@ ghost use Rattle.std.specs.Prelude.{◌≡◌, filter};
 ghost use Rattle.std.specs.List.{AllByRecursion};
 ghost use Rattle.canary_tables_rows.specs.Limits.{IsMeasurementWithin};
 ghost use Rattle.canary_tables_read.specs.Breaks.{BreaksUnless};
-ghost use Rattle.canary_tables_read.specs.Finds.{IsSame, FindsRows};
+ghost use Rattle.canary_tables_read.specs.Finds.{FindsRows};
 ghost use Rattle.canary_tables_read.specs.Metrics.{is_measurement_in};
-ghost use Rattle.canary_tables_read.specs.Reader.{IsKept};
+ghost use Rattle.canary_tables_read.specs.Reader.{Reads};
 
 use crate::fault::ReadFault;
 use crate::from_row;
@@ -27,10 +27,7 @@ pub fn measurements<Q: Reader>(
     metric: u32,
 ) -> Result<Listed<MeasurementRow>, ReadFault>
     requires ready { Q.IsReady conn.old }
-    ensures mode { Q.IsReady conn.new }
-    ensures place { Q.place conn.new ≡ Q.place conn.old }
-    ensures kept { IsKept (Q.below conn.old) (Q.below conn.new) }
-    ensures same { IsSame (Q.shows conn.old) (Q.shows conn.new) }
+    ensures reads { Reads Q.IsReady Q.place Q.below Q.shows conn.old conn.new }
     ensures found { FindsRows
         (λ t. filter (is_measurement_in service.now run metric) t.measurements)
         (Q.shows conn.old) (Q.shows conn.new) result }

@@ -4,11 +4,11 @@ ghost use Rattle.std.specs.List.{AllByRecursion};
 ghost use Rattle.canary_tables_rows.specs.Limits.{IsKeptWithin, IsRunWithin, IsBindingWithin};
 ghost use Rattle.canary_tables_rows.specs.Limits.{IsTallyWithin};
 ghost use Rattle.canary_tables_read.specs.Breaks.{BreaksUnless};
-ghost use Rattle.canary_tables_read.specs.Finds.{IsSame, FindsRows, FindsSuch};
+ghost use Rattle.canary_tables_read.specs.Finds.{FindsRows, FindsSuch};
 ghost use Rattle.canary_tables_read.specs.Pages.{is_kept_between, number_of_kept, is_run_between};
 ghost use Rattle.canary_tables_read.specs.Pages.{is_binding_between, is_tally_between};
-ghost use Rattle.canary_tables_read.specs.Reader.{IsKept};
 ghost use Rattle.canary_tables_read.specs.Sorts.{Sorts};
+ghost use Rattle.canary_tables_read.specs.Reader.{Reads};
 
 use crate::fault::ReadFault;
 use crate::from_row;
@@ -30,10 +30,7 @@ pub fn kept<Q: Reader>(
     last: u32,
 ) -> Result<Listed<KeptRow>, ReadFault>
     requires ready { Q.IsReady conn.old }
-    ensures mode { Q.IsReady conn.new }
-    ensures place { Q.place conn.new ≡ Q.place conn.old }
-    ensures kept { IsKept (Q.below conn.old) (Q.below conn.new) }
-    ensures same { IsSame (Q.shows conn.old) (Q.shows conn.new) }
+    ensures reads { Reads Q.IsReady Q.place Q.below Q.shows conn.old conn.new }
     ensures found { FindsSuch
         (λ t. Sorts number_of_kept (filter (is_kept_between caller.now after last) t.kept))
         (Q.shows conn.old) (Q.shows conn.new) result }
@@ -59,10 +56,7 @@ pub fn runs<Q: Reader>(
     last: u32,
 ) -> Result<Listed<RunRow>, ReadFault>
     requires ready { Q.IsReady conn.old }
-    ensures mode { Q.IsReady conn.new }
-    ensures place { Q.place conn.new ≡ Q.place conn.old }
-    ensures kept { IsKept (Q.below conn.old) (Q.below conn.new) }
-    ensures same { IsSame (Q.shows conn.old) (Q.shows conn.new) }
+    ensures reads { Reads Q.IsReady Q.place Q.below Q.shows conn.old conn.new }
     ensures found { FindsRows
         (λ t. filter (is_run_between service.now after last) t.runs)
         (Q.shows conn.old) (Q.shows conn.new) result }
@@ -89,10 +83,7 @@ pub fn bindings<Q: Reader>(
     last: u32,
 ) -> Result<Listed<BindingRow>, ReadFault>
     requires ready { Q.IsReady conn.old }
-    ensures mode { Q.IsReady conn.new }
-    ensures place { Q.place conn.new ≡ Q.place conn.old }
-    ensures kept { IsKept (Q.below conn.old) (Q.below conn.new) }
-    ensures same { IsSame (Q.shows conn.old) (Q.shows conn.new) }
+    ensures reads { Reads Q.IsReady Q.place Q.below Q.shows conn.old conn.new }
     ensures found { FindsRows
         (λ t. filter (is_binding_between service.now after last) t.bindings)
         (Q.shows conn.old) (Q.shows conn.new) result }
@@ -118,10 +109,7 @@ pub fn tallies<Q: Reader>(
     last: u32,
 ) -> Result<Listed<TallyRow>, ReadFault>
     requires ready { Q.IsReady conn.old }
-    ensures mode { Q.IsReady conn.new }
-    ensures place { Q.place conn.new ≡ Q.place conn.old }
-    ensures kept { IsKept (Q.below conn.old) (Q.below conn.new) }
-    ensures same { IsSame (Q.shows conn.old) (Q.shows conn.new) }
+    ensures reads { Reads Q.IsReady Q.place Q.below Q.shows conn.old conn.new }
     ensures found { FindsRows
         (λ t. filter (is_tally_between service.now after last) t.tallies)
         (Q.shows conn.old) (Q.shows conn.new) result }

@@ -4,10 +4,10 @@ ghost use Rattle.std.specs.List.{AllByRecursion};
 ghost use Rattle.canary_tables_rows.specs.Tables.{is_run, is_open_run_of, is_tally_of};
 ghost use Rattle.canary_tables_rows.specs.Limits.{IsRunWithin, IsTallyWithin};
 ghost use Rattle.canary_tables_read.specs.Breaks.{BreaksUnless};
-ghost use Rattle.canary_tables_read.specs.Finds.{IsSame, FindsRows, FindsSuch, first};
+ghost use Rattle.canary_tables_read.specs.Finds.{FindsRows, FindsSuch, first};
 ghost use Rattle.canary_tables_read.specs.Sorts.{Sorts, IsFront, is_open, is_run_of};
 ghost use Rattle.canary_tables_read.specs.Sorts.{number_of, metric_of};
-ghost use Rattle.canary_tables_read.specs.Reader.{IsKept};
+ghost use Rattle.canary_tables_read.specs.Reader.{Reads};
 
 use crate::fault::ReadFault;
 use crate::from_row;
@@ -28,10 +28,7 @@ pub fn run<Q: Reader>(
     number: u32,
 ) -> Result<Option<RunRow>, ReadFault>
     requires ready { Q.IsReady conn.old }
-    ensures mode { Q.IsReady conn.new }
-    ensures place { Q.place conn.new ≡ Q.place conn.old }
-    ensures kept { IsKept (Q.below conn.old) (Q.below conn.new) }
-    ensures same { IsSame (Q.shows conn.old) (Q.shows conn.new) }
+    ensures reads { Reads Q.IsReady Q.place Q.below Q.shows conn.old conn.new }
     ensures found { FindsRows (λ t. first (filter (is_run service.now number) t.runs))
         (Q.shows conn.old) (Q.shows conn.new) result }
     ensures broken { BreaksUnless (λ t. AllByRecursion IsRunWithin t.runs)
@@ -53,10 +50,7 @@ pub fn open_runs<Q: Reader>(
     service: &Name,
 ) -> Result<Listed<RunRow>, ReadFault>
     requires ready { Q.IsReady conn.old }
-    ensures mode { Q.IsReady conn.new }
-    ensures place { Q.place conn.new ≡ Q.place conn.old }
-    ensures kept { IsKept (Q.below conn.old) (Q.below conn.new) }
-    ensures same { IsSame (Q.shows conn.old) (Q.shows conn.new) }
+    ensures reads { Reads Q.IsReady Q.place Q.below Q.shows conn.old conn.new }
     ensures found { FindsSuch (λ t. Sorts number_of (filter (is_open_run_of service.now) t.runs))
         (Q.shows conn.old) (Q.shows conn.new) result }
     ensures broken { BreaksUnless (λ t. AllByRecursion IsRunWithin t.runs)
@@ -78,10 +72,7 @@ fn front_runs<Q: Reader>(
     service: &Name,
 ) -> Result<Listed<RunRow>, ReadFault>
     requires ready { Q.IsReady conn.old }
-    ensures mode { Q.IsReady conn.new }
-    ensures place { Q.place conn.new ≡ Q.place conn.old }
-    ensures kept { IsKept (Q.below conn.old) (Q.below conn.new) }
-    ensures same { IsSame (Q.shows conn.old) (Q.shows conn.new) }
+    ensures reads { Reads Q.IsReady Q.place Q.below Q.shows conn.old conn.new }
     ensures found { FindsSuch (λ t. IsFront 3 (filter (is_run_of service.now) t.runs))
         (Q.shows conn.old) (Q.shows conn.new) result }
     ensures broken { BreaksUnless (λ t. AllByRecursion IsRunWithin t.runs)
@@ -102,10 +93,7 @@ fn all_open_runs<Q: Reader>(
     service: &Name,
 ) -> Result<Listed<RunRow>, ReadFault>
     requires ready { Q.IsReady conn.old }
-    ensures mode { Q.IsReady conn.new }
-    ensures place { Q.place conn.new ≡ Q.place conn.old }
-    ensures kept { IsKept (Q.below conn.old) (Q.below conn.new) }
-    ensures same { IsSame (Q.shows conn.old) (Q.shows conn.new) }
+    ensures reads { Reads Q.IsReady Q.place Q.below Q.shows conn.old conn.new }
     ensures found { FindsSuch (λ t. Sorts number_of (filter (is_open_run_of service.now) t.runs))
         (Q.shows conn.old) (Q.shows conn.new) result }
     ensures broken { BreaksUnless (λ t. AllByRecursion IsRunWithin t.runs)
@@ -150,10 +138,7 @@ pub fn tallies<Q: Reader>(
     run: u32,
 ) -> Result<Listed<TallyRow>, ReadFault>
     requires ready { Q.IsReady conn.old }
-    ensures mode { Q.IsReady conn.new }
-    ensures place { Q.place conn.new ≡ Q.place conn.old }
-    ensures kept { IsKept (Q.below conn.old) (Q.below conn.new) }
-    ensures same { IsSame (Q.shows conn.old) (Q.shows conn.new) }
+    ensures reads { Reads Q.IsReady Q.place Q.below Q.shows conn.old conn.new }
     ensures found { FindsSuch
         (λ t. Sorts metric_of (filter (is_tally_of service.now run) t.tallies))
         (Q.shows conn.old) (Q.shows conn.new) result }

@@ -6,9 +6,9 @@ ghost use Rattle.canary_tables_rows.specs.Tables.{is_revision, is_revision_of, i
 ghost use Rattle.canary_tables_rows.specs.Limits.{IsRevisionWithin, IsServiceWithin, IsBindingWithin};
 ghost use Rattle.canary_tables_rows.specs.Newest.{IsNewest};
 ghost use Rattle.canary_tables_schema.specs.Cells.{revision_cells, service_cells};
-ghost use Rattle.canary_tables_read.specs.Finds.{IsSame, FindsRows, FindsSuch, TellsCells, first};
+ghost use Rattle.canary_tables_read.specs.Finds.{FindsRows, FindsSuch, TellsCells, first};
 ghost use Rattle.canary_tables_read.specs.Breaks.{BreaksUnless};
-ghost use Rattle.canary_tables_read.specs.Reader.{IsKept};
+ghost use Rattle.canary_tables_read.specs.Reader.{Reads};
 
 use crate::fault::ReadFault;
 use crate::from_row;
@@ -25,10 +25,7 @@ use std::alloc::Global;
 /// where the revision's row is none that a program can hold.
 pub fn newest<Q: Reader>(conn: &mut Q, name: &Name) -> Result<Option<RevisionRow>, ReadFault>
     requires ready { Q.IsReady conn.old }
-    ensures mode { Q.IsReady conn.new }
-    ensures place { Q.place conn.new ≡ Q.place conn.old }
-    ensures kept { IsKept (Q.below conn.old) (Q.below conn.new) }
-    ensures same { IsSame (Q.shows conn.old) (Q.shows conn.new) }
+    ensures reads { Reads Q.IsReady Q.place Q.below Q.shows conn.old conn.new }
     ensures found { FindsSuch (λ t. IsNewest (filter (is_revision_of name.now) t.revisions))
         (Q.shows conn.old) (Q.shows conn.new) result }
     ensures broken { BreaksUnless (λ t. AllByRecursion IsRevisionWithin t.revisions)
@@ -50,10 +47,7 @@ pub fn revision<Q: Reader>(
     number: u32,
 ) -> Result<Option<RevisionRow>, ReadFault>
     requires ready { Q.IsReady conn.old }
-    ensures mode { Q.IsReady conn.new }
-    ensures place { Q.place conn.new ≡ Q.place conn.old }
-    ensures kept { IsKept (Q.below conn.old) (Q.below conn.new) }
-    ensures same { IsSame (Q.shows conn.old) (Q.shows conn.new) }
+    ensures reads { Reads Q.IsReady Q.place Q.below Q.shows conn.old conn.new }
     ensures found { FindsRows (λ t. first (filter (is_revision name.now number) t.revisions))
         (Q.shows conn.old) (Q.shows conn.new) result }
     ensures broken { BreaksUnless (λ t. AllByRecursion IsRevisionWithin t.revisions)
@@ -73,10 +67,7 @@ pub fn revision_rows<Q: Reader>(
     number: u32,
 ) -> Result<Listed<RevisionRow>, ReadFault>
     requires ready { Q.IsReady conn.old }
-    ensures mode { Q.IsReady conn.new }
-    ensures place { Q.place conn.new ≡ Q.place conn.old }
-    ensures kept { IsKept (Q.below conn.old) (Q.below conn.new) }
-    ensures same { IsSame (Q.shows conn.old) (Q.shows conn.new) }
+    ensures reads { Reads Q.IsReady Q.place Q.below Q.shows conn.old conn.new }
     ensures found { FindsRows (λ t. filter (is_revision name.now number) t.revisions)
         (Q.shows conn.old) (Q.shows conn.new) result }
     ensures broken { BreaksUnless (λ t. AllByRecursion IsRevisionWithin t.revisions)
@@ -89,10 +80,7 @@ pub fn revision_rows<Q: Reader>(
 // What is shown of the revision's rows, behind the template's name.
 fn revision_shown<Q: Reader>(conn: &mut Q, name: &Name, number: u32) -> Result<Vec<Row>, StoreFault>
     requires ready { Q.IsReady conn.old }
-    ensures mode { Q.IsReady conn.new }
-    ensures place { Q.place conn.new ≡ Q.place conn.old }
-    ensures kept { IsKept (Q.below conn.old) (Q.below conn.new) }
-    ensures same { IsSame (Q.shows conn.old) (Q.shows conn.new) }
+    ensures reads { Reads Q.IsReady Q.place Q.below Q.shows conn.old conn.new }
     ensures found { FindsSuch (λ t rows. TellsCells revision_cells (λ row. Words name.now ∷ row)
         (filter (is_revision name.now number) t.revisions) rows.items)
         (Q.shows conn.old) (Q.shows conn.new) result }
@@ -107,10 +95,7 @@ fn revision_shown<Q: Reader>(conn: &mut Q, name: &Name, number: u32) -> Result<V
 /// the database fails, `Broken` where the service's row is none that a program can hold.
 pub fn service<Q: Reader>(conn: &mut Q, name: &Name) -> Result<Option<ServiceRow>, ReadFault>
     requires ready { Q.IsReady conn.old }
-    ensures mode { Q.IsReady conn.new }
-    ensures place { Q.place conn.new ≡ Q.place conn.old }
-    ensures kept { IsKept (Q.below conn.old) (Q.below conn.new) }
-    ensures same { IsSame (Q.shows conn.old) (Q.shows conn.new) }
+    ensures reads { Reads Q.IsReady Q.place Q.below Q.shows conn.old conn.new }
     ensures found { FindsRows (λ t. first (filter (is_service name.now) t.services))
         (Q.shows conn.old) (Q.shows conn.new) result }
     ensures broken { BreaksUnless (λ t. AllByRecursion IsServiceWithin t.services)
@@ -128,10 +113,7 @@ pub fn service_rows<Q: Reader>(
     name: &Name,
 ) -> Result<Listed<ServiceRow>, ReadFault>
     requires ready { Q.IsReady conn.old }
-    ensures mode { Q.IsReady conn.new }
-    ensures place { Q.place conn.new ≡ Q.place conn.old }
-    ensures kept { IsKept (Q.below conn.old) (Q.below conn.new) }
-    ensures same { IsSame (Q.shows conn.old) (Q.shows conn.new) }
+    ensures reads { Reads Q.IsReady Q.place Q.below Q.shows conn.old conn.new }
     ensures found { FindsRows (λ t. filter (is_service name.now) t.services)
         (Q.shows conn.old) (Q.shows conn.new) result }
     ensures broken { BreaksUnless (λ t. AllByRecursion IsServiceWithin t.services)
@@ -144,10 +126,7 @@ pub fn service_rows<Q: Reader>(
 // What is shown of the service's rows, behind its name.
 fn service_shown<Q: Reader>(conn: &mut Q, name: &Name) -> Result<Vec<Row>, StoreFault>
     requires ready { Q.IsReady conn.old }
-    ensures mode { Q.IsReady conn.new }
-    ensures place { Q.place conn.new ≡ Q.place conn.old }
-    ensures kept { IsKept (Q.below conn.old) (Q.below conn.new) }
-    ensures same { IsSame (Q.shows conn.old) (Q.shows conn.new) }
+    ensures reads { Reads Q.IsReady Q.place Q.below Q.shows conn.old conn.new }
     ensures found { FindsSuch (λ t rows. TellsCells service_cells (λ row. Words name.now ∷ row)
         (filter (is_service name.now) t.services) rows.items)
         (Q.shows conn.old) (Q.shows conn.new) result }
@@ -157,25 +136,6 @@ fn service_shown<Q: Reader>(conn: &mut Q, name: &Name) -> Result<Vec<Row>, Store
          FROM service WHERE name = ?1 ORDER BY rowid",
         params![name.as_str()],
     )
-}
-
-/// Whether there is a service of that name. `Memory` where there is not enough, `Storage` where the
-/// database fails; never `Broken`.
-pub fn has_service<Q: Reader>(conn: &mut Q, name: &Name) -> Result<bool, ReadFault>
-    requires ready { Q.IsReady conn.old }
-    ensures mode { Q.IsReady conn.new }
-    ensures place { Q.place conn.new ≡ Q.place conn.old }
-    ensures kept { IsKept (Q.below conn.old) (Q.below conn.new) }
-    ensures same { IsSame (Q.shows conn.old) (Q.shows conn.new) }
-    ensures found { FindsRows (λ t. list_any (is_service name.now) t.services)
-        (Q.shows conn.old) (Q.shows conn.new) result }
-    ensures whole { result ≢ Err ReadFault.Broken }
-{
-    let rows = conn.ask(
-        "SELECT name FROM service WHERE name = ?1 ORDER BY rowid",
-        params![name.as_str()],
-    )?;
-    Ok(!rows.is_empty())
 }
 
 /// The revisions of templates to which that run of the service is bound, in the order in which they
@@ -188,10 +148,7 @@ pub fn bindings<Q: Reader>(
     run: u32,
 ) -> Result<Listed<BindingRow>, ReadFault>
     requires ready { Q.IsReady conn.old }
-    ensures mode { Q.IsReady conn.new }
-    ensures place { Q.place conn.new ≡ Q.place conn.old }
-    ensures kept { IsKept (Q.below conn.old) (Q.below conn.new) }
-    ensures same { IsSame (Q.shows conn.old) (Q.shows conn.new) }
+    ensures reads { Reads Q.IsReady Q.place Q.below Q.shows conn.old conn.new }
     ensures found { FindsRows (λ t. filter (is_binding_of service.now run) t.bindings)
         (Q.shows conn.old) (Q.shows conn.new) result }
     ensures broken { BreaksUnless (λ t. AllByRecursion IsBindingWithin t.bindings)
@@ -209,10 +166,7 @@ pub fn bindings<Q: Reader>(
 /// there is not enough, `Storage` where the database fails; never `Broken`.
 pub fn has_bindings<Q: Reader>(conn: &mut Q, service: &Name) -> Result<bool, ReadFault>
     requires ready { Q.IsReady conn.old }
-    ensures mode { Q.IsReady conn.new }
-    ensures place { Q.place conn.new ≡ Q.place conn.old }
-    ensures kept { IsKept (Q.below conn.old) (Q.below conn.new) }
-    ensures same { IsSame (Q.shows conn.old) (Q.shows conn.new) }
+    ensures reads { Reads Q.IsReady Q.place Q.below Q.shows conn.old conn.new }
     ensures found { FindsRows (λ t. list_any (is_binding_of service.now 0) t.bindings)
         (Q.shows conn.old) (Q.shows conn.new) result }
     ensures whole { result ≢ Err ReadFault.Broken }

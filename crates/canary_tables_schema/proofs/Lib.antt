@@ -1,5 +1,5 @@
 mod Committed
-mod Inserts
+pub mod Inserts
 mod Making
 mod Meta
 mod Readings
@@ -7,5 +7,5 @@ mod Remaking
 mod RemakingTexts
 mod Rising
 mod Texts
-mod Went
+pub mod Went
 mod Wholes

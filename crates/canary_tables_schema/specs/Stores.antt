@@ -1,5 +1,5 @@
 -- When a database stores rows, and what a statement does to them.
-use Rattle.std.specs.Prelude.{◌≡◌, IsTrue, List, map, Result, OnOk}
+use Rattle.std.specs.Prelude.{◌≡◌, IsTrue, ℕ, List, map, Result, OnOk}
 use Rattle.std.specs.List.{AllByRecursion}
 use Rattle.sqlite.specs.State.{State, HasCleanDisk, Survives, KeepsCommit}
 use Rattle.sqlite.specs.Tree.{Trees}
@@ -80,3 +80,12 @@ StaysCommitted old new = HasCleanDisk new → IsTrue old.in_transaction → Keep
 -- a power cut leaves what was committed
 abbrev pub SurvivesCut : State → State → Type 0
 SurvivesCut old new = Survives old new (λ _. ⊥)
+
+-- A write stays on its connection; its transaction goes on if it succeeded; what was committed
+-- stays, and a power cut leaves it.
+pub record Writes {A E : Type 0} (old_name new_name : ℕ) (old new : State)
+    (result : Result A E) : Type 0 where
+  pub same_reference : new_name ≡ old_name
+  pub live : StaysLive old new result
+  pub kept : StaysCommitted old new
+  pub survives : SurvivesCut old new

@@ -7,51 +7,38 @@ ghost use Rattle.canary_tables_schema.specs.Layout.{made};
 ghost use Rattle.canary_tables_schema.specs.Schema.{no_schema, with_kept, with_history, with_tally};
 ghost use Rattle.canary_tables_schema.specs.Schema.{schema_at};
 ghost use Rattle.canary_tables_schema.specs.Makes.{IsTableText, IsIndexText, Grows, IsFilled};
-ghost use Rattle.canary_tables_schema.specs.Stores.{IsUsable, Stores};
-ghost use Rattle.canary_tables_schema.specs.Stores.{StaysLive, StaysCommitted, SurvivesCut};
+ghost use Rattle.canary_tables_schema.specs.Stores.{Writes, IsUsable, Stores};
 
 use crate::fault::{StoreFault, fault_of};
 use sqlite::{Alter, Connection, Error, Transaction};
 
 // Runs a text that makes a table.
 fn add_table<S: Alter>(tx: &mut Transaction<'_, S>, text: &str) -> Result<usize, Error>
-    ensures same_reference { tx.new.conn.ghost_name ≡ tx.old.conn.ghost_name }
+    ensures writes { Writes tx.old.conn.ghost_name tx.new.conn.ghost_name
+        (state S.Store tx.old.conn.now) (state S.Store tx.new.conn.now) result }
     ensures made { (schema next : Schema) → IsTableText schema text.now next
         → Grows schema next (state S.Store tx.old.conn.now) (state S.Store tx.new.conn.now) result }
-    ensures live { StaysLive
-        (state S.Store tx.old.conn.now) (state S.Store tx.new.conn.now) result }
-    ensures kept { StaysCommitted (state S.Store tx.old.conn.now) (state S.Store tx.new.conn.now) }
-    ensures survives { SurvivesCut
-        (state S.Store tx.old.conn.now) (state S.Store tx.new.conn.now) }
 {
     tx.execute(text, &[])
 }
 
 // Runs a text that makes an index.
 fn add_index<S: Alter>(tx: &mut Transaction<'_, S>, text: &str) -> Result<usize, Error>
-    ensures same_reference { tx.new.conn.ghost_name ≡ tx.old.conn.ghost_name }
+    ensures writes { Writes tx.old.conn.ghost_name tx.new.conn.ghost_name
+        (state S.Store tx.old.conn.now) (state S.Store tx.new.conn.now) result }
     ensures made { (schema next : Schema) → IsIndexText schema text.now next
         → Grows schema next
         (state S.Store tx.old.conn.now) (state S.Store tx.new.conn.now) result }
-    ensures live { StaysLive
-        (state S.Store tx.old.conn.now) (state S.Store tx.new.conn.now) result }
-    ensures kept { StaysCommitted (state S.Store tx.old.conn.now) (state S.Store tx.new.conn.now) }
-    ensures survives { SurvivesCut
-        (state S.Store tx.old.conn.now) (state S.Store tx.new.conn.now) }
 {
     tx.execute(text, &[])
 }
 
 // The first three tables.
 fn add_callers<S: Alter>(tx: &mut Transaction<'_, S>) -> Result<(), Error>
-    ensures same_reference { tx.new.conn.ghost_name ≡ tx.old.conn.ghost_name }
+    ensures writes { Writes tx.old.conn.ghost_name tx.new.conn.ghost_name
+        (state S.Store tx.old.conn.now) (state S.Store tx.new.conn.now) result }
     ensures made { Grows no_schema with_kept
         (state S.Store tx.old.conn.now) (state S.Store tx.new.conn.now) result }
-    ensures live { StaysLive
-        (state S.Store tx.old.conn.now) (state S.Store tx.new.conn.now) result }
-    ensures kept { StaysCommitted (state S.Store tx.old.conn.now) (state S.Store tx.new.conn.now) }
-    ensures survives { SurvivesCut
-        (state S.Store tx.old.conn.now) (state S.Store tx.new.conn.now) }
 {
     add_table(
         tx,
@@ -72,14 +59,10 @@ fn add_callers<S: Alter>(tx: &mut Transaction<'_, S>) -> Result<(), Error>
 
 // The next four.
 fn add_services<S: Alter>(tx: &mut Transaction<'_, S>) -> Result<(), Error>
-    ensures same_reference { tx.new.conn.ghost_name ≡ tx.old.conn.ghost_name }
+    ensures writes { Writes tx.old.conn.ghost_name tx.new.conn.ghost_name
+        (state S.Store tx.old.conn.now) (state S.Store tx.new.conn.now) result }
     ensures made { Grows with_kept with_history
         (state S.Store tx.old.conn.now) (state S.Store tx.new.conn.now) result }
-    ensures live { StaysLive
-        (state S.Store tx.old.conn.now) (state S.Store tx.new.conn.now) result }
-    ensures kept { StaysCommitted (state S.Store tx.old.conn.now) (state S.Store tx.new.conn.now) }
-    ensures survives { SurvivesCut
-        (state S.Store tx.old.conn.now) (state S.Store tx.new.conn.now) }
 {
     add_table(
         tx,
@@ -112,14 +95,10 @@ fn add_services<S: Alter>(tx: &mut Transaction<'_, S>) -> Result<(), Error>
 
 // The last three.
 fn add_templates<S: Alter>(tx: &mut Transaction<'_, S>) -> Result<(), Error>
-    ensures same_reference { tx.new.conn.ghost_name ≡ tx.old.conn.ghost_name }
+    ensures writes { Writes tx.old.conn.ghost_name tx.new.conn.ghost_name
+        (state S.Store tx.old.conn.now) (state S.Store tx.new.conn.now) result }
     ensures made { Grows with_history with_tally
         (state S.Store tx.old.conn.now) (state S.Store tx.new.conn.now) result }
-    ensures live { StaysLive
-        (state S.Store tx.old.conn.now) (state S.Store tx.new.conn.now) result }
-    ensures kept { StaysCommitted (state S.Store tx.old.conn.now) (state S.Store tx.new.conn.now) }
-    ensures survives { SurvivesCut
-        (state S.Store tx.old.conn.now) (state S.Store tx.new.conn.now) }
 {
     add_table(
         tx,
@@ -144,14 +123,10 @@ fn add_templates<S: Alter>(tx: &mut Transaction<'_, S>) -> Result<(), Error>
 
 // All tables.
 fn add_tables<S: Alter>(tx: &mut Transaction<'_, S>) -> Result<(), Error>
-    ensures same_reference { tx.new.conn.ghost_name ≡ tx.old.conn.ghost_name }
+    ensures writes { Writes tx.old.conn.ghost_name tx.new.conn.ghost_name
+        (state S.Store tx.old.conn.now) (state S.Store tx.new.conn.now) result }
     ensures made { Grows no_schema with_tally
         (state S.Store tx.old.conn.now) (state S.Store tx.new.conn.now) result }
-    ensures live { StaysLive
-        (state S.Store tx.old.conn.now) (state S.Store tx.new.conn.now) result }
-    ensures kept { StaysCommitted (state S.Store tx.old.conn.now) (state S.Store tx.new.conn.now) }
-    ensures survives { SurvivesCut
-        (state S.Store tx.old.conn.now) (state S.Store tx.new.conn.now) }
 {
     add_callers(tx)?;
     add_services(tx)?;
@@ -160,14 +135,10 @@ fn add_tables<S: Alter>(tx: &mut Transaction<'_, S>) -> Result<(), Error>
 
 // The three indexes.
 fn add_indexes<S: Alter>(tx: &mut Transaction<'_, S>) -> Result<usize, Error>
-    ensures same_reference { tx.new.conn.ghost_name ≡ tx.old.conn.ghost_name }
+    ensures writes { Writes tx.old.conn.ghost_name tx.new.conn.ghost_name
+        (state S.Store tx.old.conn.now) (state S.Store tx.new.conn.now) result }
     ensures made { Grows with_tally (schema_at made)
         (state S.Store tx.old.conn.now) (state S.Store tx.new.conn.now) result }
-    ensures live { StaysLive
-        (state S.Store tx.old.conn.now) (state S.Store tx.new.conn.now) result }
-    ensures kept { StaysCommitted (state S.Store tx.old.conn.now) (state S.Store tx.new.conn.now) }
-    ensures survives { SurvivesCut
-        (state S.Store tx.old.conn.now) (state S.Store tx.new.conn.now) }
 {
     add_index(tx, "CREATE INDEX run_closed ON run (service, closed)")?;
     add_index(
@@ -179,14 +150,10 @@ fn add_indexes<S: Alter>(tx: &mut Transaction<'_, S>) -> Result<usize, Error>
 
 // The one row of meta: its id, which is the rowid and 1, and the schema's number, which is 2.
 fn write_meta<S: Alter>(tx: &mut Transaction<'_, S>) -> Result<usize, Error>
-    ensures same_reference { tx.new.conn.ghost_name ≡ tx.old.conn.ghost_name }
+    ensures writes { Writes tx.old.conn.ghost_name tx.new.conn.ghost_name
+        (state S.Store tx.old.conn.now) (state S.Store tx.new.conn.now) result }
     ensures made { IsFilled
         (state S.Store tx.old.conn.now) (state S.Store tx.new.conn.now) result }
-    ensures live { StaysLive
-        (state S.Store tx.old.conn.now) (state S.Store tx.new.conn.now) result }
-    ensures kept { StaysCommitted (state S.Store tx.old.conn.now) (state S.Store tx.new.conn.now) }
-    ensures survives { SurvivesCut
-        (state S.Store tx.old.conn.now) (state S.Store tx.new.conn.now) }
 {
     tx.execute("INSERT INTO meta (schema) VALUES (2)", &[])
 }

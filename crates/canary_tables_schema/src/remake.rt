@@ -5,84 +5,64 @@ ghost use Rattle.sqlite.specs.Held.{state};
 ghost use Rattle.canary_tables_schema.specs.First.{first_schema};
 ghost use Rattle.canary_tables_schema.specs.Layout.{moved};
 ghost use Rattle.canary_tables_schema.specs.Schema.{schema_at};
-ghost use Rattle.canary_tables_schema.specs.Stores.{StaysLive, StaysCommitted, SurvivesCut};
 ghost use Rattle.canary_tables_schema.specs.Remakes.{Remakes, DropsTable, DropsIndex, AddsTable};
 ghost use Rattle.canary_tables_schema.specs.Remakes.{AddsIndex, first_unindexed, without_tally};
 ghost use Rattle.canary_tables_schema.specs.Remakes.{moved_tables, old_trees, new_trees};
+ghost use Rattle.canary_tables_schema.specs.Stores.{Writes};
 
 use sqlite::{Alter, Error, Transaction};
 
 // Runs a text that drops a table.
 fn drop_table<S: Alter>(tx: &mut Transaction<'_, S>, text: &str) -> Result<usize, Error>
-    ensures same_reference { tx.new.conn.ghost_name ≡ tx.old.conn.ghost_name }
+    ensures writes { Writes tx.old.conn.ghost_name tx.new.conn.ghost_name
+        (state S.Store tx.old.conn.now) (state S.Store tx.new.conn.now) result }
     ensures made { (schema next : Schema) (kept : List ℕ) → DropsTable schema text.now next kept
         → Remakes schema next kept []
         (state S.Store tx.old.conn.now) (state S.Store tx.new.conn.now) result }
-    ensures live { StaysLive
-        (state S.Store tx.old.conn.now) (state S.Store tx.new.conn.now) result }
-    ensures kept { StaysCommitted (state S.Store tx.old.conn.now) (state S.Store tx.new.conn.now) }
-    ensures survives { SurvivesCut
-        (state S.Store tx.old.conn.now) (state S.Store tx.new.conn.now) }
 {
     tx.execute(text, &[])
 }
 
 // Runs a text that drops an index.
 fn drop_index<S: Alter>(tx: &mut Transaction<'_, S>, text: &str) -> Result<usize, Error>
-    ensures same_reference { tx.new.conn.ghost_name ≡ tx.old.conn.ghost_name }
+    ensures writes { Writes tx.old.conn.ghost_name tx.new.conn.ghost_name
+        (state S.Store tx.old.conn.now) (state S.Store tx.new.conn.now) result }
     ensures made { (schema next : Schema) (kept : List ℕ) → DropsIndex schema text.now next kept
         → Remakes schema next kept []
         (state S.Store tx.old.conn.now) (state S.Store tx.new.conn.now) result }
-    ensures live { StaysLive
-        (state S.Store tx.old.conn.now) (state S.Store tx.new.conn.now) result }
-    ensures kept { StaysCommitted (state S.Store tx.old.conn.now) (state S.Store tx.new.conn.now) }
-    ensures survives { SurvivesCut
-        (state S.Store tx.old.conn.now) (state S.Store tx.new.conn.now) }
 {
     tx.execute(text, &[])
 }
 
 // Runs a text that makes a table.
 fn add_table<S: Alter>(tx: &mut Transaction<'_, S>, text: &str) -> Result<usize, Error>
-    ensures same_reference { tx.new.conn.ghost_name ≡ tx.old.conn.ghost_name }
+    ensures writes { Writes tx.old.conn.ghost_name tx.new.conn.ghost_name
+        (state S.Store tx.old.conn.now) (state S.Store tx.new.conn.now) result }
     ensures made { (schema next : Schema) (kept : List ℕ) (tree : ℕ)
         → AddsTable schema text.now next kept tree
         → Remakes schema next kept (tree ∷ [])
         (state S.Store tx.old.conn.now) (state S.Store tx.new.conn.now) result }
-    ensures live { StaysLive
-        (state S.Store tx.old.conn.now) (state S.Store tx.new.conn.now) result }
-    ensures kept { StaysCommitted (state S.Store tx.old.conn.now) (state S.Store tx.new.conn.now) }
-    ensures survives { SurvivesCut
-        (state S.Store tx.old.conn.now) (state S.Store tx.new.conn.now) }
 {
     tx.execute(text, &[])
 }
 
 // Runs a text that makes an index.
 fn add_index<S: Alter>(tx: &mut Transaction<'_, S>, text: &str) -> Result<usize, Error>
-    ensures same_reference { tx.new.conn.ghost_name ≡ tx.old.conn.ghost_name }
+    ensures writes { Writes tx.old.conn.ghost_name tx.new.conn.ghost_name
+        (state S.Store tx.old.conn.now) (state S.Store tx.new.conn.now) result }
     ensures made { (schema next : Schema) (kept : List ℕ) → AddsIndex schema text.now next kept
         → Remakes schema next kept []
         (state S.Store tx.old.conn.now) (state S.Store tx.new.conn.now) result }
-    ensures live { StaysLive
-        (state S.Store tx.old.conn.now) (state S.Store tx.new.conn.now) result }
-    ensures kept { StaysCommitted (state S.Store tx.old.conn.now) (state S.Store tx.new.conn.now) }
-    ensures survives { SurvivesCut
-        (state S.Store tx.old.conn.now) (state S.Store tx.new.conn.now) }
 {
     tx.execute(text, &[])
 }
 
 // The three indexes go.
 fn unindex<S: Alter>(tx: &mut Transaction<'_, S>) -> Result<usize, Error>
-    ensures same_reference { tx.new.conn.ghost_name ≡ tx.old.conn.ghost_name }
+    ensures writes { Writes tx.old.conn.ghost_name tx.new.conn.ghost_name
+        (state S.Store tx.old.conn.now) (state S.Store tx.new.conn.now) result }
     ensures made { Remakes first_schema first_unindexed old_trees []
         (state S.Store tx.old.conn.now) (state S.Store tx.new.conn.now) result }
-    ensures live { StaysLive
-        (state S.Store tx.old.conn.now) (state S.Store tx.new.conn.now) result }
-    ensures kept { StaysCommitted (state S.Store tx.old.conn.now) (state S.Store tx.new.conn.now) }
-    ensures survives { SurvivesCut
-        (state S.Store tx.old.conn.now) (state S.Store tx.new.conn.now) }
 {
     drop_index(tx, "DROP INDEX history_service")?;
     drop_index(tx, "DROP INDEX measurement_service")?;
@@ -91,14 +71,10 @@ fn unindex<S: Alter>(tx: &mut Transaction<'_, S>) -> Result<usize, Error>
 
 // The two tables go.
 fn drop_old<S: Alter>(tx: &mut Transaction<'_, S>) -> Result<usize, Error>
-    ensures same_reference { tx.new.conn.ghost_name ≡ tx.old.conn.ghost_name }
+    ensures writes { Writes tx.old.conn.ghost_name tx.new.conn.ghost_name
+        (state S.Store tx.old.conn.now) (state S.Store tx.new.conn.now) result }
     ensures made { Remakes first_unindexed without_tally old_trees []
         (state S.Store tx.old.conn.now) (state S.Store tx.new.conn.now) result }
-    ensures live { StaysLive
-        (state S.Store tx.old.conn.now) (state S.Store tx.new.conn.now) result }
-    ensures kept { StaysCommitted (state S.Store tx.old.conn.now) (state S.Store tx.new.conn.now) }
-    ensures survives { SurvivesCut
-        (state S.Store tx.old.conn.now) (state S.Store tx.new.conn.now) }
 {
     drop_table(tx, "DROP TABLE template")?;
     drop_table(tx, "DROP TABLE tally")
@@ -106,14 +82,10 @@ fn drop_old<S: Alter>(tx: &mut Transaction<'_, S>) -> Result<usize, Error>
 
 // The three new tables.
 fn add_new<S: Alter>(tx: &mut Transaction<'_, S>) -> Result<usize, Error>
-    ensures same_reference { tx.new.conn.ghost_name ≡ tx.old.conn.ghost_name }
+    ensures writes { Writes tx.old.conn.ghost_name tx.new.conn.ghost_name
+        (state S.Store tx.old.conn.now) (state S.Store tx.new.conn.now) result }
     ensures made { Remakes without_tally moved_tables old_trees new_trees
         (state S.Store tx.old.conn.now) (state S.Store tx.new.conn.now) result }
-    ensures live { StaysLive
-        (state S.Store tx.old.conn.now) (state S.Store tx.new.conn.now) result }
-    ensures kept { StaysCommitted (state S.Store tx.old.conn.now) (state S.Store tx.new.conn.now) }
-    ensures survives { SurvivesCut
-        (state S.Store tx.old.conn.now) (state S.Store tx.new.conn.now) }
 {
     add_table(
         tx,
@@ -137,14 +109,10 @@ fn add_new<S: Alter>(tx: &mut Transaction<'_, S>) -> Result<usize, Error>
 
 // The three indexes again.
 fn index<S: Alter>(tx: &mut Transaction<'_, S>) -> Result<usize, Error>
-    ensures same_reference { tx.new.conn.ghost_name ≡ tx.old.conn.ghost_name }
+    ensures writes { Writes tx.old.conn.ghost_name tx.new.conn.ghost_name
+        (state S.Store tx.old.conn.now) (state S.Store tx.new.conn.now) result }
     ensures made { Remakes moved_tables (schema_at moved) (old_trees ++ new_trees) []
         (state S.Store tx.old.conn.now) (state S.Store tx.new.conn.now) result }
-    ensures live { StaysLive
-        (state S.Store tx.old.conn.now) (state S.Store tx.new.conn.now) result }
-    ensures kept { StaysCommitted (state S.Store tx.old.conn.now) (state S.Store tx.new.conn.now) }
-    ensures survives { SurvivesCut
-        (state S.Store tx.old.conn.now) (state S.Store tx.new.conn.now) }
 {
     add_index(tx, "CREATE INDEX run_closed ON run (service, closed)")?;
     add_index(
@@ -159,14 +127,10 @@ fn index<S: Alter>(tx: &mut Transaction<'_, S>) -> Result<usize, Error>
 /// which are empty. All other tables keep their rows, `meta` too. An error is the database's, as
 /// where the disk fails.
 pub fn remake<S: Alter>(tx: &mut Transaction<'_, S>) -> Result<usize, Error>
-    ensures same_reference { tx.new.conn.ghost_name ≡ tx.old.conn.ghost_name }
+    ensures writes { Writes tx.old.conn.ghost_name tx.new.conn.ghost_name
+        (state S.Store tx.old.conn.now) (state S.Store tx.new.conn.now) result }
     ensures made { Remakes first_schema (schema_at moved) old_trees new_trees
         (state S.Store tx.old.conn.now) (state S.Store tx.new.conn.now) result }
-    ensures live { StaysLive
-        (state S.Store tx.old.conn.now) (state S.Store tx.new.conn.now) result }
-    ensures kept { StaysCommitted (state S.Store tx.old.conn.now) (state S.Store tx.new.conn.now) }
-    ensures survives { SurvivesCut
-        (state S.Store tx.old.conn.now) (state S.Store tx.new.conn.now) }
 {
     unindex(tx)?;
     drop_old(tx)?;

@@ -21,7 +21,8 @@ use Rattle.sqlite.specs.Effect.{Database, IsSource, value_rows}
 use Rattle.sqlite.proofs.Callers.{one_step}
 use Rattle.sqlite_rules.specs.Action.{works, Writes}
 use Rattle.sqlite_rules.proofs.ListLemmas.{all_has, all_from, has_got}
-use Rattle.canary_tables_write.proofs.Adding.{went, same_value, does, no_works}
+use Rattle.canary_tables_schema.proofs.Went.{went, same_value}
+use Rattle.canary_tables_schema.proofs.Inserts.{does, no_works}
 
 -- the row under the next place: one above the last of the table, or one above the count, whichever is higher
 abbrev pub counted_row : ℤ → Row → List Row → Row

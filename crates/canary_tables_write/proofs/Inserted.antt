@@ -27,7 +27,8 @@ use Rattle.canary_tables_schema.specs.Layout.{Layout, desk_trees, sequence_at}
 use Rattle.canary_tables_schema.specs.Schema.{schema_at, sequence}
 use Rattle.canary_tables_schema.specs.Cells.{cells_of, whole_or_null}
 use Rattle.canary_tables_schema.specs.Stores.{IsNumbered}
-use Rattle.canary_tables_write.proofs.Adding.{AddsRow, inserts}
+use Rattle.canary_tables_schema.specs.Adds.{AddsRow}
+use Rattle.canary_tables_schema.proofs.Inserts.{inserts}
 use Rattle.canary_tables_write.proofs.Appended.{appended, still_numbered}
 use Rattle.canary_tables_write.proofs.Counted.{CountsRow, inserts as counts}
 use Rattle.canary_tables_write.proofs.Idle.{AreIdle, idle}

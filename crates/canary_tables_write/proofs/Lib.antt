@@ -1,38 +1,36 @@
-pub mod Idle
-pub mod Places
-pub mod Adding
-pub mod Counted
-pub mod Appended
-pub mod Spared
-pub mod Inserted
-pub mod CallerInserted
-pub mod KeptInserted
-pub mod RevisionInserted
-pub mod BindingInserted
-pub mod ServiceInserted
-pub mod RunInserted
-pub mod TallyInserted
-pub mod MeasurementInserted
-pub mod LineInserted
-pub mod Loops
-pub mod TalliesInserted
-pub mod UpdateAnswer
-pub mod UpdateRows
-pub mod Replaced
-pub mod UpdateTyped
-pub mod UpdateDesk
-pub mod UpdateTests
-pub mod CallerUpdated
-pub mod BindingUpdated
-pub mod ServiceUpdated
-pub mod RunClosed
-pub mod TallyCounted
-pub mod CountsInserted
-pub mod Filled
-pub mod SchemaSet
-pub mod SoundAfter
+mod Idle
+mod Places
+mod Counted
+mod Appended
+mod Spared
+mod Inserted
+mod CallerInserted
+mod KeptInserted
+mod RevisionInserted
+mod BindingInserted
+mod ServiceInserted
+mod RunInserted
+mod TallyInserted
+mod MeasurementInserted
+mod LineInserted
+mod Loops
+mod TalliesInserted
+mod UpdateAnswer
+mod UpdateRows
+mod Replaced
+mod UpdateTyped
+mod UpdateDesk
+mod UpdateTests
+mod CallerUpdated
+mod BindingUpdated
+mod ServiceUpdated
+mod RunClosed
+mod TallyCounted
+mod CountsInserted
+mod Filled
+mod SchemaSet
+mod SoundAfter
 mod Doing
 mod Happening
 mod Binding
-mod FrontWords
 mod Committing

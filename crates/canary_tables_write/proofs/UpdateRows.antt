@@ -20,7 +20,7 @@ use Rattle.sqlite_rules.specs.Action.{works, Writes}
 use Rattle.sqlite_rules.specs.Calls.{ids_of}
 use Rattle.sqlite_schema.specs.declared.program.Program.{Program}
 use Rattle.canary_tables_write.proofs.UpdateAnswer.{plain_query, plain_answer, passes, shows}
-use Rattle.canary_tables_write.proofs.Adding.{went, same_value}
+use Rattle.canary_tables_schema.proofs.Went.{went, same_value}
 
 does : (limit : Option ℕ) (mode : Mode) (params : Row) (db : Database) (text : List ℕ) (at : ℕ) (q : Program) (table : Table) → slice_get db.schema.tables at ≡ Some table
     → (tally : Tally) (after : Database) → Does limit mode params db text None (Update at q) (Ok (tally, after))

@@ -1,5 +1,5 @@
 -- What the statements of a commit ask of the tables.
-use Rattle.std.specs.Prelude.{◌≡◌, Bool, true, List, ℕ, length, None}
+use Rattle.std.specs.Prelude.{◌≡◌, Bool, true, false, List, ℕ, length, None}
 use Rattle.canary_plan.specs.declared.analysis_parts.Revision.{Revision}
 use Rattle.canary_plan.specs.declared.command.Command.{Command}
 use Rattle.canary_plan.specs.Plans.{all_revisions, distinct}
@@ -12,12 +12,11 @@ use Rattle.canary_once.specs.declared.book.Settlement.{Settlement}
 use Rattle.canary_tables_rows.specs.Tables.{Tables}
 use Rattle.canary_tables_rows.specs.Changes.{HasService, with_run, tallies_opened}
 use Rattle.canary_tables_contents.specs.Values.{ending_of}
-use Rattle.canary_tables_contents.specs.Settling.{has_service, has_bindings, begins, AllRebind, RequestAsks, DeskAsks}
+use Rattle.canary_tables_contents.specs.Settling.{makes_service, has_bindings, begins, AllRebind, RequestAsks, DeskAsks}
 
--- it is said rightly whether the service of that name is there, and no other row has its name
-pub record PutAsks (is_there : Bool) (name : List ℕ) (t : Tables) : Type 0 where
-  pub said : is_there ≡ has_service name t
-  pub one : has_service name t ≡ true → HasService name t
+-- unless the command makes the service of that name, it is there
+abbrev pub PutAsks : Command → List ℕ → Tables → Type 0
+PutAsks command name t = makes_service command ≡ false → HasService name t
 
 -- it is said rightly whether the present attempt of the service is bound; if it is, then to one
 -- revision of each of these templates
@@ -32,12 +31,6 @@ BeginAsks is_bound command s t =
     begins command ≡ true
     → BindAsks is_bound s.service.name (distinct (all_revisions s.service.bound)) t
 
--- it is said rightly whether the service that the change names is there
-abbrev pub IsThereSaid : Bool → DeskChange → Tables → Type 0
-IsThereSaid is_there Nothing t = Unit {0}
-IsThereSaid is_there (AddsTemplate template) t = Unit {0}
-IsThereSaid is_there (Updates s effects) t = is_there ≡ has_service s.service.name t
-
 -- if the command begins an attempt, it is said rightly whether that before it is bound
 abbrev pub IsBoundSaid : Bool → Command → DeskChange → Tables → Type 0
 IsBoundSaid is_bound command Nothing t = Unit {0}
@@ -45,17 +38,12 @@ IsBoundSaid is_bound command (AddsTemplate template) t = Unit {0}
 IsBoundSaid is_bound command (Updates s effects) t =
     begins command ≡ true → is_bound ≡ has_bindings s.service.name t
 
-abbrev pub IsSaid : Bool → Bool → Command → DeskChange → Tables → Type 0
-IsSaid is_there is_bound command change t =
-    IsThereSaid is_there change t × IsBoundSaid is_bound command change t
+abbrev pub ChangeAsks : Bool → Command → DeskChange → Tables → Type 0
+ChangeAsks is_bound command change t =
+    IsBoundSaid is_bound command change t × DeskAsks command change t
 
-abbrev pub ChangeAsks : Bool → Bool → Command → DeskChange → Tables → Type 0
-ChangeAsks is_there is_bound command change t =
-    IsSaid is_there is_bound command change t × DeskAsks command change t
-
-abbrev pub CommitAsks : Bool → Bool → Settlement → Tables → Type 0
-CommitAsks is_there is_bound s t =
-    IsSaid is_there is_bound s.receipt.command s.change t × RequestAsks s t
+abbrev pub CommitAsks : Bool → Settlement → Tables → Type 0
+CommitAsks is_bound s t = IsBoundSaid is_bound s.receipt.command s.change t × RequestAsks s t
 
 -- a run is added, and a tally for each of its metrics
 abbrev pub run_added : List ℕ → Opening → Tables → Tables

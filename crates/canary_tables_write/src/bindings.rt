@@ -3,15 +3,14 @@ ghost use Rattle.std.specs.Prelude.{◌≡◌, IfOk};
 ghost use Rattle.sqlite.specs.Held.{state};
 ghost use Rattle.canary_plan.specs.Plans.{all_revisions, distinct};
 ghost use Rattle.canary_tables_rows.specs.Changes.{HasBinding, with_binding, with_bound};
-ghost use Rattle.canary_tables_schema.specs.Stores.{Wrote, WroteIf, StaysLive, StaysCommitted};
-ghost use Rattle.canary_tables_schema.specs.Stores.{SurvivesCut};
+ghost use Rattle.canary_tables_schema.specs.Stores.{Writes, Wrote, WroteIf};
 ghost use Rattle.canary_tables_contents.specs.Values.{binding_row};
 ghost use Rattle.canary_tables_contents.specs.Settling.{all_bound, all_rebound, attempt_bound};
 ghost use Rattle.canary_tables_contents.specs.Settling.{bindings_put, AllRebind};
 ghost use Rattle.canary_tables_write.specs.Commits.{BindAsks, BeginAsks};
 
-use crate::begins::begins;
 use crate::inserts::insert_binding;
+use crate::kinds::begins;
 use crate::updates::update_binding;
 use canary_base::error::Memory;
 use canary_base::lists::Listed;
@@ -31,13 +30,10 @@ fn bind<S: Alter>(
     run: u32,
     revision: &Revision,
 ) -> Result<(), StoreFault>
-    ensures same_reference { tx.new.conn.ghost_name ≡ tx.old.conn.ghost_name }
+    ensures writes { Writes tx.old.conn.ghost_name tx.new.conn.ghost_name
+        (state S.Store tx.old.conn.now) (state S.Store tx.new.conn.now) result }
     ensures wrote { Wrote (with_binding (binding_row service.now run revision.now))
         (state S.Store tx.old.conn.now) (state S.Store tx.new.conn.now) result }
-    ensures live { StaysLive (state S.Store tx.old.conn.now)
-        (state S.Store tx.new.conn.now) result }
-    ensures kept { StaysCommitted (state S.Store tx.old.conn.now) (state S.Store tx.new.conn.now) }
-    ensures survives { SurvivesCut (state S.Store tx.old.conn.now) (state S.Store tx.new.conn.now) }
 {
     insert_binding(tx, service, run, &revision.template, revision.number).map_err(fault_of)?;
     Ok(())
@@ -53,13 +49,10 @@ pub(crate) fn bind_all<S: Alter>(
     run: u32,
     revisions: &[Revision],
 ) -> Result<(), StoreFault>
-    ensures same_reference { tx.new.conn.ghost_name ≡ tx.old.conn.ghost_name }
+    ensures writes { Writes tx.old.conn.ghost_name tx.new.conn.ghost_name
+        (state S.Store tx.old.conn.now) (state S.Store tx.new.conn.now) result }
     ensures wrote { Wrote (all_bound service.now run revisions.now)
         (state S.Store tx.old.conn.now) (state S.Store tx.new.conn.now) result }
-    ensures live { StaysLive (state S.Store tx.old.conn.now)
-        (state S.Store tx.new.conn.now) result }
-    ensures kept { StaysCommitted (state S.Store tx.old.conn.now) (state S.Store tx.new.conn.now) }
-    ensures survives { SurvivesCut (state S.Store tx.old.conn.now) (state S.Store tx.new.conn.now) }
 {
     for revision in revisions {
         bind(tx, service, run, revision)?;
@@ -73,14 +66,11 @@ fn rebind<S: Alter>(
     service: &Name,
     revision: &Revision,
 ) -> Result<(), StoreFault>
-    ensures same_reference { tx.new.conn.ghost_name ≡ tx.old.conn.ghost_name }
+    ensures writes { Writes tx.old.conn.ghost_name tx.new.conn.ghost_name
+        (state S.Store tx.old.conn.now) (state S.Store tx.new.conn.now) result }
     ensures wrote { WroteIf (HasBinding service.now 0 revision.now.template)
         (with_bound service.now 0 revision.now.template revision.now.number)
         (state S.Store tx.old.conn.now) (state S.Store tx.new.conn.now) result }
-    ensures live { StaysLive (state S.Store tx.old.conn.now)
-        (state S.Store tx.new.conn.now) result }
-    ensures kept { StaysCommitted (state S.Store tx.old.conn.now) (state S.Store tx.new.conn.now) }
-    ensures survives { SurvivesCut (state S.Store tx.old.conn.now) (state S.Store tx.new.conn.now) }
 {
     update_binding(tx, service, 0, &revision.template, revision.number).map_err(fault_of)?;
     Ok(())
@@ -92,14 +82,11 @@ fn rebind_all<S: Alter>(
     service: &Name,
     revisions: &[Revision],
 ) -> Result<(), StoreFault>
-    ensures same_reference { tx.new.conn.ghost_name ≡ tx.old.conn.ghost_name }
+    ensures writes { Writes tx.old.conn.ghost_name tx.new.conn.ghost_name
+        (state S.Store tx.old.conn.now) (state S.Store tx.new.conn.now) result }
     ensures wrote { WroteIf (AllRebind service.now 0 revisions.now)
         (all_rebound service.now 0 revisions.now)
         (state S.Store tx.old.conn.now) (state S.Store tx.new.conn.now) result }
-    ensures live { StaysLive (state S.Store tx.old.conn.now)
-        (state S.Store tx.new.conn.now) result }
-    ensures kept { StaysCommitted (state S.Store tx.old.conn.now) (state S.Store tx.new.conn.now) }
-    ensures survives { SurvivesCut (state S.Store tx.old.conn.now) (state S.Store tx.new.conn.now) }
 {
     for revision in revisions {
         rebind(tx, service, revision)?;
@@ -114,14 +101,11 @@ fn bind_attempt<S: Alter>(
     revisions: &[Revision],
     is_bound: bool,
 ) -> Result<(), StoreFault>
-    ensures same_reference { tx.new.conn.ghost_name ≡ tx.old.conn.ghost_name }
+    ensures writes { Writes tx.old.conn.ghost_name tx.new.conn.ghost_name
+        (state S.Store tx.old.conn.now) (state S.Store tx.new.conn.now) result }
     ensures wrote { WroteIf (BindAsks is_bound service.now revisions.now)
         (attempt_bound service.now revisions.now)
         (state S.Store tx.old.conn.now) (state S.Store tx.new.conn.now) result }
-    ensures live { StaysLive (state S.Store tx.old.conn.now)
-        (state S.Store tx.new.conn.now) result }
-    ensures kept { StaysCommitted (state S.Store tx.old.conn.now) (state S.Store tx.new.conn.now) }
-    ensures survives { SurvivesCut (state S.Store tx.old.conn.now) (state S.Store tx.new.conn.now) }
 {
     if is_bound {
         rebind_all(tx, service, revisions)
@@ -149,14 +133,11 @@ pub(crate) fn put_bindings<S: Alter>(
     parts: &ServiceParts,
     is_bound: bool,
 ) -> Result<(), StoreFault>
-    ensures same_reference { tx.new.conn.ghost_name ≡ tx.old.conn.ghost_name }
+    ensures writes { Writes tx.old.conn.ghost_name tx.new.conn.ghost_name
+        (state S.Store tx.old.conn.now) (state S.Store tx.new.conn.now) result }
     ensures wrote { WroteIf (BeginAsks is_bound command.now parts.now)
         (bindings_put command.now parts.now)
         (state S.Store tx.old.conn.now) (state S.Store tx.new.conn.now) result }
-    ensures live { StaysLive (state S.Store tx.old.conn.now)
-        (state S.Store tx.new.conn.now) result }
-    ensures kept { StaysCommitted (state S.Store tx.old.conn.now) (state S.Store tx.new.conn.now) }
-    ensures survives { SurvivesCut (state S.Store tx.old.conn.now) (state S.Store tx.new.conn.now) }
 {
     if !begins(command) {
         return Ok(());

@@ -4,8 +4,8 @@ ghost use Rattle.sqlite.specs.Held.{state};
 ghost use Rattle.canary_release.specs.declared.decide.DeskChange.TheVariants as change;
 ghost use Rattle.canary_tables_rows.specs.Tables.{Tables};
 ghost use Rattle.canary_tables_rows.specs.Changes.{with_kept};
-ghost use Rattle.canary_tables_schema.specs.Stores.{Wrote, WroteIf, StaysLive, StaysCommitted};
-ghost use Rattle.canary_tables_schema.specs.Stores.{SurvivesCut, IsUsable, Stores};
+ghost use Rattle.canary_tables_schema.specs.Stores.{Writes, Wrote, WroteIf};
+ghost use Rattle.canary_tables_schema.specs.Stores.{IsUsable, Stores};
 ghost use Rattle.canary_tables_contents.specs.Values.{kept_row};
 ghost use Rattle.canary_tables_contents.specs.Tables.{IsReadableCommand};
 ghost use Rattle.canary_tables_contents.specs.Settling.{CallerAsks, caller_settled, service_put};
@@ -17,6 +17,7 @@ ghost use Rattle.canary_tables_write.specs.Commits.{PutAsks, ChangeAsks, CommitA
 use crate::bindings::put_bindings;
 use crate::effects::apply_effects;
 use crate::inserts::{insert_caller, insert_kept, insert_revision, insert_service};
+use crate::kinds::makes_service;
 use crate::updates::{update_caller, update_service};
 use canary_base::names::Name;
 use canary_canonical::command::CanonicalCommand;
@@ -36,13 +37,10 @@ fn settle_caller<S: Alter>(
     caller: &Name,
     number: u32,
 ) -> Result<usize, Error>
-    ensures same_reference { tx.new.conn.ghost_name ≡ tx.old.conn.ghost_name }
+    ensures writes { Writes tx.old.conn.ghost_name tx.new.conn.ghost_name
+        (state S.Store tx.old.conn.now) (state S.Store tx.new.conn.now) result }
     ensures wrote { WroteIf (CallerAsks caller.now number) (caller_settled caller.now number)
         (state S.Store tx.old.conn.now) (state S.Store tx.new.conn.now) result }
-    ensures live { StaysLive (state S.Store tx.old.conn.now)
-        (state S.Store tx.new.conn.now) result }
-    ensures kept { StaysCommitted (state S.Store tx.old.conn.now) (state S.Store tx.new.conn.now) }
-    ensures survives { SurvivesCut (state S.Store tx.old.conn.now) (state S.Store tx.new.conn.now) }
 {
     if number == 1 {
         insert_caller(tx, caller)
@@ -51,28 +49,24 @@ fn settle_caller<S: Alter>(
     }
 }
 
-// The service stands so: it is there, or the command makes it.
+// The service stands so: the command makes it, or it is there.
 fn put_service<S: Alter>(
     tx: &mut Transaction<'_, S>,
     command: &CanonicalCommand,
     parts: &ServiceParts,
-    is_there: bool,
 ) -> Result<usize, Error>
-    ensures same_reference { tx.new.conn.ghost_name ≡ tx.old.conn.ghost_name }
-    ensures wrote { WroteIf (PutAsks is_there parts.now.service.name)
+    ensures writes { Writes tx.old.conn.ghost_name tx.new.conn.ghost_name
+        (state S.Store tx.old.conn.now) (state S.Store tx.new.conn.now) result }
+    ensures wrote { WroteIf (PutAsks command.now parts.now.service.name)
         (service_put command.now parts.now)
         (state S.Store tx.old.conn.now) (state S.Store tx.new.conn.now) result }
-    ensures live { StaysLive (state S.Store tx.old.conn.now)
-        (state S.Store tx.new.conn.now) result }
-    ensures kept { StaysCommitted (state S.Store tx.old.conn.now) (state S.Store tx.new.conn.now) }
-    ensures survives { SurvivesCut (state S.Store tx.old.conn.now) (state S.Store tx.new.conn.now) }
 {
     let name = &parts.service.name;
     let standing = standing(parts);
-    if is_there {
-        update_service(tx, name, &standing)
-    } else {
+    if makes_service(command) {
         insert_service(tx, name, command.text(), &standing)
+    } else {
+        update_service(tx, name, &standing)
     }
 }
 
@@ -82,18 +76,14 @@ fn change_desk<S: Alter>(
     alloc: Global,
     command: &CanonicalCommand,
     change: &DeskChange,
-    is_there: bool,
     is_bound: bool,
 ) -> Result<(), StoreFault>
-    ensures same_reference { tx.new.conn.ghost_name ≡ tx.old.conn.ghost_name }
-    ensures wrote { WroteIf (ChangeAsks is_there is_bound command.now change.now)
+    ensures writes { Writes tx.old.conn.ghost_name tx.new.conn.ghost_name
+        (state S.Store tx.old.conn.now) (state S.Store tx.new.conn.now) result }
+    ensures wrote { WroteIf (ChangeAsks is_bound command.now change.now)
         (desk_changed command.now change.now)
         (state S.Store tx.old.conn.now) (state S.Store tx.new.conn.now) result }
     ensures readable { OnOk result (IsReadableChange change.now) }
-    ensures live { StaysLive (state S.Store tx.old.conn.now)
-        (state S.Store tx.new.conn.now) result }
-    ensures kept { StaysCommitted (state S.Store tx.old.conn.now) (state S.Store tx.new.conn.now) }
-    ensures survives { SurvivesCut (state S.Store tx.old.conn.now) (state S.Store tx.new.conn.now) }
 {
     match change {
         DeskChange::Nothing => Ok(()),
@@ -105,7 +95,6 @@ fn change_desk<S: Alter>(
                 command,
                 service.parts(),
                 effects.as_slice(),
-                is_there,
                 is_bound,
             )
         }
@@ -118,13 +107,10 @@ fn add_template<S: Alter>(
     command: &CanonicalCommand,
     template: &Template,
 ) -> Result<(), StoreFault>
-    ensures same_reference { tx.new.conn.ghost_name ≡ tx.old.conn.ghost_name }
+    ensures writes { Writes tx.old.conn.ghost_name tx.new.conn.ghost_name
+        (state S.Store tx.old.conn.now) (state S.Store tx.new.conn.now) result }
     ensures wrote { Wrote (desk_changed command.now (change.Template template.now))
         (state S.Store tx.old.conn.now) (state S.Store tx.new.conn.now) result }
-    ensures live { StaysLive (state S.Store tx.old.conn.now)
-        (state S.Store tx.new.conn.now) result }
-    ensures kept { StaysCommitted (state S.Store tx.old.conn.now) (state S.Store tx.new.conn.now) }
-    ensures survives { SurvivesCut (state S.Store tx.old.conn.now) (state S.Store tx.new.conn.now) }
 {
     let revision = template.revision();
     insert_revision(tx, &template.spec.name, revision, command.text()).map_err(fault_of)?;
@@ -138,21 +124,17 @@ fn change_service<S: Alter>(
     command: &CanonicalCommand,
     parts: &ServiceParts,
     effects: &[Effect],
-    is_there: bool,
     is_bound: bool,
 ) -> Result<(), StoreFault>
-    ensures same_reference { tx.new.conn.ghost_name ≡ tx.old.conn.ghost_name }
+    ensures writes { Writes tx.old.conn.ghost_name tx.new.conn.ghost_name
+        (state S.Store tx.old.conn.now) (state S.Store tx.new.conn.now) result }
     ensures wrote { WroteIf
-        (ChangeAsks is_there is_bound command.now (change.Service parts.now effects.now))
+        (ChangeAsks is_bound command.now (change.Service parts.now effects.now))
         (desk_changed command.now (change.Service parts.now effects.now))
         (state S.Store tx.old.conn.now) (state S.Store tx.new.conn.now) result }
     ensures readable { OnOk result (IsReadableChange (change.Service parts.now effects.now)) }
-    ensures live { StaysLive (state S.Store tx.old.conn.now)
-        (state S.Store tx.new.conn.now) result }
-    ensures kept { StaysCommitted (state S.Store tx.old.conn.now) (state S.Store tx.new.conn.now) }
-    ensures survives { SurvivesCut (state S.Store tx.old.conn.now) (state S.Store tx.new.conn.now) }
 {
-    put_service(tx, command, parts, is_there).map_err(fault_of)?;
+    put_service(tx, command, parts).map_err(fault_of)?;
     put_bindings(tx, alloc, command, parts, is_bound)?;
     apply_effects(tx, alloc, &parts.service.name, effects)?;
     Ok(())
@@ -163,18 +145,14 @@ fn write<S: Alter>(
     tx: &mut Transaction<'_, S>,
     alloc: Global,
     settlement: &Settlement,
-    is_there: bool,
     is_bound: bool,
 ) -> Result<(), StoreFault>
-    ensures same_reference { tx.new.conn.ghost_name ≡ tx.old.conn.ghost_name }
-    ensures wrote { WroteIf (CommitAsks is_there is_bound settlement.now)
+    ensures writes { Writes tx.old.conn.ghost_name tx.new.conn.ghost_name
+        (state S.Store tx.old.conn.now) (state S.Store tx.new.conn.now) result }
+    ensures wrote { WroteIf (CommitAsks is_bound settlement.now)
         (request_settled settlement.now)
         (state S.Store tx.old.conn.now) (state S.Store tx.new.conn.now) result }
     ensures readable { OnOk result (IsReadableSettlement settlement.now) }
-    ensures live { StaysLive (state S.Store tx.old.conn.now)
-        (state S.Store tx.new.conn.now) result }
-    ensures kept { StaysCommitted (state S.Store tx.old.conn.now) (state S.Store tx.new.conn.now) }
-    ensures survives { SurvivesCut (state S.Store tx.old.conn.now) (state S.Store tx.new.conn.now) }
 {
     let command = &settlement.receipt.command;
     settle_caller(tx, &settlement.caller, settlement.number.get()).map_err(fault_of)?;
@@ -185,7 +163,7 @@ fn write<S: Alter>(
         &settlement.receipt,
     )?;
     let change = &settlement.change;
-    change_desk(tx, alloc, command, change, is_there, is_bound)?;
+    change_desk(tx, alloc, command, change, is_bound)?;
     Ok(())
 }
 
@@ -196,14 +174,11 @@ fn keep<S: Alter>(
     number: u32,
     receipt: &Receipt,
 ) -> Result<(), StoreFault>
-    ensures same_reference { tx.new.conn.ghost_name ≡ tx.old.conn.ghost_name }
+    ensures writes { Writes tx.old.conn.ghost_name tx.new.conn.ghost_name
+        (state S.Store tx.old.conn.now) (state S.Store tx.new.conn.now) result }
     ensures wrote { Wrote (with_kept (kept_row caller.now number receipt.now))
         (state S.Store tx.old.conn.now) (state S.Store tx.new.conn.now) result }
     ensures readable { OnOk result (IsReadableCommand receipt.now.command) }
-    ensures live { StaysLive (state S.Store tx.old.conn.now)
-        (state S.Store tx.new.conn.now) result }
-    ensures kept { StaysCommitted (state S.Store tx.old.conn.now) (state S.Store tx.new.conn.now) }
-    ensures survives { SurvivesCut (state S.Store tx.old.conn.now) (state S.Store tx.new.conn.now) }
 {
     let status = u32::from(receipt.reply.status.code());
     let (command, body) = (receipt.command.text(), receipt.reply.body.as_str());
@@ -211,9 +186,8 @@ fn keep<S: Alter>(
     Ok(())
 }
 
-/// Settles a request in one transaction, with all that it changes, or does nothing. `is_there` says
-/// whether the service that the change names is there, and `is_bound`, if the command begins an
-/// attempt, whether its attempt before is bound.
+/// Settles a request in one transaction, with all that it changes, or does nothing. `is_bound`
+/// says, if the command begins an attempt, whether the one before it is bound.
 ///
 /// # Errors
 /// `Memory` where an allocation was refused, `Storage` where the store failed; nothing changed.
@@ -221,14 +195,13 @@ pub fn commit<S: Alter>(
     conn: &mut Connection<S>,
     alloc: Global,
     settlement: &Settlement,
-    is_there: bool,
     is_bound: bool,
 ) -> Result<(), StoreFault>
     requires autocommit { conn.old.in_transaction ≡ false }
     ensures mode { conn.new.in_transaction ≡ false }
     ensures held { IsUsable (state S.Store conn.new) → IsUsable (state S.Store conn.old) }
     ensures stored { IsUsable (state S.Store conn.new) → (t : Tables)
-        → Stores (state S.Store conn.old) t → CommitAsks is_there is_bound settlement.now t
+        → Stores (state S.Store conn.old) t → CommitAsks is_bound settlement.now t
         → OnOk result (Stores (state S.Store conn.new) (request_settled settlement.now t)) }
     ensures readable { OnOk result (IsReadableSettlement settlement.now) }
     ensures failed { IsUsable (state S.Store conn.new)
@@ -236,6 +209,6 @@ pub fn commit<S: Alter>(
 {
     let _settled = conn.is_autocommit();
     let mut tx = conn.transaction();
-    write(&mut tx, alloc, settlement, is_there, is_bound)?;
+    write(&mut tx, alloc, settlement, is_bound)?;
     tx.commit().map_err(fault_of)
 }

@@ -8,8 +8,7 @@ ghost use Rattle.canary_plan.specs.Lines.{words};
 ghost use Rattle.canary_plan.specs.Plans.{distinct};
 ghost use Rattle.canary_release.specs.declared.effect.Effect.TheVariants.{LineAdded, RunOpened, MeasurementRecorded};
 ghost use Rattle.canary_tables_rows.specs.Changes.{HasRun, HasTally, with_ending};
-ghost use Rattle.canary_tables_schema.specs.Stores.{Wrote, WroteIf, StaysLive, StaysCommitted};
-ghost use Rattle.canary_tables_schema.specs.Stores.{SurvivesCut};
+ghost use Rattle.canary_tables_schema.specs.Stores.{Writes, Wrote, WroteIf};
 ghost use Rattle.canary_tables_contents.specs.Numbers.{phase_column};
 ghost use Rattle.canary_tables_contents.specs.Values.{ending_of, measurement_row};
 ghost use Rattle.canary_tables_contents.specs.Tables.{IsReadableLine, IsReadableMeasurement};
@@ -51,14 +50,11 @@ fn tell<S: Alter>(
     service: &Name,
     line: &Line,
 ) -> Result<(), StoreFault>
-    ensures same_reference { tx.new.conn.ghost_name ≡ tx.old.conn.ghost_name }
+    ensures writes { Writes tx.old.conn.ghost_name tx.new.conn.ghost_name
+        (state S.Store tx.old.conn.now) (state S.Store tx.new.conn.now) result }
     ensures wrote { Wrote (happened service.now (LineAdded line.now))
         (state S.Store tx.old.conn.now) (state S.Store tx.new.conn.now) result }
     ensures readable { OnOk result (IsReadableLine line.now) }
-    ensures live { StaysLive (state S.Store tx.old.conn.now)
-        (state S.Store tx.new.conn.now) result }
-    ensures kept { StaysCommitted (state S.Store tx.old.conn.now) (state S.Store tx.new.conn.now) }
-    ensures survives { SurvivesCut (state S.Store tx.old.conn.now) (state S.Store tx.new.conn.now) }
 {
     let words = words_of(alloc, line)?;
     insert_line(tx, service, line.moment, words.as_str()).map_err(fault_of)?;
@@ -78,13 +74,10 @@ fn add_run<S: Alter>(
     service: &Name,
     opening: &Opening,
 ) -> Result<(), StoreFault>
-    ensures same_reference { tx.new.conn.ghost_name ≡ tx.old.conn.ghost_name }
+    ensures writes { Writes tx.old.conn.ghost_name tx.new.conn.ghost_name
+        (state S.Store tx.old.conn.now) (state S.Store tx.new.conn.now) result }
     ensures wrote { Wrote (run_added service.now opening.now)
         (state S.Store tx.old.conn.now) (state S.Store tx.new.conn.now) result }
-    ensures live { StaysLive (state S.Store tx.old.conn.now)
-        (state S.Store tx.new.conn.now) result }
-    ensures kept { StaysCommitted (state S.Store tx.old.conn.now) (state S.Store tx.new.conn.now) }
-    ensures survives { SurvivesCut (state S.Store tx.old.conn.now) (state S.Store tx.new.conn.now) }
 {
     insert_run(tx, service, opening.run, opening.step, opening.started).map_err(fault_of)?;
     insert_tallies(tx, service, opening.run, metric_count(opening)).map_err(fault_of)?;
@@ -105,13 +98,10 @@ fn open_run<S: Alter>(
     service: &Name,
     opening: &Opening,
 ) -> Result<(), StoreFault>
-    ensures same_reference { tx.new.conn.ghost_name ≡ tx.old.conn.ghost_name }
+    ensures writes { Writes tx.old.conn.ghost_name tx.new.conn.ghost_name
+        (state S.Store tx.old.conn.now) (state S.Store tx.new.conn.now) result }
     ensures wrote { Wrote (happened service.now (RunOpened opening.now))
         (state S.Store tx.old.conn.now) (state S.Store tx.new.conn.now) result }
-    ensures live { StaysLive (state S.Store tx.old.conn.now)
-        (state S.Store tx.new.conn.now) result }
-    ensures kept { StaysCommitted (state S.Store tx.old.conn.now) (state S.Store tx.new.conn.now) }
-    ensures survives { SurvivesCut (state S.Store tx.old.conn.now) (state S.Store tx.new.conn.now) }
 {
     let revisions = revisions_of(alloc, opening)?;
     add_run(tx, service, opening)?;
@@ -163,15 +153,12 @@ fn measure<S: Alter>(
     service: &Name,
     recorded: &Recorded,
 ) -> Result<(), StoreFault>
-    ensures same_reference { tx.new.conn.ghost_name ≡ tx.old.conn.ghost_name }
+    ensures writes { Writes tx.old.conn.ghost_name tx.new.conn.ghost_name
+        (state S.Store tx.old.conn.now) (state S.Store tx.new.conn.now) result }
     ensures wrote { WroteIf (HasTally service.now recorded.now.run recorded.now.metric)
         (happened service.now (MeasurementRecorded recorded.now))
         (state S.Store tx.old.conn.now) (state S.Store tx.new.conn.now) result }
     ensures readable { OnOk result (IsReadableMeasurement recorded.now) }
-    ensures live { StaysLive (state S.Store tx.old.conn.now)
-        (state S.Store tx.new.conn.now) result }
-    ensures kept { StaysCommitted (state S.Store tx.old.conn.now) (state S.Store tx.new.conn.now) }
-    ensures survives { SurvivesCut (state S.Store tx.old.conn.now) (state S.Store tx.new.conn.now) }
 {
     let row = measurement_row(alloc, service, recorded)?;
     insert_measurement(tx, &row).map_err(fault_of)?;
@@ -186,16 +173,13 @@ fn close<S: Alter>(
     service: &Name,
     closing: &Closing,
 ) -> Result<(), StoreFault>
-    ensures same_reference { tx.new.conn.ghost_name ≡ tx.old.conn.ghost_name }
+    ensures writes { Writes tx.old.conn.ghost_name tx.new.conn.ghost_name
+        (state S.Store tx.old.conn.now) (state S.Store tx.new.conn.now) result }
     ensures wrote { WroteIf (HasRun service.now closing.now.run)
         (with_ending service.now closing.now.run (ending_of (Some closing.now)))
         (state S.Store tx.old.conn.now) (state S.Store tx.new.conn.now) result }
     ensures readable { OnOk result
         (phase_of_number (phase_column closing.now.verdict) ≡ Some closing.now.verdict) }
-    ensures live { StaysLive (state S.Store tx.old.conn.now)
-        (state S.Store tx.new.conn.now) result }
-    ensures kept { StaysCommitted (state S.Store tx.old.conn.now) (state S.Store tx.new.conn.now) }
-    ensures survives { SurvivesCut (state S.Store tx.old.conn.now) (state S.Store tx.new.conn.now) }
 {
     let verdict = number_of(closing.verdict)?;
     let outside = u32::from(closing.outside);
@@ -210,14 +194,11 @@ fn apply_effect<S: Alter>(
     service: &Name,
     effect: &Effect,
 ) -> Result<(), StoreFault>
-    ensures same_reference { tx.new.conn.ghost_name ≡ tx.old.conn.ghost_name }
+    ensures writes { Writes tx.old.conn.ghost_name tx.new.conn.ghost_name
+        (state S.Store tx.old.conn.now) (state S.Store tx.new.conn.now) result }
     ensures wrote { WroteIf (Asks service.now effect.now) (happened service.now effect.now)
         (state S.Store tx.old.conn.now) (state S.Store tx.new.conn.now) result }
     ensures readable { OnOk result (IsReadableEffect effect.now) }
-    ensures live { StaysLive (state S.Store tx.old.conn.now)
-        (state S.Store tx.new.conn.now) result }
-    ensures kept { StaysCommitted (state S.Store tx.old.conn.now) (state S.Store tx.new.conn.now) }
-    ensures survives { SurvivesCut (state S.Store tx.old.conn.now) (state S.Store tx.new.conn.now) }
 {
     match effect {
         Effect::LineAdded(line) => tell(tx, alloc, service, line),
@@ -237,14 +218,11 @@ pub(crate) fn apply_effects<S: Alter>(
     service: &Name,
     effects: &[Effect],
 ) -> Result<(), StoreFault>
-    ensures same_reference { tx.new.conn.ghost_name ≡ tx.old.conn.ghost_name }
+    ensures writes { Writes tx.old.conn.ghost_name tx.new.conn.ghost_name
+        (state S.Store tx.old.conn.now) (state S.Store tx.new.conn.now) result }
     ensures wrote { WroteIf (AllAsk service.now effects.now) (all_happened service.now effects.now)
         (state S.Store tx.old.conn.now) (state S.Store tx.new.conn.now) result }
     ensures readable { OnOk result (AllByRecursion IsReadableEffect effects.now) }
-    ensures live { StaysLive (state S.Store tx.old.conn.now)
-        (state S.Store tx.new.conn.now) result }
-    ensures kept { StaysCommitted (state S.Store tx.old.conn.now) (state S.Store tx.new.conn.now) }
-    ensures survives { SurvivesCut (state S.Store tx.old.conn.now) (state S.Store tx.new.conn.now) }
 {
     for effect in effects {
         apply_effect(tx, alloc, service, effect)?;

@@ -4,7 +4,7 @@
 ghost use Rattle.std.specs.Prelude.{◌≡◌, false, IsTrue, OnOk, pos, option_map};
 ghost use Rattle.sqlite.specs.Held.{state};
 ghost use Rattle.canary_tables_rows.specs.Changes.{with_revision, with_binding, with_tally};
-ghost use Rattle.canary_tables_schema.specs.Stores.{Wrote, StaysLive, StaysCommitted, SurvivesCut};
+ghost use Rattle.canary_tables_schema.specs.Stores.{Writes, Wrote};
 ghost use Rattle.canary_tables_write.specs.Fills.{with_revisions, with_bindings, with_tallies};
 ghost use Rattle.canary_tables_write.specs.Fills.{NumbersAnew, StaysSound};
 
@@ -17,16 +17,13 @@ use sqlite::{Alter, Error, Transaction, params};
 /// Makes the one row of `meta`, whose id is 1, that of a desk, which is 1, 2. An error is the
 /// database's, as where memory is refused, or that a failure has ended the transaction.
 pub fn set_schema<S: Alter>(tx: &mut Transaction<'_, S>) -> Result<usize, Error>
-    ensures same_reference { tx.new.conn.ghost_name ≡ tx.old.conn.ghost_name }
+    ensures writes { Writes tx.old.conn.ghost_name tx.new.conn.ghost_name
+        (state S.Store tx.old.conn.now) (state S.Store tx.new.conn.now) result }
     ensures set { NumbersAnew
         (state S.Store tx.old.conn.now) (state S.Store tx.new.conn.now) result }
     ensures began { OnOk result (IsTrue (state S.Store tx.old.conn.now).in_transaction) }
     ensures ended { (state S.Store tx.old.conn.now).in_transaction ≡ false
         → tx.new.conn.now ≡ tx.old.conn.now }
-    ensures live { StaysLive
-        (state S.Store tx.old.conn.now) (state S.Store tx.new.conn.now) result }
-    ensures kept { StaysCommitted (state S.Store tx.old.conn.now) (state S.Store tx.new.conn.now) }
-    ensures survives { SurvivesCut (state S.Store tx.old.conn.now) (state S.Store tx.new.conn.now) }
 {
     tx.execute("UPDATE meta SET schema = 2", &[])
 }
@@ -36,15 +33,12 @@ pub fn insert_revisions<S: Alter>(
     tx: &mut Transaction<'_, S>,
     rows: &[RevisionRow],
 ) -> Result<(), Error>
-    ensures same_reference { tx.new.conn.ghost_name ≡ tx.old.conn.ghost_name }
+    ensures writes { Writes tx.old.conn.ghost_name tx.new.conn.ghost_name
+        (state S.Store tx.old.conn.now) (state S.Store tx.new.conn.now) result }
     ensures wrote { Wrote (with_revisions rows.now)
         (state S.Store tx.old.conn.now) (state S.Store tx.new.conn.now) result }
     ensures sound { StaysSound
         (state S.Store tx.old.conn.now) (state S.Store tx.new.conn.now) result }
-    ensures live { StaysLive
-        (state S.Store tx.old.conn.now) (state S.Store tx.new.conn.now) result }
-    ensures kept { StaysCommitted (state S.Store tx.old.conn.now) (state S.Store tx.new.conn.now) }
-    ensures survives { SurvivesCut (state S.Store tx.old.conn.now) (state S.Store tx.new.conn.now) }
 {
     for row in rows {
         revision_row(tx, row)?;
@@ -54,15 +48,12 @@ pub fn insert_revisions<S: Alter>(
 
 // Inserts one revision, by a contract of its row, as the loop over the rows needs it.
 fn revision_row<S: Alter>(tx: &mut Transaction<'_, S>, row: &RevisionRow) -> Result<usize, Error>
-    ensures same_reference { tx.new.conn.ghost_name ≡ tx.old.conn.ghost_name }
+    ensures writes { Writes tx.old.conn.ghost_name tx.new.conn.ghost_name
+        (state S.Store tx.old.conn.now) (state S.Store tx.new.conn.now) result }
     ensures wrote { Wrote (with_revision row.now)
         (state S.Store tx.old.conn.now) (state S.Store tx.new.conn.now) result }
     ensures sound { StaysSound
         (state S.Store tx.old.conn.now) (state S.Store tx.new.conn.now) result }
-    ensures live { StaysLive
-        (state S.Store tx.old.conn.now) (state S.Store tx.new.conn.now) result }
-    ensures kept { StaysCommitted (state S.Store tx.old.conn.now) (state S.Store tx.new.conn.now) }
-    ensures survives { SurvivesCut (state S.Store tx.old.conn.now) (state S.Store tx.new.conn.now) }
 {
     insert_revision(tx, &row.name, row.revision, row.spec.as_str())
 }
@@ -73,15 +64,12 @@ pub fn insert_bindings<S: Alter>(
     tx: &mut Transaction<'_, S>,
     rows: &[BindingRow],
 ) -> Result<(), Error>
-    ensures same_reference { tx.new.conn.ghost_name ≡ tx.old.conn.ghost_name }
+    ensures writes { Writes tx.old.conn.ghost_name tx.new.conn.ghost_name
+        (state S.Store tx.old.conn.now) (state S.Store tx.new.conn.now) result }
     ensures wrote { Wrote (with_bindings rows.now)
         (state S.Store tx.old.conn.now) (state S.Store tx.new.conn.now) result }
     ensures sound { StaysSound
         (state S.Store tx.old.conn.now) (state S.Store tx.new.conn.now) result }
-    ensures live { StaysLive
-        (state S.Store tx.old.conn.now) (state S.Store tx.new.conn.now) result }
-    ensures kept { StaysCommitted (state S.Store tx.old.conn.now) (state S.Store tx.new.conn.now) }
-    ensures survives { SurvivesCut (state S.Store tx.old.conn.now) (state S.Store tx.new.conn.now) }
 {
     for row in rows {
         binding_row(tx, row)?;
@@ -91,15 +79,12 @@ pub fn insert_bindings<S: Alter>(
 
 // Inserts one row of binding, by a contract of that row, as the loop over the rows needs it.
 fn binding_row<S: Alter>(tx: &mut Transaction<'_, S>, row: &BindingRow) -> Result<usize, Error>
-    ensures same_reference { tx.new.conn.ghost_name ≡ tx.old.conn.ghost_name }
+    ensures writes { Writes tx.old.conn.ghost_name tx.new.conn.ghost_name
+        (state S.Store tx.old.conn.now) (state S.Store tx.new.conn.now) result }
     ensures wrote { Wrote (with_binding row.now)
         (state S.Store tx.old.conn.now) (state S.Store tx.new.conn.now) result }
     ensures sound { StaysSound
         (state S.Store tx.old.conn.now) (state S.Store tx.new.conn.now) result }
-    ensures live { StaysLive
-        (state S.Store tx.old.conn.now) (state S.Store tx.new.conn.now) result }
-    ensures kept { StaysCommitted (state S.Store tx.old.conn.now) (state S.Store tx.new.conn.now) }
-    ensures survives { SurvivesCut (state S.Store tx.old.conn.now) (state S.Store tx.new.conn.now) }
 {
     insert_binding(tx, &row.service, row.run, &row.template, row.revision)
 }
@@ -107,15 +92,12 @@ fn binding_row<S: Alter>(tx: &mut Transaction<'_, S>, row: &BindingRow) -> Resul
 /// Inserts these tallies, with their counts, in order. An error is the database's, as where one is
 /// there already.
 pub fn insert_counts<S: Alter>(tx: &mut Transaction<'_, S>, rows: &[TallyRow]) -> Result<(), Error>
-    ensures same_reference { tx.new.conn.ghost_name ≡ tx.old.conn.ghost_name }
+    ensures writes { Writes tx.old.conn.ghost_name tx.new.conn.ghost_name
+        (state S.Store tx.old.conn.now) (state S.Store tx.new.conn.now) result }
     ensures wrote { Wrote (with_tallies rows.now)
         (state S.Store tx.old.conn.now) (state S.Store tx.new.conn.now) result }
     ensures sound { StaysSound
         (state S.Store tx.old.conn.now) (state S.Store tx.new.conn.now) result }
-    ensures live { StaysLive
-        (state S.Store tx.old.conn.now) (state S.Store tx.new.conn.now) result }
-    ensures kept { StaysCommitted (state S.Store tx.old.conn.now) (state S.Store tx.new.conn.now) }
-    ensures survives { SurvivesCut (state S.Store tx.old.conn.now) (state S.Store tx.new.conn.now) }
 {
     for row in rows {
         tally_row(tx, row)?;
@@ -125,15 +107,12 @@ pub fn insert_counts<S: Alter>(tx: &mut Transaction<'_, S>, rows: &[TallyRow]) -
 
 // Inserts one tally, with all of its counts.
 fn tally_row<S: Alter>(tx: &mut Transaction<'_, S>, row: &TallyRow) -> Result<usize, Error>
-    ensures same_reference { tx.new.conn.ghost_name ≡ tx.old.conn.ghost_name }
+    ensures writes { Writes tx.old.conn.ghost_name tx.new.conn.ghost_name
+        (state S.Store tx.old.conn.now) (state S.Store tx.new.conn.now) result }
     ensures wrote { Wrote (with_tally row.now)
         (state S.Store tx.old.conn.now) (state S.Store tx.new.conn.now) result }
     ensures sound { StaysSound
         (state S.Store tx.old.conn.now) (state S.Store tx.new.conn.now) result }
-    ensures live { StaysLive
-        (state S.Store tx.old.conn.now) (state S.Store tx.new.conn.now) result }
-    ensures kept { StaysCommitted (state S.Store tx.old.conn.now) (state S.Store tx.new.conn.now) }
-    ensures survives { SurvivesCut (state S.Store tx.old.conn.now) (state S.Store tx.new.conn.now) }
 {
     tx.execute(
         "INSERT INTO tally (service, run, metric, counted, failed, inconclusive, errors, \

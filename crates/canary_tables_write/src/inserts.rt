@@ -13,7 +13,7 @@ ghost use Rattle.canary_tables_rows.specs.declared.rows.HistoryRow.{HistoryRow};
 ghost use Rattle.canary_tables_rows.specs.Changes.{with_caller, with_kept, with_revision, with_service};
 ghost use Rattle.canary_tables_rows.specs.Changes.{with_binding, with_run, with_tally, with_measurement};
 ghost use Rattle.canary_tables_rows.specs.Changes.{with_line};
-ghost use Rattle.canary_tables_schema.specs.Stores.{Wrote, StaysLive, StaysCommitted, SurvivesCut};
+ghost use Rattle.canary_tables_schema.specs.Stores.{Writes, Wrote};
 ghost use Rattle.canary_tables_rows.specs.Changes.{tallies_opened};
 ghost use Rattle.canary_tables_write.specs.Fills.{StaysSound};
 
@@ -26,13 +26,10 @@ use sqlite::{Alter, Error, Transaction, params};
 /// Inserts a caller whose first request is settled. An error is the database's, as where the
 /// caller is there already.
 pub fn insert_caller<S: Alter>(tx: &mut Transaction<'_, S>, name: &Name) -> Result<usize, Error>
-    ensures same_reference { tx.new.conn.ghost_name ≡ tx.old.conn.ghost_name }
+    ensures writes { Writes tx.old.conn.ghost_name tx.new.conn.ghost_name
+        (state S.Store tx.old.conn.now) (state S.Store tx.new.conn.now) result }
     ensures wrote { Wrote (with_caller (record { name = name.now; settled = 1 }))
         (state S.Store tx.old.conn.now) (state S.Store tx.new.conn.now) result }
-    ensures live { StaysLive
-        (state S.Store tx.old.conn.now) (state S.Store tx.new.conn.now) result }
-    ensures kept { StaysCommitted (state S.Store tx.old.conn.now) (state S.Store tx.new.conn.now) }
-    ensures survives { SurvivesCut (state S.Store tx.old.conn.now) (state S.Store tx.new.conn.now) }
 {
     tx.execute(
         "INSERT INTO caller (name, settled) VALUES (?1, 1)",
@@ -50,7 +47,8 @@ pub fn insert_kept<S: Alter>(
     status: u32,
     body: &str,
 ) -> Result<usize, Error>
-    ensures same_reference { tx.new.conn.ghost_name ≡ tx.old.conn.ghost_name }
+    ensures writes { Writes tx.old.conn.ghost_name tx.new.conn.ghost_name
+        (state S.Store tx.old.conn.now) (state S.Store tx.new.conn.now) result }
     ensures wrote { let row : KeptRow = record {
       caller = caller.now;
       number = number;
@@ -60,10 +58,6 @@ pub fn insert_kept<S: Alter>(
     }
         in Wrote (with_kept row)
         (state S.Store tx.old.conn.now) (state S.Store tx.new.conn.now) result }
-    ensures live { StaysLive
-        (state S.Store tx.old.conn.now) (state S.Store tx.new.conn.now) result }
-    ensures kept { StaysCommitted (state S.Store tx.old.conn.now) (state S.Store tx.new.conn.now) }
-    ensures survives { SurvivesCut (state S.Store tx.old.conn.now) (state S.Store tx.new.conn.now) }
 {
     tx.execute(
         "INSERT INTO kept (caller, number, command, status, body) VALUES (?1, ?2, ?3, ?4, ?5)",
@@ -79,7 +73,8 @@ pub fn insert_revision<S: Alter>(
     revision: u32,
     spec: &str,
 ) -> Result<usize, Error>
-    ensures same_reference { tx.new.conn.ghost_name ≡ tx.old.conn.ghost_name }
+    ensures writes { Writes tx.old.conn.ghost_name tx.new.conn.ghost_name
+        (state S.Store tx.old.conn.now) (state S.Store tx.new.conn.now) result }
     ensures wrote { let row : RevisionRow = record {
       name = name.now;
       revision = revision;
@@ -89,10 +84,6 @@ pub fn insert_revision<S: Alter>(
         (state S.Store tx.old.conn.now) (state S.Store tx.new.conn.now) result }
     ensures sound { StaysSound
         (state S.Store tx.old.conn.now) (state S.Store tx.new.conn.now) result }
-    ensures live { StaysLive
-        (state S.Store tx.old.conn.now) (state S.Store tx.new.conn.now) result }
-    ensures kept { StaysCommitted (state S.Store tx.old.conn.now) (state S.Store tx.new.conn.now) }
-    ensures survives { SurvivesCut (state S.Store tx.old.conn.now) (state S.Store tx.new.conn.now) }
 {
     tx.execute(
         "INSERT INTO revision (name, revision, spec) VALUES (?1, ?2, ?3)",
@@ -108,7 +99,8 @@ pub fn insert_service<S: Alter>(
     spec: &str,
     standing: &ServiceColumns,
 ) -> Result<usize, Error>
-    ensures same_reference { tx.new.conn.ghost_name ≡ tx.old.conn.ghost_name }
+    ensures writes { Writes tx.old.conn.ghost_name tx.new.conn.ghost_name
+        (state S.Store tx.old.conn.now) (state S.Store tx.new.conn.now) result }
     ensures wrote { let row : ServiceRow = record {
       name = name.now;
       spec = spec.now;
@@ -116,10 +108,6 @@ pub fn insert_service<S: Alter>(
     }
         in Wrote (with_service row)
         (state S.Store tx.old.conn.now) (state S.Store tx.new.conn.now) result }
-    ensures live { StaysLive
-        (state S.Store tx.old.conn.now) (state S.Store tx.new.conn.now) result }
-    ensures kept { StaysCommitted (state S.Store tx.old.conn.now) (state S.Store tx.new.conn.now) }
-    ensures survives { SurvivesCut (state S.Store tx.old.conn.now) (state S.Store tx.new.conn.now) }
 {
     tx.execute(
         "INSERT INTO service (name, spec, stable, version, state, step, entered, hold, \
@@ -150,7 +138,8 @@ pub fn insert_binding<S: Alter>(
     template: &Name,
     revision: u32,
 ) -> Result<usize, Error>
-    ensures same_reference { tx.new.conn.ghost_name ≡ tx.old.conn.ghost_name }
+    ensures writes { Writes tx.old.conn.ghost_name tx.new.conn.ghost_name
+        (state S.Store tx.old.conn.now) (state S.Store tx.new.conn.now) result }
     ensures wrote { let row : BindingRow = record {
       service = service.now;
       run = run;
@@ -161,10 +150,6 @@ pub fn insert_binding<S: Alter>(
         (state S.Store tx.old.conn.now) (state S.Store tx.new.conn.now) result }
     ensures sound { StaysSound
         (state S.Store tx.old.conn.now) (state S.Store tx.new.conn.now) result }
-    ensures live { StaysLive
-        (state S.Store tx.old.conn.now) (state S.Store tx.new.conn.now) result }
-    ensures kept { StaysCommitted (state S.Store tx.old.conn.now) (state S.Store tx.new.conn.now) }
-    ensures survives { SurvivesCut (state S.Store tx.old.conn.now) (state S.Store tx.new.conn.now) }
 {
     tx.execute(
         "INSERT INTO binding (service, run, template, revision) VALUES (?1, ?2, ?3, ?4)",
@@ -181,7 +166,8 @@ pub fn insert_run<S: Alter>(
     step: Option<u32>,
     started: Moment,
 ) -> Result<usize, Error>
-    ensures same_reference { tx.new.conn.ghost_name ≡ tx.old.conn.ghost_name }
+    ensures writes { Writes tx.old.conn.ghost_name tx.new.conn.ghost_name
+        (state S.Store tx.old.conn.now) (state S.Store tx.new.conn.now) result }
     ensures wrote { let row : RunRow = record {
       service = service.now;
       number = number;
@@ -191,10 +177,6 @@ pub fn insert_run<S: Alter>(
     }
         in Wrote (with_run row)
         (state S.Store tx.old.conn.now) (state S.Store tx.new.conn.now) result }
-    ensures live { StaysLive
-        (state S.Store tx.old.conn.now) (state S.Store tx.new.conn.now) result }
-    ensures kept { StaysCommitted (state S.Store tx.old.conn.now) (state S.Store tx.new.conn.now) }
-    ensures survives { SurvivesCut (state S.Store tx.old.conn.now) (state S.Store tx.new.conn.now) }
 {
     tx.execute(
         "INSERT INTO run (service, number, step, started, outside, verdict) \
@@ -211,7 +193,8 @@ pub fn insert_tally<S: Alter>(
     run: u32,
     metric: u32,
 ) -> Result<usize, Error>
-    ensures same_reference { tx.new.conn.ghost_name ≡ tx.old.conn.ghost_name }
+    ensures writes { Writes tx.old.conn.ghost_name tx.new.conn.ghost_name
+        (state S.Store tx.old.conn.now) (state S.Store tx.new.conn.now) result }
     ensures wrote { let row : TallyRow = record {
       service = service.now;
       run = run;
@@ -220,10 +203,6 @@ pub fn insert_tally<S: Alter>(
     }
         in Wrote (with_tally row)
         (state S.Store tx.old.conn.now) (state S.Store tx.new.conn.now) result }
-    ensures live { StaysLive
-        (state S.Store tx.old.conn.now) (state S.Store tx.new.conn.now) result }
-    ensures kept { StaysCommitted (state S.Store tx.old.conn.now) (state S.Store tx.new.conn.now) }
-    ensures survives { SurvivesCut (state S.Store tx.old.conn.now) (state S.Store tx.new.conn.now) }
 {
     tx.execute(
         "INSERT INTO tally (service, run, metric, counted, failed, inconclusive, errors, \
@@ -240,13 +219,10 @@ pub fn insert_tallies<S: Alter>(
     run: u32,
     metrics: u32,
 ) -> Result<(), Error>
-    ensures same_reference { tx.new.conn.ghost_name ≡ tx.old.conn.ghost_name }
+    ensures writes { Writes tx.old.conn.ghost_name tx.new.conn.ghost_name
+        (state S.Store tx.old.conn.now) (state S.Store tx.new.conn.now) result }
     ensures wrote { Wrote (tallies_opened service.now run 0 metrics)
         (state S.Store tx.old.conn.now) (state S.Store tx.new.conn.now) result }
-    ensures live { StaysLive
-        (state S.Store tx.old.conn.now) (state S.Store tx.new.conn.now) result }
-    ensures kept { StaysCommitted (state S.Store tx.old.conn.now) (state S.Store tx.new.conn.now) }
-    ensures survives { SurvivesCut (state S.Store tx.old.conn.now) (state S.Store tx.new.conn.now) }
 {
     for metric in 0..metrics {
         insert_tally(tx, service, run, metric)?;
@@ -259,13 +235,10 @@ pub fn insert_measurement<S: Alter>(
     tx: &mut Transaction<'_, S>,
     row: &MeasurementRow,
 ) -> Result<usize, Error>
-    ensures same_reference { tx.new.conn.ghost_name ≡ tx.old.conn.ghost_name }
+    ensures writes { Writes tx.old.conn.ghost_name tx.new.conn.ghost_name
+        (state S.Store tx.old.conn.now) (state S.Store tx.new.conn.now) result }
     ensures wrote { Wrote (with_measurement row.now)
         (state S.Store tx.old.conn.now) (state S.Store tx.new.conn.now) result }
-    ensures live { StaysLive
-        (state S.Store tx.old.conn.now) (state S.Store tx.new.conn.now) result }
-    ensures kept { StaysCommitted (state S.Store tx.old.conn.now) (state S.Store tx.new.conn.now) }
-    ensures survives { SurvivesCut (state S.Store tx.old.conn.now) (state S.Store tx.new.conn.now) }
 {
     tx.execute(
         "INSERT INTO measurement (service, run, metric, ordinal, taken, phase, outcome) \
@@ -289,7 +262,8 @@ pub fn insert_line<S: Alter>(
     moment: Moment,
     line: &str,
 ) -> Result<usize, Error>
-    ensures same_reference { tx.new.conn.ghost_name ≡ tx.old.conn.ghost_name }
+    ensures writes { Writes tx.old.conn.ghost_name tx.new.conn.ghost_name
+        (state S.Store tx.old.conn.now) (state S.Store tx.new.conn.now) result }
     ensures wrote { let row : HistoryRow = record {
       service = service.now;
       moment = moment;
@@ -297,10 +271,6 @@ pub fn insert_line<S: Alter>(
     }
         in Wrote (with_line row)
         (state S.Store tx.old.conn.now) (state S.Store tx.new.conn.now) result }
-    ensures live { StaysLive
-        (state S.Store tx.old.conn.now) (state S.Store tx.new.conn.now) result }
-    ensures kept { StaysCommitted (state S.Store tx.old.conn.now) (state S.Store tx.new.conn.now) }
-    ensures survives { SurvivesCut (state S.Store tx.old.conn.now) (state S.Store tx.new.conn.now) }
 {
     tx.execute(
         "INSERT INTO history (service, moment, line) VALUES (?1, ?2, ?3)",

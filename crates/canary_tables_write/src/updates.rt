@@ -5,7 +5,7 @@ ghost use Rattle.sqlite.specs.Held.{state};
 ghost use Rattle.canary_tables_rows.specs.Changes.{HasCaller, HasService, HasBinding, HasRun, HasTally};
 ghost use Rattle.canary_tables_rows.specs.Changes.{with_settled, with_standing, with_bound};
 ghost use Rattle.canary_tables_rows.specs.Changes.{with_ending, with_counted};
-ghost use Rattle.canary_tables_schema.specs.Stores.{WroteIf, StaysLive, StaysCommitted, SurvivesCut};
+ghost use Rattle.canary_tables_schema.specs.Stores.{Writes, WroteIf};
 
 use crate::cells::seconds;
 use canary_base::moments::Moment;
@@ -21,13 +21,10 @@ pub fn update_caller<S: Alter>(
     name: &Name,
     settled: u32,
 ) -> Result<usize, Error>
-    ensures same_reference { tx.new.conn.ghost_name ≡ tx.old.conn.ghost_name }
+    ensures writes { Writes tx.old.conn.ghost_name tx.new.conn.ghost_name
+        (state S.Store tx.old.conn.now) (state S.Store tx.new.conn.now) result }
     ensures wrote { WroteIf (HasCaller name.now) (with_settled name.now settled)
         (state S.Store tx.old.conn.now) (state S.Store tx.new.conn.now) result }
-    ensures live { StaysLive (state S.Store tx.old.conn.now)
-        (state S.Store tx.new.conn.now) result }
-    ensures kept { StaysCommitted (state S.Store tx.old.conn.now) (state S.Store tx.new.conn.now) }
-    ensures survives { SurvivesCut (state S.Store tx.old.conn.now) (state S.Store tx.new.conn.now) }
 {
     tx.execute(
         "UPDATE caller SET settled = ?2 WHERE name = ?1",
@@ -42,13 +39,10 @@ pub fn update_service<S: Alter>(
     name: &Name,
     standing: &ServiceColumns,
 ) -> Result<usize, Error>
-    ensures same_reference { tx.new.conn.ghost_name ≡ tx.old.conn.ghost_name }
+    ensures writes { Writes tx.old.conn.ghost_name tx.new.conn.ghost_name
+        (state S.Store tx.old.conn.now) (state S.Store tx.new.conn.now) result }
     ensures wrote { WroteIf (HasService name.now) (with_standing name.now standing.now)
         (state S.Store tx.old.conn.now) (state S.Store tx.new.conn.now) result }
-    ensures live { StaysLive (state S.Store tx.old.conn.now)
-        (state S.Store tx.new.conn.now) result }
-    ensures kept { StaysCommitted (state S.Store tx.old.conn.now) (state S.Store tx.new.conn.now) }
-    ensures survives { SurvivesCut (state S.Store tx.old.conn.now) (state S.Store tx.new.conn.now) }
 {
     tx.execute(
         "UPDATE service SET stable = ?2, version = ?3, state = ?4, step = ?5, entered = ?6, \
@@ -77,14 +71,11 @@ pub fn update_binding<S: Alter>(
     template: &Name,
     revision: u32,
 ) -> Result<usize, Error>
-    ensures same_reference { tx.new.conn.ghost_name ≡ tx.old.conn.ghost_name }
+    ensures writes { Writes tx.old.conn.ghost_name tx.new.conn.ghost_name
+        (state S.Store tx.old.conn.now) (state S.Store tx.new.conn.now) result }
     ensures wrote { WroteIf (HasBinding service.now run template.now)
         (with_bound service.now run template.now revision)
         (state S.Store tx.old.conn.now) (state S.Store tx.new.conn.now) result }
-    ensures live { StaysLive (state S.Store tx.old.conn.now)
-        (state S.Store tx.new.conn.now) result }
-    ensures kept { StaysCommitted (state S.Store tx.old.conn.now) (state S.Store tx.new.conn.now) }
-    ensures survives { SurvivesCut (state S.Store tx.old.conn.now) (state S.Store tx.new.conn.now) }
 {
     tx.execute(
         "UPDATE binding SET revision = ?4 WHERE service = ?1 AND run = ?2 AND template = ?3",
@@ -102,15 +93,12 @@ pub fn close_run<S: Alter>(
     outside: u32,
     verdict: u32,
 ) -> Result<usize, Error>
-    ensures same_reference { tx.new.conn.ghost_name ≡ tx.old.conn.ghost_name }
+    ensures writes { Writes tx.old.conn.ghost_name tx.new.conn.ghost_name
+        (state S.Store tx.old.conn.now) (state S.Store tx.new.conn.now) result }
     ensures wrote { WroteIf (HasRun service.now number)
         (with_ending service.now number
         (record { closed = Some closed; outside = outside; verdict = verdict }))
         (state S.Store tx.old.conn.now) (state S.Store tx.new.conn.now) result }
-    ensures live { StaysLive (state S.Store tx.old.conn.now)
-        (state S.Store tx.new.conn.now) result }
-    ensures kept { StaysCommitted (state S.Store tx.old.conn.now) (state S.Store tx.new.conn.now) }
-    ensures survives { SurvivesCut (state S.Store tx.old.conn.now) (state S.Store tx.new.conn.now) }
 {
     tx.execute(
         "UPDATE run SET closed = ?3, outside = ?4, verdict = ?5 \
@@ -129,14 +117,11 @@ pub fn count_measurement<S: Alter>(
     phase: Phase,
     taken: Moment,
 ) -> Result<usize, Error>
-    ensures same_reference { tx.new.conn.ghost_name ≡ tx.old.conn.ghost_name }
+    ensures writes { Writes tx.old.conn.ghost_name tx.new.conn.ghost_name
+        (state S.Store tx.old.conn.now) (state S.Store tx.new.conn.now) result }
     ensures wrote { WroteIf (HasTally service.now run metric)
         (with_counted service.now run metric phase taken)
         (state S.Store tx.old.conn.now) (state S.Store tx.new.conn.now) result }
-    ensures live { StaysLive (state S.Store tx.old.conn.now)
-        (state S.Store tx.new.conn.now) result }
-    ensures kept { StaysCommitted (state S.Store tx.old.conn.now) (state S.Store tx.new.conn.now) }
-    ensures survives { SurvivesCut (state S.Store tx.old.conn.now) (state S.Store tx.new.conn.now) }
 {
     let statement = match phase {
         Phase::Error => {

@@ -109,11 +109,12 @@ fn reading(stream: &str, size: usize, calls: u32) -> Incoming<'_> {
     }
 }
 
-// How turns go on: with more than one message, and with queries.
+// How turns go on: with more than one message, with queries, and with histories.
 #[derive(Clone, Copy)]
 struct Paced {
     goes_on: bool,
     answers_queries: bool,
+    answers_histories: bool,
 }
 
 impl Pace for Paced {
@@ -124,24 +125,38 @@ impl Pace for Paced {
     fn answers_queries(&self) -> bool {
         self.answers_queries
     }
+
+    fn answers_histories(&self) -> bool {
+        self.answers_histories
+    }
 }
 
 // As far as a turn may go.
 const FAR: Paced = Paced {
     goes_on: true,
     answers_queries: true,
+    answers_histories: true,
 };
 
 // One message a turn.
 const ONE_BY_ONE: Paced = Paced {
     goes_on: false,
     answers_queries: true,
+    answers_histories: true,
 };
 
 // No query is answered.
 const WAITING: Paced = Paced {
     goes_on: true,
     answers_queries: false,
+    answers_histories: true,
+};
+
+// No history is answered.
+const CHEAP: Paced = Paced {
+    goes_on: true,
+    answers_queries: true,
+    answers_histories: false,
 };
 
 // The turns after which a conversation has no end.
@@ -303,18 +318,87 @@ const TICK_AND_QUERY: &str = concat!(
     "\r\nGET /services/web HTTP/1.1\r\n\r\n"
 );
 
-// How many replies a conversation has after some turns, first while no query is answered and then
-// while each is: a request and a query were sent.
-fn replies_before_and_after(alloc: Global) -> Result<(usize, usize), Memory> {
+// How many replies a conversation has after some turns, first at this pace and then while each
+// query is answered.
+fn replies_before_and_after(
+    alloc: Global,
+    stream: &str,
+    pace: Paced,
+) -> Result<(usize, usize), Memory> {
     let mut desk = new_desk(alloc, 16_384, 1_000)?;
-    let mut reader = reading(TICK_AND_QUERY, 1000, 1);
-    let before = desk.replies(alloc, &mut reader, WAITING);
+    let mut reader = reading(stream, 1000, 1);
+    let before = desk.replies(alloc, &mut reader, pace);
     Ok((before, desk.replies(alloc, &mut reader, FAR)))
 }
 
 #[test]
 fn queries_wait(rt: HostRuntime) -> Result<(), Fail> {
-    assert!(rt; replies_before_and_after(rt.alloc())? == (1, 2));
+    assert!(rt; replies_before_and_after(rt.alloc(), TICK_AND_QUERY, WAITING)? == (1, 2));
+    Ok(())
+}
+
+// A query, and the begin of one that is a history, or seems to be one.
+const BEFORE_HISTORY: &str = "GET /services/web HTTP/1.1\r\n\r\n\r\nGET ";
+
+// What stands behind its target.
+const AFTER_HISTORY: &str = " HTTP/1.1\r\n\r\n";
+
+// Targets, each with how many of two replies come while no history is answered.
+const TARGETS: &str = "1 /services/web/history
+1 /services/web/history?x=/y
+1 /services/-/history
+2 /services/history
+2 /services//history
+2 /services/web/history/
+2 /services/web/histor
+2 /services/web/runs/1
+2 /services/a/b/history
+2 /services/web?/history";
+
+// Whether a query of this target waits, if it is to, while no history is answered.
+fn waits_as(alloc: Global, row: &str) -> Result<bool, Memory> {
+    let Some((replies, target)) = row.split_once(' ') else {
+        return Ok(false);
+    };
+    let mut stream = String::new(alloc);
+    stream.push_str(BEFORE_HISTORY)?;
+    stream.push_str(target)?;
+    stream.push_str(AFTER_HISTORY)?;
+    let wanted = if replies == "1" { (1, 2) } else { (2, 2) };
+    Ok(replies_before_and_after(alloc, stream.as_str(), CHEAP)? == wanted)
+}
+
+#[test]
+fn histories_wait(rt: HostRuntime) -> Result<(), Fail> {
+    for row in TARGETS.lines() {
+        assert!(rt; waits_as(rt.alloc(), row)?);
+    }
+    Ok(())
+}
+
+// Whether a conversation waits for more of its client after this, while no history is answered.
+fn is_read_on(alloc: Global, stream: &str) -> Result<bool, Memory> {
+    let mut desk = new_desk(alloc, 16_384, 1_000)?;
+    desk.run(alloc, &mut reading(stream, 1000, 1), CHEAP, 1)?;
+    let (mut now, mut pace) = (seconds(), CHEAP);
+    let mut reader = reading("", 1, 0);
+    let wants = desk.talk.turn(
+        alloc,
+        &desk.routes,
+        &mut reader,
+        &mut desk.writer,
+        &mut now,
+        &mut desk.book,
+        &mut pace,
+    );
+    Ok(wants == Wants::Read)
+}
+
+// A part of a history does not wait for its turn, so the time for the rest of it goes on.
+#[test]
+fn parts_of_histories_are_read_on(rt: HostRuntime) -> Result<(), Fail> {
+    assert!(rt; is_read_on(rt.alloc(), "GET /services/web/history HTTP/1.1\r\nHost: ")?);
+    assert!(rt; !is_read_on(rt.alloc(), "GET /services/web/history HTTP/1.1\r\n\r\n")?);
     Ok(())
 }
 

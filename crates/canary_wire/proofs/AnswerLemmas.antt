@@ -1,19 +1,13 @@
 -- How a message is handled, restated.
-use Rattle.std.proofs.Common.{◌≡◌, ℕ, Bool, List, refl, ap, ◌∙◌, subst}
+use Rattle.std.proofs.Common.{◌≡◌, ℕ, Bool, List, ap, ◌∙◌, subst}
 use Rattle.std.specs.Prelude.{Result}
-use Rattle.canary_once.specs.BookCalls.{BookState}
-use Rattle.canary_wire.specs.declared.rejection.Rejection.{Rejection}
 use Rattle.canary_wire.specs.declared.reply.Response.{Response}
-use Rattle.canary_wire.specs.declared.reply.WriteFault.{WriteFault}
+use Rattle.canary_base.specs.declared.writing.WriteFault.{WriteFault}
 use Rattle.canary_wire.specs.ReplyTexts.{reply_text}
-use Rattle.canary_wire.specs.Writes.{Known, Writes}
-use Rattle.canary_wire.specs.Dispositions.{Disposition, rejected, IsDisposition, BookStep}
+use Rattle.canary_base.specs.Writes.{Known, Writes}
+use Rattle.canary_wire.specs.Dispositions.{HttpDisposition, IsDisposition}
 
--- the book was not asked
-pub books_rejected : (b : BookState) (r : Rejection) → BookStep b b (rejected r)
-books_rejected b r = record { honest = λ h. h; sure = (refl, tt); sound = λ h sound. sound; handled = λ h. refl; receipts = λ h caller number receipt e. e }
-
-pub disposition_as : (method method' target target' body body' : List ℕ) (moment : ℕ) (o : Disposition) → method ≡ method' → target ≡ target' → body ≡ body'
+pub disposition_as : (method method' target target' body body' : List ℕ) (moment : ℕ) (o : HttpDisposition) → method ≡ method' → target ≡ target' → body ≡ body'
     → IsDisposition method target body moment o → IsDisposition method' target' body' moment o
 disposition_as method method' target target' body body' moment o em et eb is =
     let P : List ℕ → Type 0 = λ t. IsDisposition t target body moment o in

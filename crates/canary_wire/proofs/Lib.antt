@@ -1,14 +1,13 @@
-pub mod CutLemmas
-pub mod CutLaw
-pub mod EndLaw
-pub mod WriteLemmas
-pub mod AnswerLemmas
-pub mod ServeLemmas
-pub mod ExchangeLemmas
-pub mod RouteLemmas
-pub mod BufferLemmas
-pub mod Rows
-pub mod NextLemmas
-pub mod OrderLemmas
-pub mod TurnLemmas
-pub mod CrowdLemmas
+mod CutLemmas
+mod CutLaw
+mod EndLaw
+mod AnswerLemmas
+mod ReadLemmas
+mod ServeLemmas
+mod RouteLemmas
+mod BufferLemmas
+mod Rows
+mod NextLemmas
+mod OrderLemmas
+mod TurnLemmas
+mod CrowdLemmas

@@ -2,12 +2,12 @@
 use Rattle.std.proofs.Common.{ℕ, Bool, List}
 use Rattle.std.specs.Prelude.{Ok, Err}
 use Rattle.canary_wire.specs.declared.rejection.Rejection.{Rejection}
-use Rattle.canary_wire.specs.declared.reply.WriteFault.{WriteFault}
+use Rattle.canary_base.specs.declared.writing.WriteFault.{WriteFault}
 use Rattle.canary_wire.specs.declared.serve.Turn.{Turn}
 use Rattle.canary_wire.specs.declared.serve.Turn.TheVariants.{Continues, Ends}
 use Rattle.canary_wire.specs.Cut.{IsRejected, rejecting}
-use Rattle.canary_wire.specs.Writes.{Known}
-use Rattle.canary_wire.specs.Dispositions.{DeskState}
+use Rattle.canary_base.specs.Writes.{Known}
+use Rattle.canary_once.specs.Messages.{DeskState}
 use Rattle.canary_wire.specs.Serving.{last_reply, AnswersAll, AnswersUntil, RejectsAll}
 use Rattle.canary_wire.proofs.ServeLemmas.{answers_none, answers_rejected}
 

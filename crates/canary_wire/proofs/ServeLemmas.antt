@@ -7,19 +7,21 @@ use Rattle.std.proofs.lemmas.List.{append-nil, append_assoc, length-append, map-
 use Rattle.std.proofs.lemmas.Grind.{flat_map-append}
 use Rattle.canary_wire.specs.declared.rejection.Rejection.{Rejection}
 use Rattle.canary_wire.specs.declared.cut.MessageSpans.{MessageSpans}
-use Rattle.canary_wire.specs.declared.reply.WriteFault.{WriteFault}
+use Rattle.canary_base.specs.declared.writing.WriteFault.{WriteFault}
 use Rattle.canary_wire.specs.declared.serve.Ended.TheVariants.{EndOfInput, Closed, Truncated, TurnsSpent}
 use Rattle.canary_wire.specs.declared.serve.Turn.{Turn}
 use Rattle.canary_wire.specs.declared.serve.Turn.TheVariants.{Continues, Ends}
 use Rattle.canary_wire.specs.Cut.{Message, message_bytes, IsMessage, IsFirst, IsRejected, IsUnfinished, Begins, Ending, idle, cut_off, closing, rejecting, is_newline, IsCut, unfinished, closed, rejected}
 use Rattle.canary_wire.specs.Cut.{KeepsOpen}
-use Rattle.canary_wire.specs.Writes.{Known, Writes}
+use Rattle.canary_base.specs.Writes.{Known, Writes}
 use Rattle.canary_once.specs.Laws.{RunsOn}
-use Rattle.canary_wire.specs.Dispositions.{Exchange, messages_of, reply_bytes, DeskState, HandledOne, HandledAll}
+use Rattle.canary_once.specs.Messages.{messages_of, DeskState, HandledOne, HandledAll}
+use Rattle.canary_wire.specs.Dispositions.{HttpExchange, IsExchange, reply_bytes}
 use Rattle.canary_wire.specs.Serving.{last_reply, end_of, IsOpen, EndsAs, Serves, ServesTo, ServesSome, ServesUntil, IsCutShort, in_reply, in_rejection, IsSoFar, Answers, AnswersAll, AnswersUntil, AnswersHeld, RejectsAll}
 use Rattle.canary_wire.proofs.CutLemmas.{unfinished_empty}
-use Rattle.canary_wire.proofs.WriteLemmas.{appends_none, appends_more, consumes_none, consumes_more, writes_all}
-use Rattle.canary_wire.proofs.ExchangeLemmas.{all-append, went_none, went_one, went_then, holds_of}
+use Rattle.canary_base.proofs.WriteLemmas.{appends_none, appends_more, writes_all}
+use Rattle.canary_wire.proofs.ReadLemmas.{consumes_none, consumes_more}
+use Rattle.canary_once.proofs.MessageLemmas.{all-append, went_none, went_one, went_then, holds_of}
 
 -- ---- the front of a stream
 
@@ -52,19 +54,19 @@ cut_then bytes mid ms ns e b (closed ks last rest c is shut) =
     subst P (append_assoc ms ks (last ∷ [])) (closed (ms ++ ks) last rest (begins_then bytes mid (message_bytes last ++ rest) ms ks b c) is shut)
 
 -- the messages and the replies of two lists of exchanges
-pub messages-append : (xs ys : List Exchange) → messages_of (xs ++ ys) ≡ messages_of xs ++ messages_of ys
-messages-append xs ys = map-append (λ (x : Exchange). x.message) xs ys
+pub messages-append : (xs ys : List HttpExchange) → messages_of (xs ++ ys) ≡ messages_of xs ++ messages_of ys
+messages-append xs ys = map-append (λ (x : HttpExchange). x.message) xs ys
 
-pub replies-append : (xs ys : List Exchange) → flat_map reply_bytes (xs ++ ys) ≡ flat_map reply_bytes xs ++ flat_map reply_bytes ys
+pub replies-append : (xs ys : List HttpExchange) → flat_map reply_bytes (xs ++ ys) ≡ flat_map reply_bytes xs ++ flat_map reply_bytes ys
 replies-append xs ys = flat_map-append reply_bytes xs ys
 
-texts_then : (xs ys : List Exchange) (text front : List ℕ) → text ≡ flat_map reply_bytes ys ++ front → flat_map reply_bytes xs ++ text ≡ flat_map reply_bytes (xs ++ ys) ++ front
+texts_then : (xs ys : List HttpExchange) (text front : List ℕ) → text ≡ flat_map reply_bytes ys ++ front → flat_map reply_bytes xs ++ text ≡ flat_map reply_bytes (xs ++ ys) ++ front
 texts_then xs ys text front e =
     ap (λ t. flat_map reply_bytes xs ++ t) e ∙ sym (append_assoc (flat_map reply_bytes xs) (flat_map reply_bytes ys) front) ∙ ap (λ t. t ++ front) (sym (replies-append xs ys))
 
-pub cut_short_then : (bytes mid text : List ℕ) (xs ys : List Exchange) → Begins bytes (messages_of xs) mid → IsCutShort mid text ys → IsCutShort bytes (flat_map reply_bytes xs ++ text) (xs ++ ys)
+pub cut_short_then : (bytes mid text : List ℕ) (xs ys : List HttpExchange) → Begins bytes (messages_of xs) mid → IsCutShort mid text ys → IsCutShort bytes (flat_map reply_bytes xs ++ text) (xs ++ ys)
 cut_short_then bytes mid text xs ys b (in_reply ks last rest front c is cut e) =
-    let P : List Exchange → Type 0 = λ t. IsCutShort bytes (flat_map reply_bytes xs ++ text) t in
+    let P : List HttpExchange → Type 0 = λ t. IsCutShort bytes (flat_map reply_bytes xs ++ text) t in
     let Q : List Message → Type 0 = λ t. Begins bytes t (message_bytes last.message ++ rest) in
     subst P (append_assoc xs ks (last ∷ []))
     (in_reply (xs ++ ks) last rest front (subst Q (sym (messages-append xs ks)) (begins_then bytes mid (message_bytes last.message ++ rest) (messages_of xs) (messages_of ks) b c)) is cut
@@ -78,14 +80,14 @@ cut_short_then bytes mid text xs ys b (in_rejection ks rest front r bare c is cu
 pub answers_none : (w : Known) (p : DeskState) (bytes : List ℕ) → Answers w w p p bytes bytes
 answers_none w p bytes = record { exchanges = []; begins = begins_none bytes; went = went_none p; written = appends_none w }
 
-one_reply : (w w1 w2 : Known) (xs : List Exchange) (x : Exchange) → Appends w w1 (flat_map reply_bytes xs) → Appends w1 w2 (reply_bytes x) → Appends w w2 (flat_map reply_bytes (xs ++ x ∷ []))
+one_reply : (w w1 w2 : Known) (xs : List HttpExchange) (x : HttpExchange) → Appends w w1 (flat_map reply_bytes xs) → Appends w1 w2 (reply_bytes x) → Appends w w2 (flat_map reply_bytes (xs ++ x ∷ []))
 one_reply w w1 w2 xs x a b =
     let P : List ℕ → Type 0 = λ t. Appends w w2 t in
     let e : flat_map reply_bytes xs ++ reply_bytes x ≡ flat_map reply_bytes (xs ++ x ∷ []) = sym (replies-append xs (x ∷ []) ∙ ap (λ t. flat_map reply_bytes xs ++ t) (append-nil (reply_bytes x))) in
     subst P e (appends_more w w1 w2 (flat_map reply_bytes xs) (reply_bytes x) a b)
 
-pub answers_more : (w w1 w2 : Known) (p p1 p2 : DeskState) (bytes rest : List ℕ) (parts : MessageSpans) (m : Message) (x : Exchange)
-    → Answers w w1 p p1 bytes rest → IsFirst rest parts m → x.message ≡ m → HandledOne p1 p2 x → Writes {E = WriteFault} w1 w2 (reply_bytes x) (Ok tt) → parts.is_last ≡ false
+pub answers_more : (w w1 w2 : Known) (p p1 p2 : DeskState) (bytes rest : List ℕ) (parts : MessageSpans) (m : Message) (x : HttpExchange)
+    → Answers w w1 p p1 bytes rest → IsFirst rest parts m → x.message ≡ m → HandledOne IsExchange p1 p2 x → Writes {E = WriteFault} w1 w2 (reply_bytes x) (Ok tt) → parts.is_last ≡ false
     → Answers w w2 p p2 bytes (drop parts.end rest)
 answers_more w w1 w2 p p1 p2 bytes rest parts m x so first same e wrote on =
     let Q : List Message → Type 0 = λ t. Begins bytes t (drop parts.end rest) in
@@ -98,8 +100,8 @@ answers_more w w1 w2 p p1 p2 bytes rest parts m x so first same e wrote on =
       written = one_reply w w1 w2 so.exchanges x so.written (writes_all w1 w2 (reply_bytes x) wrote);
     }
 
-pub answers_last : (w w1 w2 : Known) (p p1 p2 : DeskState) (bytes rest : List ℕ) (parts : MessageSpans) (m : Message) (x : Exchange)
-    → Answers w w1 p p1 bytes rest → IsFirst rest parts m → x.message ≡ m → HandledOne p1 p2 x → Writes {E = WriteFault} w1 w2 (reply_bytes x) (Ok tt) → parts.is_last ≡ true
+pub answers_last : (w w1 w2 : Known) (p p1 p2 : DeskState) (bytes rest : List ℕ) (parts : MessageSpans) (m : Message) (x : HttpExchange)
+    → Answers w w1 p p1 bytes rest → IsFirst rest parts m → x.message ≡ m → HandledOne IsExchange p1 p2 x → Writes {E = WriteFault} w1 w2 (reply_bytes x) (Ok tt) → parts.is_last ≡ true
     → AnswersAll w w2 p p2 bytes
 answers_last w w1 w2 p p1 p2 bytes rest parts m x so first same e wrote last =
     let P : List ℕ → Type 0 = λ t. Appends w w2 t in
@@ -114,8 +116,8 @@ answers_last w w1 w2 p p1 p2 bytes rest parts m x so first same e wrote last =
       written = subst P (sym (append-nil (flat_map reply_bytes (so.exchanges ++ x ∷ [])))) (one_reply w w1 w2 so.exchanges x so.written (writes_all w1 w2 (reply_bytes x) wrote));
     }
 
-pub answers_until : (w w1 w2 : Known) (p p1 p2 : DeskState) (bytes rest : List ℕ) (parts : MessageSpans) (m : Message) (x : Exchange) (fault : WriteFault)
-    → Answers w w1 p p1 bytes rest → IsFirst rest parts m → x.message ≡ m → HandledOne p1 p2 x → Writes w1 w2 (reply_bytes x) (Err fault)
+pub answers_until : (w w1 w2 : Known) (p p1 p2 : DeskState) (bytes rest : List ℕ) (parts : MessageSpans) (m : Message) (x : HttpExchange) (fault : WriteFault)
+    → Answers w w1 p p1 bytes rest → IsFirst rest parts m → x.message ≡ m → HandledOne IsExchange p1 p2 x → Writes w1 w2 (reply_bytes x) (Err fault)
     → AnswersUntil w w2 p p2 bytes
 answers_until w w1 w2 p p1 p2 bytes rest parts m x fault so first same e wrote =
     let whole : rest ≡ message_bytes x.message ++ drop parts.end rest = first.whole ∙ ap (λ (t : Message). message_bytes t ++ drop parts.end rest) (sym same) in
@@ -222,7 +224,7 @@ is_open : (b : Bool) → IsOpen (if b then idle else cut_off)
 is_open true = tt
 is_open false = tt
 
-serves_open : RunsOn → (r r1 w w1 : Known) (p p1 : DeskState) (bytes rest : List ℕ) (xs : List Exchange) → Consumes r r1 bytes → Begins bytes (messages_of xs) rest → IsUnfinished rest → HandledAll p p1 xs → Appends w w1 (flat_map reply_bytes xs)
+serves_open : RunsOn → (r r1 w w1 : Known) (p p1 : DeskState) (bytes rest : List ℕ) (xs : List HttpExchange) → Consumes r r1 bytes → Begins bytes (messages_of xs) rest → IsUnfinished rest → HandledAll IsExchange p p1 xs → Appends w w1 (flat_map reply_bytes xs)
     → Serves r r1 w w1 p p1 bytes (if list_all is_newline rest then idle else cut_off)
 serves_open goes r r1 w w1 p p1 bytes rest xs read begins u went wrote =
     let P : List ℕ → Type 0 = λ t. Appends w w1 t in record {

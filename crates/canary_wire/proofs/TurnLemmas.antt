@@ -8,11 +8,12 @@ use Rattle.canary_wire.specs.declared.conversation.ConversationState.{Conversati
 use Rattle.canary_wire.specs.declared.conversation.Cause.{Cause}
 use Rattle.canary_wire.specs.declared.conversation.Cause.TheVariants.{EndOfInput, Truncated}
 use Rattle.canary_wire.specs.Cut.{is_newline, IsUnfinished}
-use Rattle.canary_wire.specs.Writes.{Known}
-use Rattle.canary_wire.specs.Dispositions.{DeskState}
+use Rattle.canary_base.specs.Writes.{Known}
+use Rattle.canary_once.specs.Messages.{DeskState}
 use Rattle.canary_wire.specs.Conversing.{Talk, talk, IsListening, end_cause, IsCause, Receives, Sends, AnswersMore, Replies, TakesTurn}
-use Rattle.canary_wire.proofs.WriteLemmas.{consumes_none, consumes_more, appends_none, appends_more}
-use Rattle.canary_wire.proofs.ExchangeLemmas.{went_none, went_then}
+use Rattle.canary_base.proofs.WriteLemmas.{appends_none, appends_more}
+use Rattle.canary_wire.proofs.ReadLemmas.{consumes_none, consumes_more}
+use Rattle.canary_once.proofs.MessageLemmas.{went_none, went_then}
 use Rattle.canary_wire.proofs.ServeLemmas.{empty}
 use Rattle.canary_wire.proofs.OrderLemmas.{keeps_then}
 

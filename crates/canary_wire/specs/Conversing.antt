@@ -12,8 +12,9 @@ use Rattle.canary_wire.specs.declared.conversation.Wants.TheVariants as wants
 use Rattle.canary_wire.specs.declared.conversation.Cause.{Cause}
 use Rattle.canary_wire.specs.declared.conversation.Cause.TheVariants as cause
 use Rattle.canary_wire.specs.Cut.{is_newline, Begins, IsUnfinished, Ending, IsCut}
-use Rattle.canary_wire.specs.Writes.{Known}
-use Rattle.canary_wire.specs.Dispositions.{Exchange, messages_of, reply_bytes, DeskState, HandledAll}
+use Rattle.canary_base.specs.Writes.{Known}
+use Rattle.canary_once.specs.Messages.{messages_of, DeskState, HandledAll}
+use Rattle.canary_wire.specs.Dispositions.{HttpExchange, IsExchange, reply_bytes}
 use Rattle.canary_wire.specs.Serving.{last_reply, IsShut, IsCutShort}
 use Rattle.canary_wire.specs.Serving.{Answers, AnswersAll, AnswersUntil}
 
@@ -35,7 +36,7 @@ begun = talk [] [] Open
 -- of the bytes that were read these exchanges were held, and what was written with what is owed are
 -- their replies, in order: as far as messages are whole, up to the end with its last reply, or up
 -- to the message for whose reply there was no memory
-pub data IsInOrder (read written : List ℕ) (xs : List Exchange) (held unsent : List ℕ)
+pub data IsInOrder (read written : List ℕ) (xs : List HttpExchange) (held unsent : List ℕ)
     : ConversationState → Type 0 where
   so_far : Begins read (messages_of xs) held → written ++ unsent ≡ flat_map reply_bytes xs
       → IsInOrder read written xs held unsent Open
@@ -45,24 +46,24 @@ pub data IsInOrder (read written : List ℕ) (xs : List Exchange) (held unsent :
   broken_off : (text : List ℕ) → IsCutShort read text xs → written ++ unsent ≡ text
       → IsInOrder read written xs held unsent Broken
 
-abbrev pub InOrder : List ℕ → List ℕ → List Exchange → Talk → Type 0
+abbrev pub InOrder : List ℕ → List ℕ → List HttpExchange → Talk → Type 0
 InOrder read written xs t = IsInOrder read written xs t.held t.unsent t.stage
 
 -- with these further bytes read and written and exchanges held a conversation stays in order,
 -- whatever was said in it before
-abbrev pub KeepsOrder : Talk → Talk → List ℕ → List ℕ → List Exchange → Type 0
+abbrev pub KeepsOrder : Talk → Talk → List ℕ → List ℕ → List HttpExchange → Type 0
 KeepsOrder old new got put held =
-    (read written : List ℕ) (xs : List Exchange) → InOrder read written xs old
+    (read written : List ℕ) (xs : List HttpExchange) → InOrder read written xs old
     → InOrder (read ++ got) (written ++ put) (xs ++ held) new
 
 -- a turn: bytes were read and written, and exchanges held
 pub record TakesTurn (r new_r w new_w : Known) (p q : DeskState) (old new : Talk) : Type 0 where
   pub got : List ℕ
   pub put : List ℕ
-  pub held : List Exchange
+  pub held : List HttpExchange
   pub read : Consumes r new_r got
   pub written : Appends w new_w put
-  pub went : HandledAll p q held
+  pub went : HandledAll IsExchange p q held
   pub order : KeepsOrder old new got put held
 
 -- ---- what it waits for
@@ -114,8 +115,8 @@ pub record Sends (w new_w : Known) (old new : Talk) : Type 0 where
 
 -- further exchanges were held
 pub record AnswersMore (p q : DeskState) (old new : Talk) : Type 0 where
-  pub held : List Exchange
-  pub went : HandledAll p q held
+  pub held : List HttpExchange
+  pub went : HandledAll IsExchange p q held
   pub order : KeepsOrder old new [] [] held
 
 -- and more was written

@@ -2,7 +2,7 @@
 use Rattle.std.specs.Prelude.{◌≡◌, ◌≢◌, ℕ, ◌==◌, List, [], ◌∷◌, ◌++◌, flat_map}
 use Rattle.std.specs.Prelude.{Option, None, Some, if◌then◌else◌}
 use Rattle.std.specs.List.{AllByRecursion}
-use Rattle.canary_wire.specs.Dispositions.{Exchange}
+use Rattle.canary_wire.specs.Dispositions.{HttpExchange}
 use Rattle.canary_wire.specs.Conversing.{Talk, begun, InOrder, KeepsOrder}
 
 -- ---- turns
@@ -13,7 +13,7 @@ pub record Turn : Type 0 where
   pub client : ℕ
   pub got : List ℕ
   pub put : List ℕ
-  pub held : List Exchange
+  pub held : List HttpExchange
 
 -- what one client's turns give, in order
 abbrev pub by : {X : Type 0} → ℕ → (Turn → List X) → List Turn → List X
@@ -24,7 +24,7 @@ abbrev pub IsNew : ℕ → List Turn → Type 0
 IsNew client turns = AllByRecursion (λ t. t.client ≢ client) turns
 
 -- all that was answered, to whomever, in order
-abbrev pub all_held : List Turn → List Exchange
+abbrev pub all_held : List Turn → List HttpExchange
 all_held turns = flat_map (λ t. t.held) turns
 
 -- ---- conversations under way

@@ -2,7 +2,6 @@ pub mod Heads
 pub mod FramingFields
 pub mod Cut
 pub mod ReplyTexts
-pub mod Writes
 pub mod Buffers
 pub mod Routes
 pub mod Dispositions

@@ -10,11 +10,12 @@ use Rattle.canary_wire.specs.declared.serve.Turn.{Turn}
 use Rattle.canary_wire.specs.declared.serve.Turn.TheVariants.{Continues, Ends}
 use Rattle.canary_wire.specs.declared.serve.TurnFault.{TurnFault}
 use Rattle.canary_wire.specs.declared.serve.TurnFault.TheVariants.{Read, Write}
-use Rattle.canary_wire.specs.declared.reply.WriteFault.{WriteFault}
+use Rattle.canary_base.specs.declared.writing.WriteFault.{WriteFault}
 use Rattle.canary_wire.specs.Cut.{is_newline, message_bytes, IsMessage, IsRejected, IsUnfinished, Begins, Ending, idle, cut_off, closing, rejecting, IsCut}
 use Rattle.canary_wire.specs.ReplyTexts.{reply_text}
-use Rattle.canary_wire.specs.Writes.{Known}
-use Rattle.canary_wire.specs.Dispositions.{Exchange, messages_of, reply_bytes, DeskState, AnsweredInOrder, HandledAll}
+use Rattle.canary_base.specs.Writes.{Known}
+use Rattle.canary_once.specs.Messages.{messages_of, DeskState, AnsweredInOrder, HandledAll}
+use Rattle.canary_wire.specs.Dispositions.{HttpExchange, IsExchange, reply_bytes}
 
 -- how a stream ends whose input ends with these bytes behind the last message
 abbrev pub end_of : List ℕ → Ended
@@ -54,10 +55,10 @@ EndsAs bytes end left TurnsSpent = IsOpen end × (1000000000 ≤ length bytes)
 -- to these, in order, and then that of the rejection that ends the stream
 pub record Serves (r new_r w new_w : Known) (old new : DeskState) (bytes : List ℕ)
     (end : Ending) : Type 0 where
-  pub exchanges : List Exchange
+  pub exchanges : List HttpExchange
   pub read : Consumes r new_r bytes
   pub cut : IsCut bytes (messages_of exchanges) end
-  pub holds : AnsweredInOrder old new exchanges
+  pub holds : AnsweredInOrder IsExchange old new exchanges
   pub written : Appends w new_w (flat_map reply_bytes exchanges ++ last_reply end)
 
 abbrev pub ServesTo : Known → Known → Known → Known → DeskState → DeskState → Ended → Type 0
@@ -78,12 +79,12 @@ pub record IsProperPrefix (text front : List ℕ) : Type 0 where
 
 -- these exchanges were held, and in the midst of the last one's reply, or of the rejection's behind
 -- it, the writer failed
-pub data IsCutShort (bytes text : List ℕ) : List Exchange → Type 0 where
-  in_reply : (xs : List Exchange) (last : Exchange) (rest front : List ℕ)
+pub data IsCutShort (bytes text : List ℕ) : List HttpExchange → Type 0 where
+  in_reply : (xs : List HttpExchange) (last : HttpExchange) (rest front : List ℕ)
       → Begins bytes (messages_of xs) (message_bytes last.message ++ rest) → IsMessage last.message
       → IsProperPrefix (reply_bytes last) front → text ≡ flat_map reply_bytes xs ++ front
       → IsCutShort bytes text (xs ++ last ∷ [])
-  in_rejection : (xs : List Exchange) (rest front : List ℕ) (r : Rejection) (bare : Bool)
+  in_rejection : (xs : List HttpExchange) (rest front : List ℕ) (r : Rejection) (bare : Bool)
       → Begins bytes (messages_of xs) rest → IsRejected rest r bare
       → IsProperPrefix (last_reply (rejecting r bare)) front
       → text ≡ flat_map reply_bytes xs ++ front → IsCutShort bytes text xs
@@ -93,10 +94,10 @@ pub data IsCutShort (bytes text : List ℕ) : List Exchange → Type 0 where
 pub record ServesUntil (r new_r w new_w : Known) (old new : DeskState) : Type 0 where
   pub bytes : List ℕ
   pub text : List ℕ
-  pub exchanges : List Exchange
+  pub exchanges : List HttpExchange
   pub read : Consumes r new_r bytes
   pub cut : IsCutShort bytes text exchanges
-  pub holds : AnsweredInOrder old new exchanges
+  pub holds : AnsweredInOrder IsExchange old new exchanges
   pub written : Appends w new_w text
 
 abbrev pub TurnsTo : Known → Known → Known → Known → DeskState → DeskState → Result Ended TurnFault
@@ -111,36 +112,36 @@ TurnsTo r new_r w new_w old new (Err Write) = ServesUntil r new_r w new_w old ne
 pub record IsSoFar (r now_r w now_w : Known) (old now : DeskState) (turns : ℕ)
     (held : List ℕ) : Type 0 where
   pub bytes : List ℕ
-  pub exchanges : List Exchange
+  pub exchanges : List HttpExchange
   pub read : Consumes r now_r bytes
   pub begins : Begins bytes (messages_of exchanges) held
   pub unfinished : IsUnfinished held
-  pub went : HandledAll old now exchanges
+  pub went : HandledAll IsExchange old now exchanges
   pub written : Appends w now_w (flat_map reply_bytes exchanges)
   pub many : turns ≤ length bytes
 
 -- the messages that bytes begin with were answered
 pub record Answers (w new_w : Known) (old new : DeskState) (bytes rest : List ℕ) : Type 0 where
-  pub exchanges : List Exchange
+  pub exchanges : List HttpExchange
   pub begins : Begins bytes (messages_of exchanges) rest
-  pub went : HandledAll old new exchanges
+  pub went : HandledAll IsExchange old new exchanges
   pub written : Appends w new_w (flat_map reply_bytes exchanges)
 
 -- and the stream ended
 pub record AnswersAll (w new_w : Known) (old new : DeskState) (bytes : List ℕ) : Type 0 where
-  pub exchanges : List Exchange
+  pub exchanges : List HttpExchange
   pub end : Ending
   pub shut : IsShut end
   pub cut : IsCut bytes (messages_of exchanges) end
-  pub went : HandledAll old new exchanges
+  pub went : HandledAll IsExchange old new exchanges
   pub written : Appends w new_w (flat_map reply_bytes exchanges ++ last_reply end)
 
 -- or the writer failed
 pub record AnswersUntil (w new_w : Known) (old new : DeskState) (bytes : List ℕ) : Type 0 where
   pub text : List ℕ
-  pub exchanges : List Exchange
+  pub exchanges : List HttpExchange
   pub cut : IsCutShort bytes text exchanges
-  pub went : HandledAll old new exchanges
+  pub went : HandledAll IsExchange old new exchanges
   pub written : Appends w new_w text
 
 -- what became of held bytes

@@ -1,17 +1,19 @@
 //! Answering one message.
 ghost use Rattle.std.specs.Prelude.{◌≡◌, ℕ, List, Ok};
+ghost use Rattle.canary_base.specs.Writes.{Writes};
+ghost use Rattle.canary_once.specs.Messages.{BookStep, HandledOne, desk_state};
 ghost use Rattle.canary_wire.specs.Cut.{Message, IsFirst};
-ghost use Rattle.canary_wire.specs.Dispositions.{Disposition, Exchange, HandledOne, BookStep};
-ghost use Rattle.canary_wire.specs.Dispositions.{response_of, IsRequest, IsDisposition};
-ghost use Rattle.canary_wire.specs.Dispositions.{reply_bytes, desk_state};
+ghost use Rattle.canary_wire.specs.Dispositions.{HttpDisposition, HttpExchange};
+ghost use Rattle.canary_wire.specs.Dispositions.{IsDisposition, IsExchange, IsRequest};
+ghost use Rattle.canary_wire.specs.Dispositions.{reply_bytes, response_of};
 ghost use Rattle.canary_wire.specs.Routes.{the_rows, IsAsked};
-ghost use Rattle.canary_wire.specs.Writes.{Writes};
 
 use crate::cut::MessageSpans;
 use crate::rejection::Rejection;
-use crate::reply::{Response, WriteFault, write_reply};
+use crate::reply::{Response, write_reply};
 use crate::routes::{Address, Route, Wanted, asked_of};
 use canary_base::moments::Moment;
+use canary_base::writing::WriteFault;
 use canary_manifest::command::{WireFault, command_from_json};
 use canary_once::book::Book;
 use canary_once::clock::Clock;
@@ -35,8 +37,8 @@ pub(crate) fn answer<W: Write, C: Clock, B: Book>(
 ) -> Result<(), WriteFault>
     requires message { (m : Message) × IsFirst bytes.now parts m }
     requires routes { router.now ≡ the_rows }
-    ensures { (m : Message) → IsFirst bytes.now parts m → (x : Exchange) × (x.message ≡ m)
-        × HandledOne
+    ensures { (m : Message) → IsFirst bytes.now parts m → (x : HttpExchange) × (x.message ≡ m)
+        × HandledOne IsExchange
         (desk_state (C.tells clock.old) (B.state book.old))
         (desk_state (C.tells clock.new) (B.state book.new)) x
         × Writes (W.contents writer.old) (W.contents writer.new) (reply_bytes x) result }
@@ -60,7 +62,7 @@ fn handle<B: Book>(
     book: &mut B,
 ) -> Response
     requires { router.now ≡ the_rows }
-    ensures { (h : Disposition) × (result ≡ response_of h)
+    ensures { (h : HttpDisposition) × (result ≡ response_of h)
         × IsDisposition method.now target.now body.now moment h
         × BookStep (B.state book.old) (B.state book.new) h }
 {
@@ -79,7 +81,7 @@ fn handle_request<B: Book>(
     moment: Moment,
     book: &mut B,
 ) -> Response
-    ensures { (method target : List ℕ) → IsRequest method target address → (h : Disposition)
+    ensures { (method target : List ℕ) → IsRequest method target address → (h : HttpDisposition)
         × (result ≡ response_of h) × IsDisposition method target body.now moment h
         × BookStep (B.state book.old) (B.state book.new) h }
 {
@@ -104,7 +106,8 @@ fn handle_request<B: Book>(
 // The same where the message is a query, whose body says nothing.
 fn handle_query<B: Book>(alloc: Global, query: &Query, moment: Moment, book: &mut B) -> Response
     ensures { (method target body : List ℕ) → IsAsked method target (Ok (Wanted.Query query.now))
-        → (h : Disposition) × (result ≡ response_of h) × IsDisposition method target body moment h
+        → (h : HttpDisposition) × (result ≡ response_of h)
+        × IsDisposition method target body moment h
         × BookStep (B.state book.old) (B.state book.new) h }
 {
     Response::Answered(view(alloc, book, moment, query))

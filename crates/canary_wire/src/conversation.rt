@@ -1,20 +1,20 @@
 //! A conversation with one client, turn by turn: where `serve` waits for its reader and its
 //! writer, a turn never does, so many clients can be served at once.
 ghost use Rattle.std.specs.Prelude.{◌≡◌, ◌≢◌, None, [], length, IfOk, OnOk, IfSome};
+ghost use Rattle.canary_base.specs.Writes.{Known};
+ghost use Rattle.canary_once.specs.Messages.{desk_state};
 ghost use Rattle.canary_wire.specs.Buffers.{bytes_held};
 ghost use Rattle.canary_wire.specs.Conversing.{begun, IsListening, end_cause, Awaits, StandsAt};
 ghost use Rattle.canary_wire.specs.Conversing.{IsOver};
 ghost use Rattle.canary_wire.specs.Conversing.{Receives, Sends, AnswersMore, Replies, TakesTurn};
 ghost use Rattle.canary_wire.specs.Conversing.{AnswersNext};
-ghost use Rattle.canary_wire.specs.Dispositions.{desk_state};
 ghost use Rattle.canary_wire.specs.Unsent.{HasRoom};
 ghost use Rattle.canary_wire.specs.Routes.{the_rows};
-ghost use Rattle.canary_wire.specs.Writes.{Known};
 
 use crate::answer::answer;
 use crate::buffer::{Buffer, ReadFault};
 use crate::cut::{FirstMessage, first_message};
-use crate::routes::{Route, routes};
+use crate::routes::{Route, is_history, routes};
 use crate::serve::{is_blank, reject};
 use crate::write_buffer::WriteBuffer;
 use canary_base::error::Memory;
@@ -27,7 +27,7 @@ use std::io::{Read, Write};
 // The most messages that are answered at a stretch, so that the others have their turn.
 const MAX_MESSAGES_A_TURN: u32 = 64;
 
-/// How long a turn goes on, and whether it answers queries. Whoever gives the turns decides it.
+/// How long a turn goes on, and which queries it answers. Whoever gives the turns decides it.
 pub trait Pace {
     /// Whether the turn answers one more message. It is asked after each that was answered, and not
     /// before the first.
@@ -35,6 +35,9 @@ pub trait Pace {
 
     /// Whether a query is answered: its reply may be long, and is held until the client takes it.
     fn answers_queries(&self) -> bool;
+
+    /// Whether a query of a history is answered, if queries are: to make its reply may take long.
+    fn answers_histories(&self) -> bool;
 }
 
 /// The routes of the desk, which all conversations share.
@@ -76,7 +79,8 @@ pub enum Wants {
     /// For the writer to take more of what is owed.
     Write,
     /// For its next turn: it is open, nothing is owed, and more messages may be held. If the first
-    /// of them is a query (`begins_with_query`), it may be that queries were not answered.
+    /// of them is a query (`begins_with_query`), it may be that queries were not answered, or that
+    /// histories were not (`begins_with_history`).
     Yield,
     /// For nothing: the last reply was written. The client may still be sending: what it sends is
     /// to be read and thrown away for a while, so that it can read that reply.
@@ -167,6 +171,12 @@ impl Conversation {
         is_query(self.buffer.as_slice())
     }
 
+    /// Whether a message stands first that is whole and is a query of a history.
+    pub fn begins_with_history(&self) -> bool {
+        let bytes = self.buffer.as_slice();
+        asks_for_history(bytes) && is_whole(bytes)
+    }
+
     /// How many messages were answered, the last not counted where it ended the conversation.
     pub fn answered(&self) -> u64 {
         self.answered
@@ -196,7 +206,7 @@ impl Conversation {
     /// fault.
     ///
     /// While `pace` answers no queries, a query that stands first is left where it is, and so is
-    /// what is held after it.
+    /// what is held after it. While it answers no histories, so is the whole query of one.
     ///
     /// For each message the clock is asked once, the register is asked where the message is a
     /// request or a query, and its reply is owed. Where there is no memory for one more reply to a
@@ -322,6 +332,7 @@ impl Conversation {
         'steps: for _ in 1..MAX_MESSAGES_A_TURN {
             if step != StepResult::Answered
                 || self.unsent_bytes() >= self.max_unsent
+                || self.leaves_first(pace)
                 || !pace.goes_on()
             {
                 return step;
@@ -333,7 +344,8 @@ impl Conversation {
 
     // Answers the message that stands first, if a whole one does. If there is no room for the reply
     // to a request, nothing is asked, and its next turn tries again, when less is owed: so none is
-    // settled whose reply would find no memory. A query waits while none is to be answered.
+    // settled whose reply would find no memory. A query waits while none is to be answered, and so
+    // does a history.
     fn advance<C: Clock, B: Book, P: Pace>(
         &mut self,
         alloc: Global,
@@ -355,13 +367,19 @@ impl Conversation {
             ConversationState::Over => return StepResult::Closed,
             ConversationState::Broken => return StepResult::Broke,
         }
-        if self.begins_with_query() && !pace.answers_queries() {
+        if self.leaves_first(pace) {
             return StepResult::Answered;
         }
         if let Err(_) = self.make_room() {
             return StepResult::Answered;
         }
         self.answer_first(alloc, routes, clock, book)
+    }
+
+    // Whether the message that stands first is one that this pace leaves where it is.
+    fn leaves_first<P: Pace>(&self, pace: &P) -> bool {
+        (!pace.answers_queries() && self.begins_with_query())
+            || (!pace.answers_histories() && self.begins_with_history())
     }
 
     // Takes room for the reply to a request; there is some already where nothing is owed.
@@ -421,17 +439,40 @@ fn count_after(count: u64, step: StepResult) -> u64 {
     }
 }
 
-// Whether these bytes begin with a query, after the empty lines that may stand before a message.
+// Whether these bytes begin with a query.
 fn is_query(bytes: &[u8]) -> bool {
-    let Some(begin) = bytes
+    behind_get(bytes).is_some()
+}
+
+// What stands behind the method of a query, if these bytes begin with one, after the empty lines
+// that may stand before a message.
+fn behind_get(bytes: &[u8]) -> Option<&[u8]> {
+    let begin = bytes
         .iter()
-        .position(|byte| *byte != b'\r' && *byte != b'\n')
-    else {
-        return false;
-    };
-    match bytes.get(begin..) {
-        Some(rest) => rest.starts_with(b"GET "),
+        .position(|byte| *byte != b'\r' && *byte != b'\n')?;
+    bytes.get(begin..)?.strip_prefix(b"GET ")
+}
+
+// The target of the query with which these bytes begin, if all of it is held.
+fn target_of_query(bytes: &[u8]) -> Option<&[u8]> {
+    let rest = behind_get(bytes)?;
+    let end = rest.iter().position(|byte| *byte == b' ')?;
+    rest.get(..end)
+}
+
+// Whether these bytes begin with a query of a history, as far as its target says.
+fn asks_for_history(bytes: &[u8]) -> bool {
+    match target_of_query(bytes) {
+        Some(target) => is_history(target),
         None => false,
+    }
+}
+
+// Whether a whole message stands first.
+fn is_whole(bytes: &[u8]) -> bool {
+    match first_message(bytes) {
+        FirstMessage::Message(_) => true,
+        FirstMessage::Rejected(..) | FirstMessage::Unfinished => false,
     }
 }
 

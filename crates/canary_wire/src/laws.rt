@@ -1,8 +1,9 @@
 //! Laws of the cutting of a stream, and of many conversations at once.
 ghost use Rattle.std.specs.Prelude.{◌≡◌, ℕ, List, [], ◌++◌};
+ghost use Rattle.canary_once.specs.Messages.{HandledAll, AnsweredInOrder, desk_state};
 ghost use Rattle.canary_wire.specs.Crowds.{Comes, HasTurn, Goes};
 ghost use Rattle.canary_wire.specs.Cut.{Message, Ending, IsCut, SameEnding};
-ghost use Rattle.canary_wire.specs.Dispositions.{Exchange, HandledAll, AnsweredInOrder, desk_state};
+ghost use Rattle.canary_wire.specs.Dispositions.{HttpExchange, IsExchange};
 
 use canary_once::book::Book;
 use canary_once::clock::Clock;
@@ -29,15 +30,19 @@ pub fn crowds()
 /// the last, and the answers and the contents then are those of the small machine.
 pub fn going_on<C: Clock, B: Book>()
     ensures none { (c : C) (b : B)
-        → HandledAll (desk_state (C.tells c) (B.state b)) (desk_state (C.tells c) (B.state b)) [] }
-    ensures then { (c d e : C) (f g h : B) (xs ys : List Exchange)
-        → HandledAll (desk_state (C.tells c) (B.state f)) (desk_state (C.tells d) (B.state g)) xs
-        → HandledAll (desk_state (C.tells d) (B.state g)) (desk_state (C.tells e) (B.state h)) ys
-        → HandledAll (desk_state (C.tells c) (B.state f)) (desk_state (C.tells e) (B.state h))
-        (xs ++ ys) }
-    ensures holds { (c d : C) (f g : B) (xs : List Exchange)
-        → HandledAll (desk_state (C.tells c) (B.state f)) (desk_state (C.tells d) (B.state g)) xs
-        → AnsweredInOrder (desk_state (C.tells c) (B.state f))
+        → HandledAll IsExchange (desk_state (C.tells c) (B.state b))
+        (desk_state (C.tells c) (B.state b)) [] }
+    ensures then { (c d e : C) (f g h : B) (xs ys : List HttpExchange)
+        → HandledAll IsExchange (desk_state (C.tells c) (B.state f))
+        (desk_state (C.tells d) (B.state g)) xs
+        → HandledAll IsExchange (desk_state (C.tells d) (B.state g))
+        (desk_state (C.tells e) (B.state h)) ys
+        → HandledAll IsExchange (desk_state (C.tells c) (B.state f))
+        (desk_state (C.tells e) (B.state h)) (xs ++ ys) }
+    ensures holds { (c d : C) (f g : B) (xs : List HttpExchange)
+        → HandledAll IsExchange (desk_state (C.tells c) (B.state f))
+        (desk_state (C.tells d) (B.state g)) xs
+        → AnsweredInOrder IsExchange (desk_state (C.tells c) (B.state f))
         (desk_state (C.tells d) (B.state g)) xs }
 {
     running_on();

@@ -1,12 +1,13 @@
 //! Replies (RFC 9112), and writing them.
 ghost use Rattle.std.specs.Prelude.{◌≡◌, ◌++◌, ◌≤◌, length};
+ghost use Rattle.canary_base.specs.Writes.{Writes};
 ghost use Rattle.canary_wire.specs.ReplyTexts.{response_status, response_body, allow_line};
 ghost use Rattle.canary_wire.specs.ReplyTexts.{status_code, reason_of, line_if};
 ghost use Rattle.canary_wire.specs.ReplyTexts.{head_text, reply_text};
-ghost use Rattle.canary_wire.specs.Writes.{Writes};
 
 use crate::rejection::{Allowed, Rejection};
 use arrayvec::ArrayString;
+use canary_base::writing::{WriteFault, write_all};
 use canary_once::event::Answer;
 use http::StatusCode;
 use std::io::Write;
@@ -57,10 +58,6 @@ impl Response {
         }
     }
 }
-
-// The writer failed, or took no byte.
-#[derive(Clone, Copy, Debug, PartialEq, Eq)]
-pub(crate) struct WriteFault;
 
 // Writes the reply that says this: its head alone where that is asked, and with `Connection: close`
 // where the stream ends after it. It takes no memory. What went out before a fault are the first
@@ -160,22 +157,4 @@ fn write_both<W: Write>(
         return Err(fault);
     }
     write_all(writer, body.as_bytes())
-}
-
-// Writes all of the bytes, by several writes if need be.
-fn write_all<W: Write>(writer: &mut W, text: &[u8]) -> Result<(), WriteFault>
-    ensures { Writes (W.contents writer.old) (W.contents writer.new) text.now result }
-{
-    let mut rest = text;
-    while !rest.is_empty() {
-        match writer.write(rest) {
-            Ok(0) => return Err(WriteFault),
-            Ok(n) => {
-                let (_, after) = rest.split_at(n);
-                rest = after;
-            }
-            Err(_) => return Err(WriteFault),
-        }
-    }
-    Ok(())
 }

@@ -7,6 +7,7 @@ ghost use Rattle.canary_base.specs.Numbers.{SpellsNumber};
 ghost use Rattle.canary_wire.specs.Routes.{the_rows, Target, request, service, history, run};
 ghost use Rattle.canary_wire.specs.Routes.{IsPart, IsSplit, IsPathOf, HasNoRoute, StandsBehind};
 ghost use Rattle.canary_wire.specs.Routes.{target_of, route_to, allowed_on, IsTargetRead, IsAsked};
+ghost use Rattle.canary_wire.specs.Routes.{path_of};
 
 use crate::rejection::{Allowed, Rejection};
 use canary_base::names::Name;
@@ -197,6 +198,16 @@ fn split_history(path: &[u8]) -> Option<PathParts<'_>>
         Some(PathParts::History(name))
     } else {
         None
+    }
+}
+
+// Whether a target is that of a history.
+pub(crate) fn is_history(target: &[u8]) -> bool
+    ensures { (name : List ℕ) → IsSplit (path_of target.now) (history name) → IsTrue result }
+{
+    match split_history(before(target, b'?')) {
+        Some(_) => true,
+        None => false,
     }
 }
 

@@ -4,8 +4,8 @@ ghost use Rattle.std.specs.Prelude.{List, [], ◌++◌, length, drop, vec_len};
 ghost use Rattle.std.specs.Io.KnownBytes.{Appends};
 
 use crate::buffer::is_not_now;
-use crate::reply::WriteFault;
 use canary_base::error::Memory;
+use canary_base::writing::WriteFault;
 use std::alloc::Global;
 use std::io::Write;
 

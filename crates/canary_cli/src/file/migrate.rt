@@ -1,5 +1,6 @@
 //! `migrate`: a file of the first version becomes one of this version.
 use crate::file::exclusive_file::ExclusiveFile;
+use crate::file::named::bytes_of;
 use crate::file::open::{TablesVersion, fault_of, find, has_other_bytes, is_blank, tables_version};
 use crate::file::progress::ProgressDisplay;
 use canary_backup::folder::OwnCopy;
@@ -69,7 +70,8 @@ fn upgrade_file<F: Write>(
     errors: &mut F,
     is_terminal: bool,
 ) -> Result<bool, Fault> {
-    let mut shown = ProgressDisplay::rows(rt, errors, is_terminal);
+    let bytes = bytes_of(rt, file);
+    let mut shown = ProgressDisplay::judging(rt, errors, is_terminal, bytes);
     let upgraded = upgrade(rt, file, &mut shown);
     shown.end();
     upgraded.map_err(fault_of)

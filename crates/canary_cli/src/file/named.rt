@@ -31,6 +31,23 @@ fn found_at<P: Files>(files: &P, name: &str) -> Stands {
     }
 }
 
+/// How many bytes the file of this name has with its log, as far as the system says so.
+pub(crate) fn bytes_of<P: Files + AllocGlobal>(rt: &P, file: &str) -> u64 {
+    let in_file = length_of(rt, file);
+    match log_of(rt, file) {
+        Ok(log) => in_file.saturating_add(length_of(rt, log.as_str())),
+        Err(_) => in_file,
+    }
+}
+
+// How many bytes the file of this name has, where all links lead; 0 if it is none.
+fn length_of<P: Files>(files: &P, name: &str) -> u64 {
+    match found_at(files, name) {
+        Stands::File(bytes) => bytes,
+        Stands::Other | Stands::Nothing => 0,
+    }
+}
+
 /// Looks at what stands under the names of a desk's file and of its log, and opens neither: to open
 /// a FIFO could wait for ever.
 ///

@@ -3,7 +3,7 @@ ghost use Rattle.std.specs.Prelude.{◌≡◌, IfErr};
 ghost use Rattle.canary_cli.specs.Opened.{IsOfFound, IsOfLook, IsOfOpening, of_tables};
 ghost use Rattle.canary_programs.specs.declared.fault.Fault.TheVariants as fault;
 
-use crate::file::named::{log_of, look_at_names, look_for_log};
+use crate::file::named::{bytes_of, log_of, look_at_names, look_for_log};
 use crate::file::progress::ProgressDisplay;
 use canary_base::names::Name;
 use canary_programs::fault::Fault;
@@ -66,7 +66,8 @@ pub fn open<F: Write>(
     if has_other_bytes(rt, file)? {
         return Err(Fault::Storage);
     }
-    let mut shown = ProgressDisplay::rows(rt, errors, is_terminal);
+    let bytes = bytes_of(rt, file);
+    let mut shown = ProgressDisplay::judging(rt, errors, is_terminal, bytes);
     let opened = TableBook::open(rt, file, &mut shown);
     shown.end();
     match opened {

@@ -8,18 +8,15 @@ use canary_tables_adopt::progress as judging;
 use std::alloc::{AllocError, Global};
 use std::io::{self, Read, Write};
 
-// What one megabyte is.
+// What one kilobyte is, and one megabyte.
+const KILOBYTE: u64 = 1_000;
+
 const MEGABYTE: u64 = 1_000_000;
 
-// Into how many parts the whole is divided, each of which is shown; and of the lines that follow
-// another one where no terminal is, so that a log has a hundred of them at most.
+// Into how many parts the whole is divided, behind each of which a line may be written.
 const PARTS: u64 = 1_000;
 
-const FURTHER_PARTS: u64 = 100;
-
 // How many seconds pass before the first line where no terminal is, and between two of them.
-const QUIET_SECONDS: u64 = 2;
-
 const LINE_SECONDS: u64 = 1;
 
 // Erases the line in which the cursor stands.
@@ -28,8 +25,9 @@ const ERASED: &str = "\r\x1b[K";
 /// What is counted.
 #[derive(Clone, Copy, Debug, PartialEq, Eq)]
 enum Unit {
-    /// Rows of tables, which are judged.
-    Rows,
+    /// Rows of the tables in a file, which are judged. They are shown as their share of its bytes,
+    /// of which it has so many.
+    Rows { bytes: u64 },
     /// Bytes of a file, which are read.
     Bytes,
     /// Services, which are drawn.
@@ -37,11 +35,10 @@ enum Unit {
 }
 
 /// Shows how far a program has come. A terminal has one line, which is written anew as it goes, and
-/// erased where it is done. Elsewhere lines are written one below another: none in the first two
-/// seconds, then at most one a second, and one for each hundredth part of the whole where that is
-/// known. Such a line waits for nobody who reads it: if it cannot be taken at once, it is left out.
-/// A fault of the stream, a clock that cannot be read, and memory that is refused for a line, are
-/// ignored.
+/// erased where it is done. Elsewhere lines are written one below another: none in the first
+/// second, then at most one a second, and none that says the same as the one before it. Such a line
+/// waits for nobody who reads it: if it cannot be taken at once, it is left out. A fault of the
+/// stream, a clock that cannot be read, and memory that is refused for a line, are ignored.
 #[derive(Drop)]
 pub struct ProgressDisplay<'a, F: Write> {
     rt: &'a HostRuntime,
@@ -55,17 +52,21 @@ pub struct ProgressDisplay<'a, F: Write> {
     next: u64,
     // How long no line is written where no terminal is.
     pause: Pause,
+    // The number in the last line, if there is one.
+    told: Option<u64>,
     is_drawn: bool,
 }
 
 impl<'a, F: Write> ProgressDisplay<'a, F> {
-    /// Shows how many rows are judged, on `errors`, the standard error of the process.
-    pub fn rows(
+    /// Shows how much of a file of so many bytes is judged, on `errors`, the standard error of the
+    /// process: as large a share of its bytes as is judged of its rows.
+    pub fn judging(
         rt: &'a HostRuntime,
         errors: &'a mut F,
         is_terminal: bool,
+        bytes: u64,
     ) -> ProgressDisplay<'a, F> {
-        ProgressDisplay::of(rt, errors, is_terminal, Unit::Rows, None)
+        ProgressDisplay::of(rt, errors, is_terminal, Unit::Rows { bytes }, None)
     }
 
     /// Shows how many bytes are read, of so many where that is known, on `errors`, the standard
@@ -88,7 +89,7 @@ impl<'a, F: Write> ProgressDisplay<'a, F> {
         ProgressDisplay::of(rt, errors, is_terminal, Unit::Services, None)
     }
 
-    // Counts this unit from 0. Without a terminal, no line comes in the first `QUIET_SECONDS`.
+    // Counts this unit from 0. Without a terminal, no line comes in the first `LINE_SECONDS`.
     fn of(
         rt: &'a HostRuntime,
         errors: &'a mut F,
@@ -104,7 +105,8 @@ impl<'a, F: Write> ProgressDisplay<'a, F> {
             done: 0,
             whole,
             next: 0,
-            pause: Pause::begun(rt, QUIET_SECONDS),
+            pause: Pause::begun(rt, LINE_SECONDS),
+            told: None,
             is_drawn: false,
         }
     }
@@ -114,6 +116,7 @@ impl<'a, F: Write> ProgressDisplay<'a, F> {
         self.done = 0;
         self.whole = Some(whole);
         self.next = 0;
+        self.told = None;
     }
 
     /// So much more is done.
@@ -126,32 +129,37 @@ impl<'a, F: Write> ProgressDisplay<'a, F> {
     }
 
     // How much more is done until a line may be written next: a part of the whole, or a megabyte.
-    // No two lines below one another have the same number.
     fn part(&self) -> u64 {
-        let is_below = !self.is_terminal;
-        let parts = if is_below && self.is_drawn {
-            FURTHER_PARTS
-        } else {
-            PARTS
-        };
-        let least = if is_below && self.unit == Unit::Bytes {
-            MEGABYTE
-        } else {
-            1
-        };
         match self.whole {
-            Some(whole) => (whole / parts).max(least),
+            Some(whole) => (whole / PARTS).max(1),
             None => MEGABYTE,
         }
     }
 
-    // Draws the line of a terminal anew, or writes one below the others if the pause is over.
+    // Draws the line of a terminal anew, or writes one below the others if that may be.
     fn show(&mut self) {
         if self.is_terminal {
             self.draw();
-        } else if self.pause.is_over(self.rt) {
+        } else if self.is_due() {
             self.tell();
+            self.told = Some(self.number());
             self.pause = Pause::begun(self.rt, LINE_SECONDS);
+        }
+    }
+
+    // Whether a line may be written below the others: it would say something else than the last
+    // one, and the pause is over.
+    fn is_due(&self) -> bool {
+        self.told != Some(self.number()) && self.pause.is_over(self.rt)
+    }
+
+    // The number of what is done, as a line says it. Megabytes are rounded down.
+    fn number(&self) -> u64 {
+        match self.unit {
+            // In kilobytes, so that their product with the rows of any file is a number here.
+            Unit::Rows { bytes } => share(self.done, self.whole, bytes / KILOBYTE) / KILOBYTE,
+            Unit::Bytes => self.done / MEGABYTE,
+            Unit::Services => self.done,
         }
     }
 
@@ -181,20 +189,22 @@ impl<'a, F: Write> ProgressDisplay<'a, F> {
         format!(in alloc; "{before}canary: {text}{behind}")
     }
 
-    // How much is done of what. Megabytes that are read are rounded down, and all of them up.
+    // How much is done of what. All the megabytes are rounded up.
     fn text(&self, alloc: Global) -> Result<String, AllocError> {
-        let (done, whole) = (self.done, self.whole.unwrap_or(self.done));
-        let text = match (self.unit, self.whole) {
-            (Unit::Rows, _) => format!(in alloc; "{done} of {whole} rows judged")?,
-            (Unit::Services, _) => format!(in alloc; "{done} of {whole} services drawn")?,
-            (Unit::Bytes, Some(_)) => format!(in alloc;
-                "{} of {} MB read",
-                done / MEGABYTE,
-                whole.div_ceil(MEGABYTE)
-            )?,
-            (Unit::Bytes, None) => format!(in alloc; "{} MB read", done / MEGABYTE)?,
-        };
-        Ok(text)
+        let done = self.number();
+        match (self.unit, self.whole) {
+            (Unit::Rows { bytes }, _) => {
+                let megabytes = bytes.div_ceil(MEGABYTE);
+                format!(in alloc; "{done} of {megabytes} MB judged")
+            }
+            (Unit::Services, Some(whole)) => format!(in alloc; "{done} of {whole} services drawn"),
+            (Unit::Services, None) => format!(in alloc; "{done} services drawn"),
+            (Unit::Bytes, Some(whole)) => {
+                let megabytes = whole.div_ceil(MEGABYTE);
+                format!(in alloc; "{done} of {megabytes} MB read")
+            }
+            (Unit::Bytes, None) => format!(in alloc; "{done} MB read"),
+        }
     }
 
     /// Erases the line of a terminal, if there is one.
@@ -204,6 +214,14 @@ impl<'a, F: Write> ProgressDisplay<'a, F> {
             let _ = self.errors.flush();
             self.is_drawn = false;
         }
+    }
+}
+
+// As large a share of this as is done of the whole; all of it where the whole is done or unknown.
+fn share(done: u64, whole: Option<u64>, of: u64) -> u64 {
+    match whole {
+        Some(whole) if done < whole => of.saturating_mul(done) / whole,
+        _ => of,
     }
 }
 

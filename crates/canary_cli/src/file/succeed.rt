@@ -1,4 +1,5 @@
 //! `succeed`: a new file, in which a desk goes on that has grown for years.
+use crate::file::named::bytes_of;
 use crate::file::open::{fault_of, find, has_other_bytes, is_blank, names_of, open};
 use crate::file::progress::ProgressDisplay;
 use canary_backup::copying::StagedCopy;
@@ -89,7 +90,7 @@ fn make<F: Write>(
     is_terminal: bool,
 ) -> Result<(), Fault> {
     match connect(rt, old) {
-        Ok(conn) => make_of(rt, conn, part, errors, is_terminal),
+        Ok(conn) => make_of(rt, old, conn, part, errors, is_terminal),
         Err(error) => Err(unopened(error)),
     }
 }
@@ -103,9 +104,11 @@ fn unopened(error: Error) -> Fault {
     }
 }
 
-// Makes the new desk from an open connection, which is closed once the new file has its name.
+// Makes the new desk from an open connection to the file of this name, which is closed once the new
+// file has its name.
 fn make_of<S: Alter + Drop, F: Write>(
     rt: &HostRuntime,
+    file: &str,
     conn: Connection<S>,
     part: &StagedCopy,
     errors: &mut F,
@@ -113,7 +116,7 @@ fn make_of<S: Alter + Drop, F: Write>(
 ) -> Result<(), Fault> {
     let mut conn = conn;
     let templates = template_names(rt.alloc(), &mut conn)?;
-    let mut book = adopted(rt, conn, errors, is_terminal)?;
+    let mut book = adopted(rt, file, conn, errors, is_terminal)?;
     let services = names_of(&mut book)?;
     let names = Names {
         templates,
@@ -151,14 +154,16 @@ fn first_names(alloc: Global, keys: &[RevisionKey]) -> Result<Vec<Name>, Memory>
     Ok(names)
 }
 
-// The book of the old desk, whose rows are judged.
+// The book of the old desk in the file of this name, whose rows are judged.
 fn adopted<S: Alter + Drop, F: Write>(
     rt: &HostRuntime,
+    file: &str,
     conn: Connection<S>,
     errors: &mut F,
     is_terminal: bool,
 ) -> Result<TableBook<S>, Fault> {
-    let mut shown = ProgressDisplay::rows(rt, errors, is_terminal);
+    let bytes = bytes_of(rt, file);
+    let mut shown = ProgressDisplay::judging(rt, errors, is_terminal, bytes);
     let adopted = TableBook::adopt(rt.alloc(), conn, &mut shown);
     shown.end();
     match adopted {

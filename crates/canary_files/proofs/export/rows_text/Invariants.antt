@@ -1,7 +1,8 @@
 use Rattle.std.proofs.Common.{◌≡◌, ◌+◌, ◌++◌, drop}
 use Rattle.canary_once.specs.Records.{past_of}
 use Rattle.canary_files.specs.Written.{rows_text}
-use Rattle.canary_files.specs.Exporting.{Stays, name_of, IsLatest}
+use Rattle.canary_once.specs.BookCalls.{Stays}
+use Rattle.canary_files.specs.Exporting.{name_of, IsLatest}
 use Rattle.canary_files.proofs.export.rows_text.Given as goal
 
 -- the rows so far, with those of the measurements that are left, are those of all

@@ -1,5 +1,6 @@
 use Rattle.std.proofs.Common.{ℕ, rules}
-use Rattle.canary_files.proofs.ExportLemmas.{short_on, more_on, why_on, stays_then}
+use Rattle.canary_once.proofs.BookLemmas.{stays_then}
+use Rattle.canary_files.proofs.ExportLemmas.{short_on, more_on, why_on}
 use Rattle.canary_files.proofs.export.write_rows.Goals as goal
 
 pub returns-in_err-next-clause-writes : goal.returns-in_err-next-clause-writes

@@ -1,6 +1,7 @@
 use Rattle.std.proofs.Common.{◌≤◌, ◌-◌}
 use Rattle.canary_once.specs.Records.{past_of}
-use Rattle.canary_files.specs.Exporting.{Stays, name_of, IsLatest}
+use Rattle.canary_once.specs.BookCalls.{Stays}
+use Rattle.canary_files.specs.Exporting.{name_of, IsLatest}
 use Rattle.canary_files.proofs.ExportLemmas.{SoFar}
 use Rattle.canary_files.proofs.export.write_rows.Given as goal
 

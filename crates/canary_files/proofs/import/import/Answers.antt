@@ -1,6 +1,6 @@
 use Rattle.std.proofs.Common.{◌∙◌, [], sym}
 use Rattle.csv.specs.Records.{fields_of}
-use Rattle.canary_files.specs.RowExchanges.{desk_state}
+use Rattle.canary_once.specs.Messages.{desk_state}
 use Rattle.canary_files.proofs.ImportLemmas.{import_none, import_failed, import_other, has_header}
 use Rattle.canary_files.proofs.import.import.Goals as goal
 

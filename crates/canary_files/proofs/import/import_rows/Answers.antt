@@ -1,12 +1,13 @@
 use Rattle.std.proofs.Common.{◌≡◌, ℕ, ◌+◌, ◌∷◌, [], refl, arith, subst}
 use Rattle.std.specs.Prelude.{Result, Ok}
 use Rattle.csv.specs.Records.{fields_of}
-use Rattle.canary_files.specs.declared.writing.CsvWriteFault.{CsvWriteFault}
-use Rattle.canary_files.specs.Writes.{Known, Writes}
+use Rattle.canary_base.specs.declared.writing.WriteFault.{WriteFault}
+use Rattle.canary_base.specs.Writes.{Known, Writes}
 use Rattle.canary_files.specs.Rows.{header}
 use Rattle.canary_files.specs.Taking.{HasTaken, taken_of, spare_of}
 use Rattle.canary_files.specs.Importing.{ImportsTo}
-use Rattle.canary_files.specs.RowExchanges.{desk_state, told_line}
+use Rattle.canary_once.specs.Messages.{desk_state}
+use Rattle.canary_files.specs.RowExchanges.{told_line}
 use Rattle.canary_files.proofs.ImportLemmas.{so_far_none, so_far_more, so_far_until, so_far_too_many, so_far_all, so_far_failed, keeps_more}
 use Rattle.canary_files.proofs.import.import_rows.Goals as goal
 
@@ -33,7 +34,7 @@ pub returns-in-Err-answer_row-clause-rows : goal.returns-in-Err-answer_row-claus
 returns-in-Err-answer_row-clause-rows g c =
     let takes = rw (c.in-Ok-true.is, c.in-Ok-true.field-0-test) at c.next_record.ensures.next in
     let a = c.answer_row.ensures in
-    let P : Result (Unit {0}) CsvWriteFault → Type 0 = λ r. Writes (g.W.Write.contents c.rows.output) (g.W.Write.contents c.answer_row.new.writer) (told_line (c.rows.done + 1) a.0.disposition) r in
+    let P : Result (Unit {0}) WriteFault → Type 0 = λ r. Writes (g.W.Write.contents c.rows.output) (g.W.Write.contents c.answer_row.new.writer) (told_line (c.rows.done + 1) a.0.disposition) r in
     so_far_until g.S.Read.remaining g.S.Limited.spare c.args.file.now c.rows.file c.next_record.new.file (g.W.Write.contents c.args.output.now) (g.W.Write.contents c.rows.output)
     (desk_state (g.C.Clock.tells c.args.clock.now) (g.B.Book.state c.args.book.now))
     (desk_state (g.C.Clock.tells c.rows.clock) (g.B.Book.state c.rows.book))
@@ -58,7 +59,7 @@ rows-preserved g c =
     let takes = rw (c.in-Ok-true.is, c.in-Ok-true.field-0-test) at c.next_record.ensures.next in
     let one = rw (c.in-Ok-true.is, c.in-Ok-true.field-0-test) at c.next_record.ensures.one in
     let a = c.answer_row.ensures in
-    let P : Result (Unit {0}) CsvWriteFault → Type 0 = λ r. Writes (g.W.Write.contents c.rows.output) (g.W.Write.contents c.answer_row.new.writer) (told_line (c.rows.done + 1) a.0.disposition) r in
+    let P : Result (Unit {0}) WriteFault → Type 0 = λ r. Writes (g.W.Write.contents c.rows.output) (g.W.Write.contents c.answer_row.new.writer) (told_line (c.rows.done + 1) a.0.disposition) r in
     so_far_more g.S.Read.remaining g.S.Limited.spare c.args.file.now c.rows.file c.next_record.new.file (g.W.Write.contents c.args.output.now) (g.W.Write.contents c.rows.output)
     (desk_state (g.C.Clock.tells c.args.clock.now) (g.B.Book.state c.args.book.now))
     (desk_state (g.C.Clock.tells c.rows.clock) (g.B.Book.state c.rows.book))

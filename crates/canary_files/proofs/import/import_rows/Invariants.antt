@@ -1,4 +1,4 @@
-use Rattle.canary_files.specs.RowExchanges.{desk_state}
+use Rattle.canary_once.specs.Messages.{desk_state}
 use Rattle.canary_files.specs.Importing.{IsSoFar}
 use Rattle.canary_files.proofs.import.import_rows.Given as goal
 

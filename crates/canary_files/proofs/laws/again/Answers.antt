@@ -1,4 +1,4 @@
-use Rattle.canary_files.specs.RowExchanges.{desk_state}
+use Rattle.canary_once.specs.Messages.{desk_state}
 use Rattle.canary_files.proofs.AgainLemmas.{afterwards, settled, again}
 use Rattle.canary_files.proofs.laws.again.Goals as goal
 

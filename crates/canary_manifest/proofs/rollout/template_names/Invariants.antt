@@ -3,7 +3,7 @@ use Rattle.serde_json.specs.View.{items_view}
 use Rattle.std.specs.Prelude.{codes}
 use Rattle.canary_canonical.specs.Forms.{each, name_in}
 use Rattle.canary_manifest.specs.Members.{in_member}
-use Rattle.canary_manifest.proofs.Items.{with_front}
+use Rattle.canary_canonical.proofs.Items.{with_front}
 use Rattle.canary_manifest.proofs.rollout.template_names.Given as goal
 
 abbrev pub invariant-loop-item : goal.invariant-loop-item

@@ -20,10 +20,10 @@ returns-clause-sound g c clean t holds =
 pub returns-clause-kept : goal.returns-clause-kept
 returns-clause-kept g c =
     kept_both (state g.S.Store c.args.tx.now.conn.now) (state g.S.Store c.set_schema.new.tx.conn.now) (state g.S.Store c.insert.new.tx.conn.now)
-    (kept_once g.S.Store c.args.tx.now.conn.now c.set_schema.new.tx.conn.now c.set_schema.ensures.kept c.set_schema.ensures.ended c.set_schema.ensures.survives)
+    (kept_once g.S.Store c.args.tx.now.conn.now c.set_schema.new.tx.conn.now c.set_schema.ensures.writes.kept c.set_schema.ensures.ended c.set_schema.ensures.writes.survives)
     (kept_live (state g.S.Store c.set_schema.new.tx.conn.now) (state g.S.Store c.insert.new.tx.conn.now) c.insert.ensures.kept
-    (λ usable. c.in_ok-set_schema.ensures.live (omega (arith, c.insert.ensures.survives.clean, usable.clean)) c.in_ok-set_schema.ensures.began) c.insert.ensures.survives)
+    (λ usable. c.in_ok-set_schema.ensures.writes.live (omega (arith, c.insert.ensures.survives.clean, usable.clean)) c.in_ok-set_schema.ensures.began) c.insert.ensures.survives)
 
 pub returns-in_err-set_schema-clause-kept : goal.returns-in_err-set_schema-clause-kept
 returns-in_err-set_schema-clause-kept g c =
-    kept_once g.S.Store c.args.tx.now.conn.now c.set_schema.new.tx.conn.now c.set_schema.ensures.kept c.set_schema.ensures.ended c.set_schema.ensures.survives
+    kept_once g.S.Store c.args.tx.now.conn.now c.set_schema.new.tx.conn.now c.set_schema.ensures.writes.kept c.set_schema.ensures.ended c.set_schema.ensures.writes.survives

@@ -13,11 +13,11 @@ returns-in_err-names-clause-broken g c usable t has is within =
 
 pub returns-clause-found : goal.returns-clause-found
 returns-clause-found g c usable t has =
-    let mid = (c.bindings_of_all.ensures.same usable).0 in
-    let stored = stores_then (g.Q.Reader.shows c.args.conn.now) (g.Q.Reader.shows c.service_names.new.conn) t c.service_names.ensures.same mid has in
+    let mid = (c.bindings_of_all.ensures.reads.same usable).0 in
+    let stored = stores_then (g.Q.Reader.shows c.args.conn.now) (g.Q.Reader.shows c.service_names.new.conn) t c.service_names.ensures.reads.same mid has in
     IfOk-weaker c.bindings_of_all.result _ _ (λ found e. e ∙ ap (flat_map (bindings_named t.services t.runs)) (c.as_slice.ensures ∙ c.in_ok-names.ensures.found mid t has)) (c.bindings_of_all.ensures.found usable t stored)
 
 pub returns-clause-broken : goal.returns-clause-broken
 returns-clause-broken g c usable t has is within =
-    let mid = (c.bindings_of_all.ensures.same usable).0 in
-    c.bindings_of_all.ensures.broken usable t (stores_then (g.Q.Reader.shows c.args.conn.now) (g.Q.Reader.shows c.service_names.new.conn) t c.service_names.ensures.same mid has) is within
+    let mid = (c.bindings_of_all.ensures.reads.same usable).0 in
+    c.bindings_of_all.ensures.broken usable t (stores_then (g.Q.Reader.shows c.args.conn.now) (g.Q.Reader.shows c.service_names.new.conn) t c.service_names.ensures.reads.same mid has) is within

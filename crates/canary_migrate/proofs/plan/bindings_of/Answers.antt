@@ -10,4 +10,4 @@ returns-in_err-rows-clause-broken g c usable t has is within =
 
 pub returns-in-Some-clause-broken : goal.returns-in-Some-clause-broken
 returns-in-Some-clause-broken g c usable t has is within =
-    c.row_bindings.ensures.broken usable t (stores_then (g.Q.Reader.shows c.args.conn.now) (g.Q.Reader.shows c.service_rows.new.conn) t c.service_rows.ensures.same (c.row_bindings.ensures.same usable).0 has) is within.1
+    c.row_bindings.ensures.broken usable t (stores_then (g.Q.Reader.shows c.args.conn.now) (g.Q.Reader.shows c.service_rows.new.conn) t c.service_rows.ensures.reads.same (c.row_bindings.ensures.reads.same usable).0 has) is within.1

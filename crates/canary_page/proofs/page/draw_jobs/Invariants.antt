@@ -1,4 +1,4 @@
-use Rattle.canary_files.specs.Exporting.{Stays}
+use Rattle.canary_once.specs.BookCalls.{Stays}
 use Rattle.canary_page.proofs.DrawnLemmas.{Wrote}
 use Rattle.canary_page.proofs.page.draw_jobs.Given as goal
 

@@ -1,6 +1,7 @@
 use Rattle.std.proofs.Common.{◌≤◌}
 use Rattle.std.specs.Prelude.{length}
-use Rattle.canary_files.specs.Exporting.{Stays, recorded_of}
+use Rattle.canary_once.specs.BookCalls.{Stays}
+use Rattle.canary_files.specs.Exporting.{recorded_of}
 use Rattle.canary_page.proofs.reading.read_measurements.Given as goal
 
 -- the book contains what it did, and no more was read than the service has

@@ -1,5 +1,5 @@
 use Rattle.std.proofs.Common.{◌∙◌, ap, sym}
-use Rattle.canary_wire.specs.Dispositions.{desk_state}
+use Rattle.canary_once.specs.Messages.{desk_state}
 use Rattle.canary_programs.proofs.Served.{served_so, only_memory}
 use Rattle.canary_programs.proofs.pipe.answer.Goals as goal
 

@@ -1,4 +1,4 @@
-use Rattle.canary_files.specs.Exporting.{Stays}
+use Rattle.canary_once.specs.BookCalls.{Stays}
 use Rattle.canary_programs.proofs.status.add_services.Given as goal
 
 abbrev pub invariant-loop-name : goal.invariant-loop-name

@@ -1,6 +1,6 @@
 use Rattle.std.proofs.Common.{arith}
 use Rattle.canary_programs.proofs.Again.{one_more, none_more}
-use Rattle.canary_programs.proofs.Stays.{stays_then}
+use Rattle.canary_once.proofs.BookLemmas.{stays_then}
 use Rattle.canary_programs.specs.Successions.{service_again}
 use Rattle.canary_programs.proofs.succession.with_services.Goals as goal
 

@@ -1,6 +1,6 @@
 use Rattle.std.proofs.Common.{[], arith}
 use Rattle.canary_programs.proofs.Again.{one_more}
-use Rattle.canary_programs.proofs.Stays.{stays_then}
+use Rattle.canary_once.proofs.BookLemmas.{stays_then}
 use Rattle.canary_programs.specs.Successions.{template_again}
 use Rattle.canary_programs.proofs.succession.with_templates.Goals as goal
 

@@ -1,6 +1,6 @@
 use Rattle.std.proofs.Common.{◌≡◌, take}
 use Rattle.std.specs.List.{filter_map}
-use Rattle.canary_files.specs.Exporting.{Stays}
+use Rattle.canary_once.specs.BookCalls.{Stays}
 use Rattle.canary_programs.specs.Successions.{template_again}
 use Rattle.canary_programs.proofs.succession.with_templates.Given as goal
 

@@ -1,7 +1,7 @@
 use Rattle.std.proofs.Common.{◌≡◌, ◌++◌, drop, map, take}
 use Rattle.std.specs.Prelude.{true}
 use Rattle.std.specs.List.{list_all}
-use Rattle.canary_release.specs.Recording.{takes}
+use Rattle.canary_release.specs.Rules.Recording.{takes}
 use Rattle.canary_release.specs.Watching.{counted_in}
 use Rattle.canary_release.proofs.runs.count_runs.Given as goal
 

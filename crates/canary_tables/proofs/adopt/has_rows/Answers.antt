@@ -9,7 +9,7 @@ use Rattle.canary_tables.proofs.adopt.has_rows.Goals as goal
 pub returns-then-not-is_whole-clause-broken : goal.returns-then-not-is_whole-clause-broken
 returns-then-not-is_whole-clause-broken g c = λ usable _.
     let db = (state g.S.Store c.args.conn.now).now in
-    let was = (c.desk_row.ensures.same usable).0 in
+    let was = (c.desk_row.ensures.reads.same usable).0 in
     let rises = c.requires.numbered was in
     let meta = alone_row (db.trees 0) c.in_ok-desk_row.field-0 c.in-Alone.is (c.in_ok-desk_row.ensures.found usable c.requires.recognized rises) in
     (has_tables db c.requires.recognized meta, rises, λ rows. let w : IsTrue c.args.is_whole = (c.requires.whole was).1 (whole _ rows) in search rules)
@@ -17,16 +17,16 @@ returns-then-not-is_whole-clause-broken g c = λ usable _.
 pub returns-clause-formed : goal.returns-clause-formed
 returns-clause-formed g c = λ usable.
     let db = (state g.S.Store c.args.conn.now).now in
-    let mid = (c.check_types.ensures.same usable).0 in
-    let rises = c.requires.numbered (c.desk_row.ensures.same mid).0 in
+    let mid = (c.check_types.ensures.reads.same usable).0 in
+    let rises = c.requires.numbered (c.desk_row.ensures.reads.same mid).0 in
     let meta = alone_row (db.trees 0) c.in_ok-desk_row.field-0 c.in-Alone.is (c.in_ok-desk_row.ensures.found mid c.requires.recognized rises) in
     formed db c.requires.recognized rises meta
 
 pub returns-clause-rows : goal.returns-clause-rows
 returns-clause-rows g c = λ usable.
     let db = (state g.S.Store c.args.conn.now).now in
-    let mid = (c.check_types.ensures.same usable).0 in
-    let was = c.desk_row.ensures.same mid in
+    let mid = (c.check_types.ensures.reads.same usable).0 in
+    let was = c.desk_row.ensures.reads.same mid in
     let rises = c.requires.numbered was.0 in
     let meta = alone_row (db.trees 0) c.in_ok-desk_row.field-0 c.in-Alone.is (c.in_ok-desk_row.ensures.found mid c.requires.recognized rises) in
     let is = formed db c.requires.recognized rises meta in
@@ -38,8 +38,8 @@ pub returns-in_err-check_types-clause-broken : goal.returns-in_err-check_types-c
 returns-in_err-check_types-clause-broken g c = λ usable is.
     let broken : c.check_types.result ≡ Err Broken = search rules in
     let db = (state g.S.Store c.args.conn.now).now in
-    let mid = (c.check_types.ensures.same usable).0 in
-    let was = c.desk_row.ensures.same mid in
+    let mid = (c.check_types.ensures.reads.same usable).0 in
+    let was = c.desk_row.ensures.reads.same mid in
     let rises = c.requires.numbered was.0 in
     let meta = alone_row (db.trees 0) c.in_ok-desk_row.field-0 c.in-Alone.is (c.in_ok-desk_row.ensures.found mid c.requires.recognized rises) in
     let form = formed db c.requires.recognized rises meta in (

@@ -13,9 +13,9 @@ returns-clause-kept g c = λ usable.
     let old = state g.S.Store c.args.conn.now in
     let new = state g.S.Store c.receipt.new.conn in
     receipt_kept (contents_in new) c.args.kept.now c.keep_receipt.new.self c.args.caller.now c.args.number c.in_ok-found.found
-    (kept_stays old new c.args.kept.now c.requires.kept c.receipt.ensures.same usable)
-    (c.in_ok-found.ensures.found usable ∙ ap (λ k. receipt_at k c.args.caller.now c.args.number) (sym (contents_stay old new c.receipt.ensures.same usable)))
-    c.keep_receipt.ensures.counts c.keep_receipt.ensures.services c.keep_receipt.ensures.templates
+    (kept_stays old new c.args.kept.now c.requires.kept c.receipt.ensures.reads.same usable)
+    (c.in_ok-found.ensures.found usable ∙ ap (λ k. receipt_at k c.args.caller.now c.args.number) (sym (contents_stay old new c.receipt.ensures.reads.same usable)))
+    c.keep_receipt.ensures.counts c.keep_receipt.ensures.services c.keep_receipt.ensures.templates c.keep_receipt.ensures.histories
     (λ k are is. c.keep_receipt.ensures.receipts k are (c.as_ref.ensures.value ∙ is))
 
 pub returns-in-Some-clause-found : goal.returns-in-Some-clause-found

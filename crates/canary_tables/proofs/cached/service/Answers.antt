@@ -14,11 +14,11 @@ returns-clause-kept g c = λ usable.
     let old = state g.S.Store c.args.conn.now in
     let new = state g.S.Store c.service.new.conn in
     service_kept (contents_in new) c.args.kept.now c.keep_copy.new.self c.args.name.now c.in_ok-found.found
-    (kept_stays old new c.args.kept.now c.requires.kept c.service.ensures.same usable)
-    (c.in_ok-found.ensures.found usable ∙ ap (λ k. stored_service k.desk c.args.name.now) (sym (contents_stay old new c.service.ensures.same usable)))
+    (kept_stays old new c.args.kept.now c.requires.kept c.service.ensures.reads.same usable)
+    (c.in_ok-found.ensures.found usable ∙ ap (λ k. stored_service k.desk c.args.name.now) (sym (contents_stay old new c.service.ensures.reads.same usable)))
     c.keep_copy.ensures.counts
     (subst (λ o. IsWithin c.keep_copy.new.self.services (put_some c.args.kept.now.services c.args.name.now o)) c.as_ref.ensures.value c.keep_copy.ensures.services)
-    c.keep_copy.ensures.templates c.keep_copy.ensures.receipts
+    c.keep_copy.ensures.templates c.keep_copy.ensures.receipts c.keep_copy.ensures.histories
 
 pub returns-in-Some-clause-found : goal.returns-in-Some-clause-found
 returns-in-Some-clause-found g c = λ usable.

@@ -14,11 +14,11 @@ returns-clause-kept g c = λ usable.
     let old = state g.S.Store c.args.conn.now in
     let new = state g.S.Store c.template.new.conn in
     template_kept (contents_in new) c.args.kept.now c.keep_template.new.self c.args.name.now c.in_ok-found.found
-    (kept_stays old new c.args.kept.now c.requires.kept c.template.ensures.same usable)
-    (c.in_ok-found.ensures.found usable ∙ ap (λ k. newest k.desk.templates c.args.name.now) (sym (contents_stay old new c.template.ensures.same usable)))
+    (kept_stays old new c.args.kept.now c.requires.kept c.template.ensures.reads.same usable)
+    (c.in_ok-found.ensures.found usable ∙ ap (λ k. newest k.desk.templates c.args.name.now) (sym (contents_stay old new c.template.ensures.reads.same usable)))
     c.keep_template.ensures.counts c.keep_template.ensures.services
     (subst (λ o. IsWithin c.keep_template.new.self.templates (put_some c.args.kept.now.templates c.args.name.now o)) c.as_ref.ensures.value c.keep_template.ensures.templates)
-    c.keep_template.ensures.receipts
+    c.keep_template.ensures.receipts c.keep_template.ensures.histories
 
 pub returns-in-Some-clause-found : goal.returns-in-Some-clause-found
 returns-in-Some-clause-found g c = λ usable.

@@ -8,5 +8,5 @@ use Rattle.canary_tables.proofs.load.count.Goals as goal
 pub returns-clause-found : goal.returns-clause-found
 returns-clause-found g c usable =
     let old = state g.S.Store c.args.conn.now in
-    let desk : IsDesk old = c.requires.desk (c.in_ok-settled.ensures.same usable).0 in
+    let desk : IsDesk old = c.requires.ready.desk (c.in_ok-settled.ensures.reads.same usable).0 in
     c.unwrap_or.ensures ∙ ap (λ (o : Option ℕ). unwrap_or o 0) (c.in_ok-settled.ensures.found usable (tables_in old.now) desk.stores) ∙ c.counts_found.ensures (tables_in old.now) desk.holds c.args.caller.now

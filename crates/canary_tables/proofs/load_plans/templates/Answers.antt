@@ -1,25 +1,4 @@
-use Rattle.std.proofs.Common.{arith, Some, None, sym, ◌∙◌}
-use Rattle.sqlite.specs.Held.{state}
-use Rattle.canary_tables.proofs.FoundPlans.{none_so_far, one_more, templates_done}
 use Rattle.canary_tables.proofs.load_plans.templates.Goals as goal
-use Rattle.canary_tables.proofs.load_plans.templates.Goals.{in-Some+in_ok-insert, in_default}
 
-pub loop-name-init : goal.loop-name-init
-loop-name-init g c = (c.requires.autocommit, none_so_far c.args.names.now (state g.S.Store c.args.conn.now) c.new-found.result c.new-found.ensures)
-
-pub loop-name-preserved : goal.loop-name-preserved
-loop-name-preserved g c = elim c.match-branch-2.branch [
-  | in-Some+in_ok-insert w ↦ (
-    c.template.ensures.mode,
-    one_more c.args.names.now c.loop-name.name-index (state g.S.Store c.args.conn.now) (state g.S.Store c.loop-name.conn) (state g.S.Store c.template.new.conn) c.loop-name.found c.match-branch-2.found c.name-item.result (Some w.in-Some.template) (omega arith) c.name-item.is c.loop-name.invariant.1 c.template.ensures.same
-        (λ usable. sym w.in-Some.is ∙ c.in_ok-template.ensures.found usable) (w.found-is ∙ w.in_ok-insert.ensures.ok),
-  )
-  | in_default w ↦ (
-    c.template.ensures.mode,
-    one_more c.args.names.now c.loop-name.name-index (state g.S.Store c.args.conn.now) (state g.S.Store c.loop-name.conn) (state g.S.Store c.template.new.conn) c.loop-name.found c.match-branch-2.found c.name-item.result None (omega arith) c.name-item.is c.loop-name.invariant.1 c.template.ensures.same
-        (λ usable. sym w.in_default.is ∙ c.in_ok-template.ensures.found usable) w.found-is,
-  )
-]
-
-pub returns-clause-found : goal.returns-clause-found
-returns-clause-found g c = templates_done c.args.names.now c.loop-name.name-index (state g.S.Store c.args.conn.now) (state g.S.Store c.loop-name.conn) c.loop-name.found c.loop-name.invariant.1 c.loop-name-test.false
+pub templates-requires-clause-kept : goal.templates-requires-clause-kept
+templates-requires-clause-kept g c = λ usable. c.new-nothing.ensures.kept _

@@ -11,7 +11,7 @@ use Rattle.canary_tables.proofs.pages.history.Goals as goal
 pub returns-clause-found : goal.returns-clause-found
 returns-clause-found g c usable =
     let old = state g.S.Store c.args.conn.now in
-    let desk : IsDesk old = c.requires.desk (c.in_ok-rows.ensures.same usable).0 in
+    let desk : IsDesk old = c.requires.ready.desk (c.in_ok-rows.ensures.reads.same usable).0 in
     IfOk-weaker c.lines_of.result _ _
     (λ lines told. all_found line_of_row c.as_slice.result.now _ lines (history_of (contents_in old) c.args.name.now) told (c.as_slice.ensures ∙ c.in_ok-rows.ensures.found usable (tables_in old.now) desk.stores) (c.histories_found.ensures (tables_in old.now) desk.holds c.args.name.now))
     c.lines_of.ensures.found

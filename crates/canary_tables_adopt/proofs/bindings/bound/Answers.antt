@@ -14,9 +14,9 @@ returns-in_err-rows-clause-broken g c usable t has judged is within whole =
 
 pub returns-clause-found : goal.returns-clause-found
 returns-clause-found g c usable t has =
-    let usable_then = (c.known_by.ensures.same usable).0 in
+    let usable_then = (c.known_by.ensures.reads.same usable).0 in
     let rows = c.in_ok-rows.ensures.found usable_then t has in
-    let known = c.in_ok-known.ensures.found usable t (stores_then (g.Q.Reader.shows c.args.conn.now) (g.Q.Reader.shows c.bindings.new.conn) t c.bindings.ensures.same usable_then has) in
+    let known = c.in_ok-known.ensures.found usable t (stores_then (g.Q.Reader.shows c.args.conn.now) (g.Q.Reader.shows c.bindings.new.conn) t c.bindings.ensures.reads.same usable_then has) in
     record {
       bound = bound_told t c.args.service.now 0 c.as_slice.result.now c.in-Some.known c.args.strategy.now c.in_ok-bound_to.field-0 (c.as_slice.ensures ∙ rows)
           (subst (λ o. IsKnownBy c.as_slice.result.now t (option_map get o)) c.in-Some.is known) c.in_ok-bound_to.ensures;

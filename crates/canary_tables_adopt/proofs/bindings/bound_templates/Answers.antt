@@ -14,11 +14,11 @@ returns-in_err-rows-clause-broken g c usable t has is within =
 
 pub returns-clause-found : goal.returns-clause-found
 returns-clause-found g c usable t has =
-    let usable_then = (c.known_by.ensures.same usable).0 in
+    let usable_then = (c.known_by.ensures.reads.same usable).0 in
     let rows = c.as_slice.ensures ∙ c.in_ok-rows.ensures.found usable_then t has in
     IfOk-weaker c.known_by.result _ _ (λ found is. known_told t c.args.service.now c.args.run c.as_slice.result.now (option_map get found) rows is)
-    (c.known_by.ensures.found usable t (stores_then (g.Q.Reader.shows c.args.conn.now) (g.Q.Reader.shows c.bindings.new.conn) t c.bindings.ensures.same usable_then has))
+    (c.known_by.ensures.found usable t (stores_then (g.Q.Reader.shows c.args.conn.now) (g.Q.Reader.shows c.bindings.new.conn) t c.bindings.ensures.reads.same usable_then has))
 
 pub returns-clause-broken : goal.returns-clause-broken
 returns-clause-broken g c usable t has is within =
-    c.known_by.ensures.broken usable t (stores_then (g.Q.Reader.shows c.args.conn.now) (g.Q.Reader.shows c.bindings.new.conn) t c.bindings.ensures.same (c.known_by.ensures.same usable).0 has) is within
+    c.known_by.ensures.broken usable t (stores_then (g.Q.Reader.shows c.args.conn.now) (g.Q.Reader.shows c.bindings.new.conn) t c.bindings.ensures.reads.same (c.known_by.ensures.reads.same usable).0 has) is within

@@ -11,13 +11,13 @@ loop-name-init g c = (goes_first g.Q.Reader.IsReady g.Q.Reader.place g.Q.Reader.
 pub loop-name-preserved : goal.loop-name-preserved
 loop-name-preserved g c = elim c.match-branch-2.branch [
   | in-Some+in_ok-insert w ↦ (
-    goes_more g.Q.Reader.IsReady g.Q.Reader.place g.Q.Reader.below _ _ _ c.loop-name.invariant.0 c.template.ensures.mode c.template.ensures.place c.template.ensures.kept,
-    template_more c.args.names.now c.loop-name.name-index (g.Q.Reader.shows c.args.conn.now) (g.Q.Reader.shows c.loop-name.conn) (g.Q.Reader.shows c.template.new.conn) c.loop-name.found c.match-branch-2.found c.name-item.result w.in-Some.template (omega arith) c.name-item.is c.loop-name.invariant.1 c.template.ensures.same
+    goes_more g.Q.Reader.IsReady g.Q.Reader.place g.Q.Reader.below _ _ _ c.loop-name.invariant.0 c.template.ensures.reads.mode c.template.ensures.reads.place c.template.ensures.reads.kept,
+    template_more c.args.names.now c.loop-name.name-index (g.Q.Reader.shows c.args.conn.now) (g.Q.Reader.shows c.loop-name.conn) (g.Q.Reader.shows c.template.new.conn) c.loop-name.found c.match-branch-2.found c.name-item.result w.in-Some.template (omega arith) c.name-item.is c.loop-name.invariant.1 c.template.ensures.reads.same
         (λ usable t has judged. sym w.in-Some.is ∙ c.in_ok-template.ensures.found usable t has judged) (w.found-is ∙ w.in_ok-insert.ensures.ok),
   )
   | in_default w ↦ (
-    goes_more g.Q.Reader.IsReady g.Q.Reader.place g.Q.Reader.below _ _ _ c.loop-name.invariant.0 c.template.ensures.mode c.template.ensures.place c.template.ensures.kept,
-    no_template_more c.args.names.now c.loop-name.name-index (g.Q.Reader.shows c.args.conn.now) (g.Q.Reader.shows c.loop-name.conn) (g.Q.Reader.shows c.template.new.conn) c.loop-name.found c.match-branch-2.found c.name-item.result (omega arith) c.name-item.is c.loop-name.invariant.1 c.template.ensures.same
+    goes_more g.Q.Reader.IsReady g.Q.Reader.place g.Q.Reader.below _ _ _ c.loop-name.invariant.0 c.template.ensures.reads.mode c.template.ensures.reads.place c.template.ensures.reads.kept,
+    no_template_more c.args.names.now c.loop-name.name-index (g.Q.Reader.shows c.args.conn.now) (g.Q.Reader.shows c.loop-name.conn) (g.Q.Reader.shows c.template.new.conn) c.loop-name.found c.match-branch-2.found c.name-item.result (omega arith) c.name-item.is c.loop-name.invariant.1 c.template.ensures.reads.same
         (λ usable t has judged. sym w.in_default.is ∙ c.in_ok-template.ensures.found usable t has judged) w.found-is,
   )
 ]
@@ -25,7 +25,7 @@ loop-name-preserved g c = elim c.match-branch-2.branch [
 pub returns-in_err-template-clause-broken : goal.returns-in_err-template-clause-broken
 returns-in_err-template-clause-broken g c usable t has judged is =
     let broken : c.template.result ≡ Err Broken = search rules in
-    let mid = (c.template.ensures.same usable).0 in
+    let mid = (c.template.ensures.reads.same usable).0 in
     c.template.ensures.broken usable t (stores_then (g.Q.Reader.shows c.args.conn.now) (g.Q.Reader.shows c.loop-name.conn) t c.loop-name.invariant.1.same mid has) judged broken
 
 pub returns-clause-found : goal.returns-clause-found

@@ -17,11 +17,11 @@ returns-in_err-read_revision-clause-refused g c usable t has is judged =
 
 pub returns-clause-judged : goal.returns-clause-judged
 returns-clause-judged g c usable t has =
-    let mid = (c.judge_number.ensures.same usable).0 in
+    let mid = (c.judge_number.ensures.reads.same usable).0 in
     IfOk-weaker c.judge_number.result _ _ (λ done numbered. revision_found t c.args.key.now c.in_ok-rows.rows (c.in_ok-rows.ensures.found mid t has) c.in_ok-read_revision.ensures.judged numbered)
-    (c.judge_number.ensures.judged usable t (stores_then (g.Q.Reader.shows c.args.conn.now) (g.Q.Reader.shows c.revision_rows.new.conn) t c.revision_rows.ensures.same mid has))
+    (c.judge_number.ensures.judged usable t (stores_then (g.Q.Reader.shows c.args.conn.now) (g.Q.Reader.shows c.revision_rows.new.conn) t c.revision_rows.ensures.reads.same mid has))
 
 pub returns-clause-refused : goal.returns-clause-refused
 returns-clause-refused g c usable t has is judged =
-    let mid = (c.judge_number.ensures.same usable).0 in
-    c.judge_number.ensures.refused usable t (stores_then (g.Q.Reader.shows c.args.conn.now) (g.Q.Reader.shows c.revision_rows.new.conn) t c.revision_rows.ensures.same mid has) is (judged.0, numbered_there t c.args.key.now judged.1)
+    let mid = (c.judge_number.ensures.reads.same usable).0 in
+    c.judge_number.ensures.refused usable t (stores_then (g.Q.Reader.shows c.args.conn.now) (g.Q.Reader.shows c.revision_rows.new.conn) t c.revision_rows.ensures.reads.same mid has) is (judged.0, numbered_there t c.args.key.now judged.1)

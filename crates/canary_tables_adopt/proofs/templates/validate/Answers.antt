@@ -12,12 +12,12 @@ returns-in_err-keys-clause-refused g c usable t has is judged =
 
 pub returns-clause-judged : goal.returns-clause-judged
 returns-clause-judged g c usable t has =
-    let mid = (c.judge_each.ensures.same usable).0 in
+    let mid = (c.judge_each.ensures.reads.same usable).0 in
     IfOk-weaker c.judge_each.result _ _ (λ done each. all_templates t c.as_slice.result.now (c.as_slice.ensures ∙ c.in_ok-keys.ensures.found mid t has) each)
-    (c.judge_each.ensures.judged usable t (stores_then (g.Q.Reader.shows c.args.conn.now) (g.Q.Reader.shows c.revision_keys.new.conn) t c.revision_keys.ensures.same mid has))
+    (c.judge_each.ensures.judged usable t (stores_then (g.Q.Reader.shows c.args.conn.now) (g.Q.Reader.shows c.revision_keys.new.conn) t c.revision_keys.ensures.reads.same mid has))
 
 pub returns-clause-refused : goal.returns-clause-refused
 returns-clause-refused g c usable t has is judged =
-    let mid = (c.judge_each.ensures.same usable).0 in
-    c.judge_each.ensures.refused usable t (stores_then (g.Q.Reader.shows c.args.conn.now) (g.Q.Reader.shows c.revision_keys.new.conn) t c.revision_keys.ensures.same mid has) is
+    let mid = (c.judge_each.ensures.reads.same usable).0 in
+    c.judge_each.ensures.refused usable t (stores_then (g.Q.Reader.shows c.args.conn.now) (g.Q.Reader.shows c.revision_keys.new.conn) t c.revision_keys.ensures.reads.same mid has) is
     (judged.0, each_template t c.as_slice.result.now (c.as_slice.ensures ∙ c.in_ok-keys.ensures.found mid t has) judged.1)

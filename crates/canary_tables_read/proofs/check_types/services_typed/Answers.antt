@@ -8,7 +8,7 @@ none_shown-requires-clause-query g c = services_below_query
 
 pub returns-clause-typed : goal.returns-clause-typed
 returns-clause-typed g c usable at schema =
-    let was = (c.none_shown.ensures.same usable).0 in
+    let was = (c.none_shown.ensures.reads.same usable).0 in
     IfOk-weaker c.none_shown.result _ _
     (λ _ shown. services_assured (g.Q.Reader.shows c.args.conn.now) (g.Q.Reader.shows c.none_shown.new.conn) (c.look.ensures.live was) at schema shown) (c.none_shown.ensures.none usable)
 

@@ -15,8 +15,8 @@ returns-clause-found g c usable desk rising =
     let old = g.Q.Reader.shows c.args.conn.now in
     let mid = g.Q.Reader.shows c.is_shown.new.conn in
     let new = g.Q.Reader.shows c.is_shown-2.new.conn in
-    let later = (c.is_shown-2.ensures.same usable).0 in
-    let was = c.is_shown.ensures.same later in
+    let later = (c.is_shown-2.ensures.reads.same usable).0 in
+    let was = c.is_shown.ensures.reads.same later in
     let sound = c.look.ensures.live was.0 in
     subst (Stands 2 (old.now.trees 0 ≡ meta_rows) (old.now.trees 0)) (sym c.standing.ensures)
     (desk_stands old mid new sound desk.0 desk.1 (rising desk.0 desk.1).0 was.1 c.in_ok-is_there.is_there c.in_ok-has_others.has_others (c.in_ok-is_there.ensures.shown later) (c.in_ok-has_others.ensures.shown usable))

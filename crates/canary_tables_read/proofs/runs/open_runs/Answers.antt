@@ -19,5 +19,5 @@ returns-in_err-front-clause-broken g c usable t has is within =
 
 pub returns-clause-broken : goal.returns-clause-broken
 returns-clause-broken g c usable t has is within =
-    let before = c.front_runs.ensures.same (c.all_open_runs.ensures.same usable).0 in
+    let before = c.front_runs.ensures.reads.same (c.all_open_runs.ensures.reads.same usable).0 in
     c.all_open_runs.ensures.broken usable t (subst (λ (db : Database). IsHeld db t) (sym before.1) has) is within

@@ -11,8 +11,8 @@ use Rattle.canary_tables_schema.proofs.remake.add_new.Goals as goal
 
 pub returns-clause-made : goal.returns-clause-made
 returns-clause-made g c clean live is =
-    let clean1 : HasCleanDisk (state g.S.Store c.add_table-2.new.tx.conn.now) = omega (arith, c.add_table-3.ensures.survives.clean, clean) in
-    let clean0 : HasCleanDisk (state g.S.Store c.add_table.new.tx.conn.now) = omega (arith, c.add_table-2.ensures.survives.clean, clean1) in
+    let clean1 : HasCleanDisk (state g.S.Store c.add_table-2.new.tx.conn.now) = omega (arith, c.add_table-3.ensures.writes.survives.clean, clean) in
+    let clean0 : HasCleanDisk (state g.S.Store c.add_table.new.tx.conn.now) = omega (arith, c.add_table-2.ensures.writes.survives.clean, clean1) in
     let step0 = c.in_ok-add_table.ensures.made without_tally moved_with_revision old_trees 17 adds_revision clean0 live is in
     let so0 = step0 in
     let step1 = c.in_ok-add_table-2.ensures.made moved_with_revision moved_with_binding (old_trees ++ (17 ∷ [])) 19 adds_binding clean1 so0.live so0.schema in

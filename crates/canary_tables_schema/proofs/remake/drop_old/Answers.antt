@@ -11,7 +11,7 @@ use Rattle.canary_tables_schema.proofs.remake.drop_old.Goals as goal
 
 pub returns-clause-made : goal.returns-clause-made
 returns-clause-made g c clean live is =
-    let clean0 : HasCleanDisk (state g.S.Store c.drop_table.new.tx.conn.now) = omega (arith, c.drop_table-2.ensures.survives.clean, clean) in
+    let clean0 : HasCleanDisk (state g.S.Store c.drop_table.new.tx.conn.now) = omega (arith, c.drop_table-2.ensures.writes.survives.clean, clean) in
     let step0 = c.in_ok-drop_table.ensures.made first_unindexed without_template old_trees drops_template clean0 live is in
     let so0 = step0 in
     let step1 = c.drop_table-2.ensures.made without_template without_tally old_trees drops_tally clean so0.live so0.schema in

@@ -11,8 +11,8 @@ use Rattle.canary_tables_schema.proofs.remake.index.Goals as goal
 
 pub returns-clause-made : goal.returns-clause-made
 returns-clause-made g c clean live is =
-    let clean1 : HasCleanDisk (state g.S.Store c.add_index-2.new.tx.conn.now) = omega (arith, c.add_index-3.ensures.survives.clean, clean) in
-    let clean0 : HasCleanDisk (state g.S.Store c.add_index.new.tx.conn.now) = omega (arith, c.add_index-2.ensures.survives.clean, clean1) in
+    let clean1 : HasCleanDisk (state g.S.Store c.add_index-2.new.tx.conn.now) = omega (arith, c.add_index-3.ensures.writes.survives.clean, clean) in
+    let clean0 : HasCleanDisk (state g.S.Store c.add_index.new.tx.conn.now) = omega (arith, c.add_index-2.ensures.writes.survives.clean, clean1) in
     let step0 = c.in_ok-add_index.ensures.made moved_tables moved_runs_indexed (old_trees ++ new_trees) adds_run_closed clean0 live is in
     let so0 = step0 in
     let step1 = c.in_ok-add_index-2.ensures.made moved_runs_indexed moved_measurements_indexed (old_trees ++ new_trees) adds_measurement_service clean1 so0.live so0.schema in

@@ -10,9 +10,9 @@ use Rattle.canary_tables_schema.proofs.remake.remake.Goals as goal
 
 pub returns-clause-made : goal.returns-clause-made
 returns-clause-made g c clean live is =
-    let clean2 : HasCleanDisk (state g.S.Store c.add_new.new.tx.conn.now) = omega (arith, c.index.ensures.survives.clean, clean) in
-    let clean1 : HasCleanDisk (state g.S.Store c.drop_old.new.tx.conn.now) = omega (arith, c.add_new.ensures.survives.clean, clean2) in
-    let clean0 : HasCleanDisk (state g.S.Store c.unindex.new.tx.conn.now) = omega (arith, c.drop_old.ensures.survives.clean, clean1) in
+    let clean2 : HasCleanDisk (state g.S.Store c.add_new.new.tx.conn.now) = omega (arith, c.index.ensures.writes.survives.clean, clean) in
+    let clean1 : HasCleanDisk (state g.S.Store c.drop_old.new.tx.conn.now) = omega (arith, c.add_new.ensures.writes.survives.clean, clean2) in
+    let clean0 : HasCleanDisk (state g.S.Store c.unindex.new.tx.conn.now) = omega (arith, c.drop_old.ensures.writes.survives.clean, clean1) in
     let one = c.in_ok-unindex.ensures.made clean0 live is in
     let two = c.in_ok-drop_old.ensures.made clean1 one.live one.schema in
     let three = c.in_ok-add_new.ensures.made clean2 two.live two.schema in

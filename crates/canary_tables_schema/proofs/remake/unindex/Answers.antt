@@ -11,8 +11,8 @@ use Rattle.canary_tables_schema.proofs.remake.unindex.Goals as goal
 
 pub returns-clause-made : goal.returns-clause-made
 returns-clause-made g c clean live is =
-    let clean1 : HasCleanDisk (state g.S.Store c.drop_index-2.new.tx.conn.now) = omega (arith, c.drop_index-3.ensures.survives.clean, clean) in
-    let clean0 : HasCleanDisk (state g.S.Store c.drop_index.new.tx.conn.now) = omega (arith, c.drop_index-2.ensures.survives.clean, clean1) in
+    let clean1 : HasCleanDisk (state g.S.Store c.drop_index-2.new.tx.conn.now) = omega (arith, c.drop_index-3.ensures.writes.survives.clean, clean) in
+    let clean0 : HasCleanDisk (state g.S.Store c.drop_index.new.tx.conn.now) = omega (arith, c.drop_index-2.ensures.writes.survives.clean, clean1) in
     let step0 = c.in_ok-drop_index.ensures.made first_schema without_lines old_trees drops_lines clean0 live is in
     let so0 = step0 in
     let step1 = c.in_ok-drop_index-2.ensures.made without_lines without_measurements old_trees drops_measurements clean1 so0.live so0.schema in

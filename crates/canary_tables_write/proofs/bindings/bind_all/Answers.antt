@@ -7,5 +7,5 @@ pub loop-revision-preserved : goal.loop-revision-preserved
 loop-revision-preserved g c = (
   search rules,
   one_bound c.args.service.now c.args.run c.args.revisions.now c.loop-revision.revision-index c.revision-item.result (state g.S.Store c.args.tx.now.conn.now) (state g.S.Store c.loop-revision.tx.conn.now) (state g.S.Store c.bind.new.tx.conn.now)
-      (omega (arith, c.loop-revision-test.true)) c.revision-item.is c.loop-revision.invariant.1 c.in_ok-bind.ensures.wrote c.in_ok-bind.ensures.live c.in_ok-bind.ensures.kept c.bind.ensures.survives,
+      (omega (arith, c.loop-revision-test.true)) c.revision-item.is c.loop-revision.invariant.1 c.in_ok-bind.ensures.wrote c.in_ok-bind.ensures.writes.live c.in_ok-bind.ensures.writes.kept c.bind.ensures.writes.survives,
 )

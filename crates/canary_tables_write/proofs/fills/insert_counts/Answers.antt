@@ -11,8 +11,8 @@ pub loop-row-preserved : goal.loop-row-preserved
 loop-row-preserved g c = (
   search rules,
   row_more (λ (t : Tables). t.tallies) (λ rows t. record t { tallies = rows }) (λ t. refl) c.args.rows.now (λ all t. refl) (λ a b t. refl) c.loop-row.row-index c.row-item.result (state g.S.Store c.args.tx.now.conn.now) (state g.S.Store c.loop-row.tx.conn.now) (state g.S.Store c.tally_row.new.tx.conn.now)
-      (omega (arith, c.loop-row-test.true)) c.row-item.is c.loop-row.invariant.1 c.in_ok-tally_row.ensures.wrote c.in_ok-tally_row.ensures.live c.in_ok-tally_row.ensures.kept c.tally_row.ensures.survives,
-  sound_more _ (state g.S.Store c.args.tx.now.conn.now) (state g.S.Store c.loop-row.tx.conn.now) (state g.S.Store c.tally_row.new.tx.conn.now) c.loop-row.invariant.1 c.loop-row.invariant.2 c.in_ok-tally_row.ensures.sound c.tally_row.ensures.survives,
+      (omega (arith, c.loop-row-test.true)) c.row-item.is c.loop-row.invariant.1 c.in_ok-tally_row.ensures.wrote c.in_ok-tally_row.ensures.writes.live c.in_ok-tally_row.ensures.writes.kept c.tally_row.ensures.writes.survives,
+  sound_more _ (state g.S.Store c.args.tx.now.conn.now) (state g.S.Store c.loop-row.tx.conn.now) (state g.S.Store c.tally_row.new.tx.conn.now) c.loop-row.invariant.1 c.loop-row.invariant.2 c.in_ok-tally_row.ensures.sound c.tally_row.ensures.writes.survives,
 )
 
 pub returns-clause-wrote : goal.returns-clause-wrote

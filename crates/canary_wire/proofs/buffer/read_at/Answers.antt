@@ -1,6 +1,6 @@
 use Rattle.std.proofs.Common.{◌≤◌, ◌++◌, length, take, drop, refl}
 use Rattle.std.proofs.lemmas.List.{length-take-le}
-use Rattle.canary_wire.proofs.WriteLemmas.{consumes_kept}
+use Rattle.canary_wire.proofs.ReadLemmas.{consumes_kept}
 use Rattle.canary_wire.proofs.BufferLemmas.{split_written}
 use Rattle.canary_wire.proofs.buffer.read_at.Goals as goal
 

@@ -1,9 +1,10 @@
 use Rattle.std.proofs.Common.{ℕ, List, sym, subst}
 use Rattle.std.specs.Prelude.{Result}
-use Rattle.canary_wire.specs.declared.reply.WriteFault.{WriteFault}
+use Rattle.canary_base.specs.declared.writing.WriteFault.{WriteFault}
 use Rattle.canary_wire.specs.Buffers.{bytes_held}
-use Rattle.canary_wire.specs.Writes.{Writes}
-use Rattle.canary_wire.specs.Dispositions.{desk_state, reply_bytes}
+use Rattle.canary_base.specs.Writes.{Writes}
+use Rattle.canary_once.specs.Messages.{desk_state}
+use Rattle.canary_wire.specs.Dispositions.{reply_bytes}
 use Rattle.canary_wire.specs.Serving.{Answers}
 use Rattle.canary_wire.proofs.ServeLemmas.{answers_none, answers_more, answers_last, answers_until}
 use Rattle.canary_wire.proofs.NextLemmas.{rejected_whole, rejected_short}

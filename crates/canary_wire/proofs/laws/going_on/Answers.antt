@@ -1,5 +1,5 @@
-use Rattle.canary_wire.specs.Dispositions.{desk_state}
-use Rattle.canary_wire.proofs.ExchangeLemmas.{went_none, went_then, holds_of}
+use Rattle.canary_once.specs.Messages.{desk_state}
+use Rattle.canary_once.proofs.MessageLemmas.{went_none, went_then, holds_of}
 use Rattle.canary_wire.proofs.laws.going_on.Goals as goal
 
 pub returns-clause-none : goal.returns-clause-none

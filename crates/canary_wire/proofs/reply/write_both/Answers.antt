@@ -1,9 +1,9 @@
 use Rattle.std.proofs.Common.{◌≡◌, ◌∙◌, ℕ, List, subst}
 use Rattle.std.specs.Prelude.{Err}
 use Rattle.std.specs.Io.KnownBytes.{Appends}
-use Rattle.canary_wire.specs.declared.reply.WriteFault.{WriteFault}
-use Rattle.canary_wire.specs.Writes.{Writes}
-use Rattle.canary_wire.proofs.WriteLemmas.{writes_then, writes_front, writes_all}
+use Rattle.canary_base.specs.declared.writing.WriteFault.{WriteFault}
+use Rattle.canary_base.specs.Writes.{Writes}
+use Rattle.canary_base.proofs.WriteLemmas.{writes_then, writes_front, writes_all}
 use Rattle.canary_wire.proofs.reply.write_both.Goals as goal
 
 pub returns-in-Err : goal.returns-in-Err

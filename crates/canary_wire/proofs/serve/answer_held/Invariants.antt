@@ -1,6 +1,6 @@
 use Rattle.std.proofs.Common.{length}
 use Rattle.canary_wire.specs.Buffers.{bytes_held}
-use Rattle.canary_wire.specs.Dispositions.{desk_state}
+use Rattle.canary_once.specs.Messages.{desk_state}
 use Rattle.canary_wire.specs.Serving.{Answers}
 use Rattle.canary_wire.proofs.serve.answer_held.Given as goal
 

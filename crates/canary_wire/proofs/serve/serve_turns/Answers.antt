@@ -2,7 +2,7 @@ use Rattle.std.proofs.Common.{◌<◌, sym, ap, ◌∙◌, subst, length, arith}
 use Rattle.std.specs.Prelude.{Ok}
 use Rattle.canary_wire.specs.declared.serve.Ended.{Ended}
 use Rattle.canary_wire.specs.Buffers.{bytes_held}
-use Rattle.canary_wire.specs.Dispositions.{desk_state}
+use Rattle.canary_once.specs.Messages.{desk_state}
 use Rattle.canary_wire.specs.Serving.{ServesTo, end_of}
 use Rattle.canary_wire.proofs.ServeLemmas.{so_far_none, so_far_more, so_far_all, so_far_until, so_far_open, so_far_spent, so_far_end}
 use Rattle.canary_wire.proofs.serve.serve_turns.Goals as goal

@@ -1,5 +1,5 @@
 use Rattle.canary_wire.specs.Buffers.{bytes_held}
-use Rattle.canary_wire.specs.Dispositions.{desk_state}
+use Rattle.canary_once.specs.Messages.{desk_state}
 use Rattle.canary_wire.specs.Serving.{IsSoFar}
 use Rattle.canary_wire.proofs.serve.serve_turns.Given as goal
 

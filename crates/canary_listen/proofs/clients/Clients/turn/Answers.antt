@@ -1,5 +1,5 @@
 use Rattle.std.proofs.Common.{sym, ap, ◌∙◌}
-use Rattle.canary_wire.specs.Dispositions.{desk_state}
+use Rattle.canary_once.specs.Messages.{desk_state}
 use Rattle.canary_listen.specs.Attending.{attendance}
 use Rattle.canary_listen.specs.Crowd.{client_talk}
 use Rattle.canary_listen.specs.Sums.{in_place_of}

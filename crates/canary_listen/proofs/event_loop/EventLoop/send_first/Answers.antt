@@ -1,4 +1,4 @@
-use Rattle.canary_wire.specs.Dispositions.{desk_state}
+use Rattle.canary_once.specs.Messages.{desk_state}
 use Rattle.canary_listen.specs.Crowd.{clients_attendance}
 use Rattle.canary_listen.proofs.Attended.{attends_kept}
 use Rattle.canary_listen.proofs.event_loop.EventLoop.send_first.Goals as goal

@@ -1,5 +1,5 @@
 use Rattle.std.proofs.Common.{arith}
-use Rattle.canary_wire.specs.Dispositions.{desk_state}
+use Rattle.canary_once.specs.Messages.{desk_state}
 use Rattle.canary_listen.specs.Crowd.{clients_attendance}
 use Rattle.canary_listen.proofs.Attended.{attends_kept, attends_then}
 use Rattle.canary_listen.proofs.event_loop.EventLoop.send_held.Goals as goal

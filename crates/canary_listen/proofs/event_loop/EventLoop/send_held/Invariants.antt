@@ -1,6 +1,6 @@
 use Rattle.std.proofs.Common.{◌≡◌, ◌+◌}
 use Rattle.std.specs.VecDeque.{deque_len}
-use Rattle.canary_wire.specs.Dispositions.{desk_state}
+use Rattle.canary_once.specs.Messages.{desk_state}
 use Rattle.canary_listen.specs.Attending.{Attends}
 use Rattle.canary_listen.specs.Crowd.{clients_attendance}
 use Rattle.canary_listen.proofs.event_loop.EventLoop.send_held.Given as goal

@@ -1,5 +1,5 @@
 use Rattle.std.proofs.Common.{◌∙◌, sym}
-use Rattle.canary_wire.specs.Dispositions.{desk_state}
+use Rattle.canary_once.specs.Messages.{desk_state}
 use Rattle.canary_listen.specs.Crowd.{attendance_of}
 use Rattle.canary_listen.proofs.Attended.{attends_kept, attends_none, attends_then, keeps_same, went_unchanged}
 use Rattle.canary_listen.proofs.listener.Listener.round.Goals as goal

@@ -1,4 +1,4 @@
-use Rattle.canary_wire.specs.Dispositions.{desk_state}
+use Rattle.canary_once.specs.Messages.{desk_state}
 use Rattle.canary_listen.specs.Crowd.{attendance_of}
 use Rattle.canary_listen.proofs.Attended.{attends_kept, attends_then, serves_all}
 use Rattle.canary_listen.proofs.listener.Listener.serve.Goals as goal

@@ -1,7 +1,7 @@
 use Rattle.std.proofs.Common.{ap, ◌∙◌}
 use Rattle.std.proofs.lemmas.Result.{IfOk-weaker}
 use Rattle.canary_release.specs.Evolutions.{Evolution}
-use Rattle.canary_release.specs.Passing.{pass}
+use Rattle.canary_release.specs.Rules.Passing.{pass}
 use Rattle.canary_release.specs.Parts.{is_broken}
 use Rattle.canary_release.specs.Stored.{stored_after}
 use Rattle.canary_release.proofs.service.Service.passed_transition.Goals as goal

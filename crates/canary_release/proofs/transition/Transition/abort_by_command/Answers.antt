@@ -1,6 +1,6 @@
 use Rattle.std.proofs.Common.{◌∙◌}
 use Rattle.std.proofs.lemmas.Result.{IfOk-weaker}
-use Rattle.canary_release.specs.Entering.{abort}
+use Rattle.canary_release.specs.Rules.Entering.{abort}
 use Rattle.canary_release.proofs.transition.Transition.abort_by_command.Goals as goal
 
 pub returns-clause-aborted : goal.returns-clause-aborted

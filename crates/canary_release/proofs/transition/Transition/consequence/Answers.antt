@@ -1,5 +1,5 @@
 use Rattle.std.proofs.Common.{◌≡◌, sym, subst, IfOk}
-use Rattle.canary_release.specs.Reports.{consequence}
+use Rattle.canary_release.specs.Rules.Reports.{consequence}
 use Rattle.canary_release.specs.Stored.{evolution_of}
 use Rattle.canary_release.proofs.transition.Transition.consequence.Goals as goal
 

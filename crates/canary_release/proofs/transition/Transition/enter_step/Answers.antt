@@ -1,7 +1,7 @@
 use Rattle.std.proofs.Common.{◌∙◌}
 use Rattle.std.specs.Prelude.{slice_get}
 use Rattle.std.proofs.lemmas.Result.{IfOk-weaker}
-use Rattle.canary_release.specs.Entering.{show_step}
+use Rattle.canary_release.specs.Rules.Entering.{show_step}
 use Rattle.canary_release.proofs.transition.Transition.enter_step.Goals as goal
 
 pub returns-clause-entered : goal.returns-clause-entered

@@ -2,7 +2,7 @@ use Rattle.std.proofs.Common.{◌∙◌}
 use Rattle.std.proofs.lemmas.Result.{IfOk-weaker}
 use Rattle.canary_plan.specs.declared.line.LineEvent.TheVariants.{Promoted}
 use Rattle.canary_release.specs.Evolutions.{tell}
-use Rattle.canary_release.specs.Entering.{enter}
+use Rattle.canary_release.specs.Rules.Entering.{enter}
 use Rattle.canary_release.proofs.transition.Transition.promote.Goals as goal
 
 pub returns-clause-promoted : goal.returns-clause-promoted

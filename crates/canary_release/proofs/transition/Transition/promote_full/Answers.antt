@@ -1,6 +1,6 @@
 use Rattle.std.proofs.Common.{◌∙◌}
 use Rattle.std.proofs.lemmas.Result.{IfOk-weaker}
-use Rattle.canary_release.specs.Entering.{enter}
+use Rattle.canary_release.specs.Rules.Entering.{enter}
 use Rattle.canary_release.proofs.transition.Transition.promote_full.Goals as goal
 
 pub returns-clause-promoted : goal.returns-clause-promoted

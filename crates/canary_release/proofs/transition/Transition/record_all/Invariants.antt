@@ -1,8 +1,8 @@
 use Rattle.std.proofs.Common.{◌≡◌, drop}
 use Rattle.std.specs.Prelude.{true}
 use Rattle.canary_release.specs.Evolutions.{runs_now}
-use Rattle.canary_release.specs.Recording.{have_room}
-use Rattle.canary_release.specs.Reports.{record_all}
+use Rattle.canary_release.specs.Rules.Recording.{have_room}
+use Rattle.canary_release.specs.Rules.Reports.{record_all}
 use Rattle.canary_release.specs.Stored.{evolution_of, run_total}
 use Rattle.canary_release.proofs.transition.Transition.record_all.Given as goal
 

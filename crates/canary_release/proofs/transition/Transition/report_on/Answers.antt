@@ -5,7 +5,7 @@ use Rattle.canary_release.specs.declared.effect.Recorded.{Recorded}
 use Rattle.canary_release.specs.declared.reply.Reported.{Reported}
 use Rattle.canary_release.specs.declared.runs.OpenRun.{OpenRun}
 use Rattle.canary_release.specs.Evolutions.{Evolution, open_run_now}
-use Rattle.canary_release.specs.Reports.{brought, record_all, verdict_if, reported_on}
+use Rattle.canary_release.specs.Rules.Reports.{brought, record_all, verdict_if, reported_on}
 use Rattle.canary_release.specs.Stored.{evolution_of}
 use Rattle.canary_release.proofs.transition.Transition.report_on.Goals as goal
 

@@ -3,9 +3,9 @@ use Rattle.std.specs.FinMap.{get}
 use Rattle.std.proofs.lemmas.Result.{IfOk-weaker}
 use Rattle.canary_plan.specs.declared.line.LineEvent.TheVariants.{Retried}
 use Rattle.canary_release.specs.Evolutions.{tell}
-use Rattle.canary_release.specs.Commands.{begun}
+use Rattle.canary_release.specs.Rules.Commands.{begun}
 use Rattle.canary_release.specs.Stored.{evolution_of}
-use Rattle.canary_release.specs.Entering.{enter}
+use Rattle.canary_release.specs.Rules.Entering.{enter}
 use Rattle.canary_release.proofs.transition.Transition.retry.Goals as goal
 
 pub returns-clause-retried : goal.returns-clause-retried

@@ -21,19 +21,19 @@ pub invariant_of-result : goal.invariant_of-result
 invariant_of-result g c =
     record {
       autocommit = search rules;
-      desk = is_desk c.one_reading.ensures (state g.S.Store c.in-Ok.opened.0) (state g.S.Store c.validate_tables.new.conn) c.validate_tables.ensures.same c.in-Ok-validate_tables.ensures.believed;
+      desk = is_desk c.one_reading.ensures (state g.S.Store c.in-Ok.opened.0) (state g.S.Store c.validate_tables.new.conn) c.validate_tables.ensures.reads.same c.in-Ok-validate_tables.ensures.believed;
       noted = search rules;
       kept = λ usable. c.new.ensures.kept _;
     }
 
 pub returns-in-Ok-validate_tables-clause-adopted : goal.returns-in-Ok-validate_tables-clause-adopted
 returns-in-Ok-validate_tables-clause-adopted g c =
-    adopted c.one_reading.ensures (state g.S.Store c.args.conn) (state g.S.Store c.in-Ok.opened.0) (state g.S.Store c.validate_tables.new.conn) (search rules) c.validate_tables.ensures.same c.in-Ok-validate_tables.ensures.believed
+    adopted c.one_reading.ensures (state g.S.Store c.args.conn) (state g.S.Store c.in-Ok.opened.0) (state g.S.Store c.validate_tables.new.conn) (search rules) c.validate_tables.ensures.reads.same c.in-Ok-validate_tables.ensures.believed
 
 pub returns-in-Err-validate_tables-clause-broken : goal.returns-in-Err-validate_tables-clause-broken
 returns-in-Err-validate_tables-clause-broken g c =
-    λ is. broken_before (state g.S.Store c.args.conn) (state g.S.Store c.in-Ok.opened.0) (state g.S.Store c.validate_tables.new.conn) (search rules) c.validate_tables.ensures.same (λ usable. c.validate_tables.ensures.broken usable (search rules))
+    λ is. broken_before (state g.S.Store c.args.conn) (state g.S.Store c.in-Ok.opened.0) (state g.S.Store c.validate_tables.new.conn) (search rules) c.validate_tables.ensures.reads.same (λ usable. c.validate_tables.ensures.broken usable (search rules))
 
 pub returns-in-Err-validate_tables-clause-left : goal.returns-in-Err-validate_tables-clause-left
 returns-in-Err-validate_tables-clause-left g c =
-    left_as_it_was (state g.S.Store c.args.conn) (state g.S.Store c.in-Ok.opened.0) (state g.S.Store c.validate_tables.new.conn) (search rules) c.validate_tables.ensures.same
+    left_as_it_was (state g.S.Store c.args.conn) (state g.S.Store c.in-Ok.opened.0) (state g.S.Store c.validate_tables.new.conn) (search rules) c.validate_tables.ensures.reads.same

@@ -2,13 +2,13 @@ use Rattle.std.proofs.Common.{rules, subst}
 use Rattle.canary_once.specs.Records.{history_of}
 use Rattle.canary_once.specs.BookCalls.{Finds}
 use Rattle.canary_tables.specs.Desk.{book_state}
-use Rattle.canary_tables.proofs.Booked.{finds, still_book}
+use Rattle.canary_tables.proofs.Booked.{finds, book_keeps}
 use Rattle.canary_tables.proofs.book.TableBookBook.history.Goals as goal
 
 pub returns : goal.returns
 returns g c =
     subst (λ h. Finds (λ k. history_of k c.args.name.now) (book_state g.S.Store h) (book_state g.S.Store c.history.new.conn) c.map_err.result) c.self.view_is
-    (finds g.S.Store (λ k. history_of k c.args.name.now) c.self.inside.conn c.history.new.conn c.self.inside.notes c.self.inside.cache c.map_err.result c.self.invariant c.history.ensures.same (λ usable. search rules))
+    (finds g.S.Store (λ k. history_of k c.args.name.now) c.self.inside.conn c.history.new.conn c.self.inside.notes c.self.inside.cache c.map_err.result c.self.invariant c.history.ensures.reads.same (λ usable. search rules))
 
 pub invariant_of-self : goal.invariant_of-self
-invariant_of-self g c = still_book g.S.Store c.self.inside.conn c.history.new.conn c.self.inside.notes c.self.inside.cache c.self.invariant c.history.ensures.mode c.history.ensures.same
+invariant_of-self g c = book_keeps g.S.Store c.self.inside.conn c.history.new.conn c.self.inside.notes c.self.inside.cache c.history.new.kept c.self.invariant c.history.ensures.reads.mode c.history.ensures.reads.same c.history.ensures.kept

@@ -14,9 +14,9 @@ measurements-requires-clause-noted g c = λ usable.
 pub returns-in-Ok : goal.returns-in-Ok
 returns-in-Ok g c =
     subst (λ h. Finds (λ k. measurements_of k c.args.name.now c.args.from c.args.most) (book_state g.S.Store h) (book_state g.S.Store c.measurements.new.conn) (Ok c.in-Ok.page.recorded)) c.self.view_is
-    (finds g.S.Store (λ k. measurements_of k c.args.name.now c.args.from c.args.most) c.self.inside.conn c.measurements.new.conn c.self.inside.notes c.self.inside.cache (Ok c.in-Ok.page.recorded) c.self.invariant c.measurements.ensures.same (λ usable. search rules))
+    (finds g.S.Store (λ k. measurements_of k c.args.name.now c.args.from c.args.most) c.self.inside.conn c.measurements.new.conn c.self.inside.notes c.self.inside.cache (Ok c.in-Ok.page.recorded) c.self.invariant c.measurements.ensures.reads.same (λ usable. search rules))
 
 pub returns-in-Err : goal.returns-in-Err
 returns-in-Err g c =
     subst (λ h. Finds (λ k. measurements_of k c.args.name.now c.args.from c.args.most) (book_state g.S.Store h) (book_state g.S.Store c.measurements.new.conn) (Err c.book_fault.result)) c.self.view_is
-    (finds g.S.Store (λ k. measurements_of k c.args.name.now c.args.from c.args.most) c.self.inside.conn c.measurements.new.conn c.self.inside.notes c.self.inside.cache (Err c.book_fault.result) c.self.invariant c.measurements.ensures.same (λ usable. search rules))
+    (finds g.S.Store (λ k. measurements_of k c.args.name.now c.args.from c.args.most) c.self.inside.conn c.measurements.new.conn c.self.inside.notes c.self.inside.cache (Err c.book_fault.result) c.self.invariant c.measurements.ensures.reads.same (λ usable. search rules))

@@ -8,7 +8,7 @@ use Rattle.canary_tables.proofs.book.TableBookBook.settled.Goals as goal
 pub returns : goal.returns
 returns g c =
     subst (λ h. Finds (λ k. count_of k c.args.caller.now) (book_state g.S.Store h) (book_state g.S.Store c.count.new.conn) c.map_err.result) c.self.view_is
-    (finds g.S.Store (λ k. count_of k c.args.caller.now) c.self.inside.conn c.count.new.conn c.self.inside.notes c.self.inside.cache c.map_err.result c.self.invariant c.count.ensures.same (λ usable. search rules))
+    (finds g.S.Store (λ k. count_of k c.args.caller.now) c.self.inside.conn c.count.new.conn c.self.inside.notes c.self.inside.cache c.map_err.result c.self.invariant c.count.ensures.reads.same (λ usable. search rules))
 
 pub invariant_of-self : goal.invariant_of-self
-invariant_of-self g c = book_keeps g.S.Store c.self.inside.conn c.count.new.conn c.self.inside.notes c.self.inside.cache c.count.new.kept c.self.invariant c.count.ensures.mode c.count.ensures.same c.count.ensures.kept
+invariant_of-self g c = book_keeps g.S.Store c.self.inside.conn c.count.new.conn c.self.inside.notes c.self.inside.cache c.count.new.kept c.self.invariant c.count.ensures.reads.mode c.count.ensures.reads.same c.count.ensures.kept

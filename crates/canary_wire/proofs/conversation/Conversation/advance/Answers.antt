@@ -1,6 +1,6 @@
 use Rattle.std.proofs.Common.{sym, subst}
 use Rattle.canary_wire.specs.Talks.{talk_of}
-use Rattle.canary_wire.specs.Dispositions.{desk_state}
+use Rattle.canary_once.specs.Messages.{desk_state}
 use Rattle.canary_wire.specs.Conversing.{Talk, AnswersMore}
 use Rattle.canary_wire.proofs.OrderLemmas.{more_none}
 use Rattle.canary_wire.proofs.conversation.Conversation.advance.Goals as goal

@@ -1,6 +1,6 @@
 use Rattle.canary_wire.specs.Buffers.{bytes_held}
 use Rattle.canary_wire.specs.Unsent.{bytes_unsent}
-use Rattle.canary_wire.specs.Dispositions.{desk_state}
+use Rattle.canary_once.specs.Messages.{desk_state}
 use Rattle.canary_wire.proofs.OrderLemmas.{more_on, stands_on, more_over, more_broken}
 use Rattle.canary_wire.proofs.conversation.Conversation.answer_first.Goals as goal
 

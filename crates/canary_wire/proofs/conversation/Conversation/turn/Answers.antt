@@ -1,6 +1,6 @@
 use Rattle.std.proofs.Common.{refl, sym, ◌∙◌}
 use Rattle.canary_wire.specs.Talks.{talk_of}
-use Rattle.canary_wire.specs.Dispositions.{desk_state}
+use Rattle.canary_once.specs.Messages.{desk_state}
 use Rattle.canary_wire.proofs.TurnLemmas.{turn_sent, turn_first, turn_read, turn_whole}
 use Rattle.canary_wire.proofs.conversation.Conversation.turn.Goals as goal
 

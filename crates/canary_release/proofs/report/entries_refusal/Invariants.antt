@@ -1,8 +1,0 @@
-use Rattle.std.proofs.Common.{◌≡◌, [], drop, take}
-use Rattle.canary_release.specs.Reports.{entries_refusal}
-use Rattle.canary_release.proofs.report.entries_refusal.Given as goal
-
--- the entries so far are not refused
-abbrev pub invariant-loop-index : goal.invariant-loop-index
-invariant-loop-index l =
-    entries_refusal l.metrics l.run l.now (take l.index l.entries) (drop l.index l.entries) ≡ entries_refusal l.metrics l.run l.now [] l.entries

@@ -1,7 +1,0 @@
-use Rattle.std.proofs.Common.{◌≡◌, filter, take}
-use Rattle.canary_tables_adopt.specs.Pages.{is_numbered}
-use Rattle.canary_tables_adopt.proofs.pages.runs_of.Given as goal
-
--- those of the rows so far
-abbrev pub invariant-loop-row : goal.invariant-loop-row
-invariant-loop-row l = l.found ≡ filter (is_numbered l.number) (take l.row-index l.rows)

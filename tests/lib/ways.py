@@ -1,0 +1,15 @@
+"""The table of docs/CHANGING.md on the way of a Promote: a row for each function, with its file."""
+import re
+
+PAGE = "docs/CHANGING.md"
+TITLE = "## The way of a Promote\n"
+ROW = re.compile(r"\| (canary_\w+): (\w+\.rt) \| `([\w:]+)` \|")
+
+
+def rows_of(root):
+    """The rows of the table, each as its line, a crate, the end of a file's path, a function."""
+    front, _, rest = (root / PAGE).read_text(encoding="utf-8").partition(TITLE)
+    begin = front.count("\n") + 2
+    for number, line in enumerate(rest.split("\n## ")[0].split("\n"), begin):
+        if line.startswith("| canary_"):
+            yield number, *ROW.match(line).groups()

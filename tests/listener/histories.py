@@ -1,0 +1,247 @@
+"""Clients that ask for long histories beside others: histories.py PART PORT DESK, with the desk's
+process. The desk answers one history after each round of what is asked else, in the order in which
+they came. The clients begin while the desk stands still, so that it finds all of them at once.
+Prints what is wrong, and ends with status 1 then."""
+import os
+import selectors
+import signal
+import socket
+import struct
+import subprocess
+import sys
+import time
+
+STEPS = ",".join(f'{{"setWeight":{it}}}' for it in range(1, 61))
+SERVICE = ('{"service":{"version":"v0","manifest":{"metadata":{"name":"web"},"spec":{"strategy":'
+           '{"canary":{"steps":[' + STEPS + ',{"pause":{}}]}}}}}}')
+HISTORY = b"GET /services/web/history HTTP/1.1\r\n\r\n"
+SECONDS = 25
+CLIENTS = 30
+# How long it takes to answer a history at least, and how many releases it has at most.
+LONG = 0.03
+MOST = 400
+# How many histories may come while one message is waited for.
+BESIDE = 3
+# The bytes of a history that a client which reads nothing does not take, and the seconds of a
+# processor that a desk which waits for two seconds takes at most.
+LARGE = 400_000
+RESTING = 0.5
+
+
+def put(caller, number, command):
+    """A request of this caller."""
+    head = f"PUT /callers/{caller}/requests/{number} HTTP/1.1\r\nContent-Length: {len(command)}"
+    return f"{head}\r\n\r\n{command}".encode()
+
+
+TICK = '{"tick":{"service":"web"}}'
+
+
+class Client:
+    """A connection, and what came on it. A reply's length is in its head."""
+
+    def __init__(self, port):
+        self.socket = self.connected(("127.0.0.1", port))
+        self.got = b""
+
+    def connected(self, address):
+        return socket.create_connection(address, SECONDS)
+
+    def begin(self, sent):
+        self.socket.sendall(sent)
+
+    def is_answered(self):
+        """Whether a whole reply has come; it reads what is there, or waits for something."""
+        some = self.socket.recv(1 << 20)
+        if not some:
+            sys.exit("a connection ended without its reply")
+        self.got += some
+        head, found, body = self.got.partition(b"\r\n\r\n")
+        length = [it for it in head.split(b"\r\n") if it.startswith(b"Content-Length: ")]
+        return bool(found) and len(body) >= int(length[0].split()[1])
+
+    def ask(self, sent):
+        """Sends something, and reads its reply, whose status it gives."""
+        self.got = b""
+        self.begin(sent)
+        while not self.is_answered():
+            pass
+        return self.got.split(b" ")[1]
+
+    def release(self, number):
+        """A release of the service from its begin to its end, by these requests."""
+        start = '{"start":{"service":"web","version":"v%d"}}' % number
+        for at, command in enumerate((start, '{"promote":{"service":"web"}}')):
+            if self.ask(put("ops", 2 * number + at, command)) != b"200":
+                sys.exit(f"release {number}: {self.got}")
+
+    def reset(self):
+        """Ends the connection in both directions."""
+        self.socket.setsockopt(socket.SOL_SOCKET, socket.SO_LINGER, struct.pack("ii", 1, 0))
+        self.socket.close()
+
+
+class Deaf(Client):
+    """One whose system takes little before it reads."""
+
+    def connected(self, address):
+        made = socket.socket()
+        made.setsockopt(socket.SOL_SOCKET, socket.SO_RCVBUF, 4096)
+        made.settimeout(SECONDS)
+        made.connect(address)
+        return made
+
+
+def make_history(port, seconds, length):
+    """A service with a history of which a reply takes so many seconds and bytes, or with as many
+    releases as it has at most. Gives the seconds."""
+    client, number, spent = Client(port), 0, 0.0
+    if client.ask(put("ops", 1, SERVICE)) != b"200":
+        sys.exit(f"no service: {client.got}")
+    while (spent < seconds or len(client.got) < length) and number < MOST:
+        number += 1
+        client.release(number)
+        if number % 5 == 0:
+            begun = time.monotonic()
+            client.ask(HISTORY)
+            spent = time.monotonic() - begun
+    return spent
+
+
+class Crowd:
+    """Clients of which each has asked for a history, by their numbers, and who was answered."""
+
+    def __init__(self, port, desk, first=Client):
+        self.clients = [first(port)] + [Client(port) for _ in range(CLIENTS - 1)]
+        for client in self.clients:
+            # The desk has accepted it.
+            client.ask(b"GET /services/nobody HTTP/1.1\r\n\r\n")
+            client.got = b""
+        self.answered = []
+        self.ready = selectors.DefaultSelector()
+        for number, client in enumerate(self.clients):
+            self.ready.register(client.socket, selectors.EVENT_READ, number)
+        os.kill(desk, signal.SIGSTOP)
+        time.sleep(0.2)
+        for client in self.clients:
+            client.begin(HISTORY)
+            time.sleep(0.002)
+
+    def look(self, seconds=0):
+        """Notes the replies that have come, or that come within so many seconds if none has."""
+        came = []
+        for key, _ in self.ready.select(seconds):
+            if self.clients[key.data].is_answered():
+                came.append(key.data)
+                self.ready.unregister(key.fileobj)
+        self.answered += sorted(came)
+        return came
+
+    def leave(self, number):
+        """A client goes while it waits."""
+        self.ready.unregister(self.clients[number].socket)
+        self.clients[number].reset()
+
+    def want_rest(self, gone=()):
+        """All others are answered, in the order in which they asked."""
+        wanted = [it for it in range(CLIENTS) if it not in gone]
+        until = time.monotonic() + SECONDS
+        while len(self.answered) < len(wanted):
+            self.look(1)
+            if time.monotonic() > until:
+                sys.exit(f"late: {len(self.answered)} of {len(wanted)} histories came")
+        if self.answered != wanted:
+            sys.exit(f"histories came in the order {self.answered}")
+
+
+def try_ticks(port, desk, _):
+    """One that ticks waits for a history or two, each time."""
+    other = Client(port)
+    other.ask(put("tick", 1, TICK))
+    crowd = Crowd(port, desk)
+    number, waited = 1, []
+    while number < 10:
+        number += 1
+        other.got = b""
+        before = len(crowd.answered)
+        other.begin(put("tick", number, TICK))
+        os.kill(desk, signal.SIGCONT)
+        while not other.is_answered():
+            pass
+        crowd.look()
+        waited.append(len(crowd.answered) - before)
+    if len(crowd.answered) == CLIENTS:
+        sys.exit("late: all histories came before ten ticks were answered")
+    # If this process waits for a processor, more come meanwhile.
+    if sorted(waited)[-3] > BESIDE:
+        sys.exit(f"late: so many histories came before each tick: {waited}")
+    crowd.want_rest()
+
+
+def try_order(port, desk, _):
+    """Histories are answered in the order in which they were asked for."""
+    crowd = Crowd(port, desk)
+    os.kill(desk, signal.SIGCONT)
+    crowd.want_rest()
+
+
+def try_gone(port, desk, seconds):
+    """Those that reset their connections while they wait take no time from the others."""
+    crowd = Crowd(port, desk)
+    os.kill(desk, signal.SIGCONT)
+    while not crowd.look(1):
+        pass
+    gone = range(5, CLIENTS - 1)
+    for number in gone:
+        crowd.leave(number)
+    begun = time.monotonic()
+    crowd.want_rest(gone)
+    spent = time.monotonic() - begun
+    if spent > CLIENTS / 2 * seconds:
+        sys.exit(f"late: the others were answered after {spent:.3f} s, one takes {seconds:.3f} s")
+
+
+def try_killed(port, desk, _):
+    """A process whose clients wait is killed, and the others are answered."""
+    crowd = Crowd(port, desk)
+    words = [sys.executable, __file__, "held", str(port), str(desk)]
+    with subprocess.Popen(words, stdout=subprocess.PIPE) as held:
+        held.stdout.readline()
+        os.kill(desk, signal.SIGCONT)
+        while not crowd.look(1):
+            pass
+        held.kill()
+    crowd.want_rest()
+
+
+def hold(port):
+    """Clients that ask for a history each and read nothing, until this process is killed."""
+    clients = [Client(port) for _ in range(10)]
+    for client in clients:
+        client.begin(HISTORY)
+    print("asked", flush=True)
+    time.sleep(SECONDS)
+
+
+PARTS = {
+    "ticks": (try_ticks, LONG, 0),
+    "order": (try_order, LONG, 0),
+    "gone": (try_gone, LONG, 0),
+    "killed": (try_killed, LONG, 0),
+}
+
+
+def main():
+    part, port, desk = sys.argv[1], int(sys.argv[2]), int(sys.argv[3])
+    try:
+        if part == "held":
+            hold(port)
+        else:
+            attempt, seconds, length = PARTS[part]
+            attempt(port, desk, make_history(port, seconds, length))
+    except TimeoutError:
+        sys.exit(f"late: no reply in {SECONDS} seconds")
+
+
+if __name__ == "__main__":
+    main()
