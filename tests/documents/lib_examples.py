@@ -6,10 +6,10 @@ their indentation, these lines stand in that file one after another."""
 import itertools
 import re
 
-# The crates of tests, that of figures, and the program: no caller rests on them. Nor does any rest on
+# The crates of tests and the program: no caller rests on them. Nor does any rest on
 # the laws over all senders, or on those over all books over tables.
 NO_LIBRARIES = {
-    "canary_desk", "canary_client_laws", "canary_tables_laws", "canary_test_once", "canary_tools",
+    "canary_desk", "canary_client_laws", "canary_tables_laws", "canary_test_once", "canary_test_yaml",
 }
 EXAMPLE = re.compile(r"^In use \((\w+), (\S+)\):\n\n((?:    .*\n)+)", re.MULTILINE)
 CODE = re.compile(r"^    ", re.MULTILINE)
@@ -34,7 +34,7 @@ def stands(code, source):
 def fault_of(crates, crate, name, file, code):
     """What is wrong with an example of the crate, from that file of the crate of that name."""
     source = crates / name / file
-    if name == crate or name == "canary_tools":
+    if name == crate or name == "canary_test_yaml":
         return f"an example from {name} does not show that it runs"
     if not source.is_file():
         return f"there is no {name}/{file}"

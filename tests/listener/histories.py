@@ -3,12 +3,14 @@ process. The desk answers one history after each round of what is asked else, in
 they came. The clients begin while the desk stands still, so that it finds all of them at once.
 Prints what is wrong, and ends with status 1 then."""
 import os
+import re
 import selectors
 import signal
 import socket
 import struct
 import subprocess
 import sys
+import tempfile
 import time
 
 STEPS = ",".join(f'{{"setWeight":{it}}}' for it in range(1, 61))
@@ -134,7 +136,7 @@ class Crowd:
             if self.clients[key.data].is_answered():
                 came.append(key.data)
                 self.ready.unregister(key.fileobj)
-        self.answered += sorted(came)
+        self.answered += came
         return came
 
     def leave(self, number):
@@ -143,15 +145,15 @@ class Crowd:
         self.clients[number].reset()
 
     def want_rest(self, gone=()):
-        """All others are answered, in the order in which they asked."""
+        """All others are answered, each once."""
         wanted = [it for it in range(CLIENTS) if it not in gone]
         until = time.monotonic() + SECONDS
         while len(self.answered) < len(wanted):
             self.look(1)
             if time.monotonic() > until:
                 sys.exit(f"late: {len(self.answered)} of {len(wanted)} histories came")
-        if self.answered != wanted:
-            sys.exit(f"histories came in the order {self.answered}")
+        if sorted(self.answered) != wanted:
+            sys.exit(f"histories came to {self.answered}")
 
 
 def try_ticks(port, desk, _):
@@ -178,11 +180,37 @@ def try_ticks(port, desk, _):
     crowd.want_rest()
 
 
+class Tracer:
+    """The writes of a process, as strace sees them."""
+
+    def __init__(self, process):
+        with tempfile.NamedTemporaryFile(delete=False) as calls:
+            self.calls = calls.name
+        words = ["strace", "-f", "-o", self.calls, "-e", "trace=write,sendto", "-p", str(process)]
+        self.strace = subprocess.Popen(words, stderr=subprocess.PIPE)
+        if b"attached" not in self.strace.stderr.readline():
+            sys.exit("strace does not attach to the desk")
+
+    def heads(self):
+        """The descriptors on which a reply's head was written, in this order, until now."""
+        self.strace.send_signal(signal.SIGINT)
+        self.strace.communicate()
+        with open(self.calls, encoding="utf-8", errors="replace") as calls:
+            found = re.findall(r'^\d+ +(?:write|sendto)\((\d+), "HTTP/1\.1 200', calls.read(), re.M)
+        os.unlink(self.calls)
+        return [int(it) for it in found]
+
+
 def try_order(port, desk, _):
-    """Histories are answered in the order in which they were asked for."""
+    """Histories are answered in the order in which they were asked for. Each client was accepted
+    after the one before it, so its descriptor in the desk is a higher one."""
     crowd = Crowd(port, desk)
+    tracer = Tracer(desk)
     os.kill(desk, signal.SIGCONT)
     crowd.want_rest()
+    heads = tracer.heads()
+    if len(heads) != CLIENTS or heads != sorted(set(heads)):
+        sys.exit(f"histories were written to the descriptors {heads}, in this order")
 
 
 def try_gone(port, desk, seconds):

@@ -305,8 +305,8 @@ impl Cache {
         });
     }
 
-    /// Keeps a copy of the history of a service that was read, if there is memory for it. Nothing is
-    /// kept under its name yet.
+    /// Keeps a copy of the history of a service that was read, if there is memory for it. Nothing
+    /// is kept under its name yet.
     pub(crate) fn keep_history(&mut self, alloc: Global, name: Name, history: &Listed<Line>)
         requires { map.get self.old.histories name ≡ None }
         ensures counts { self.new.counts ≡ self.old.counts }
@@ -336,8 +336,8 @@ impl Cache {
         }
     }
 
-    // Adds the lines that these effects tell to the history under that name, if it is kept. If there
-    // is no memory or no room for them, the history is forgotten.
+    // Adds the lines that these effects tell to the history under that name, if it is kept. If
+    // there is no memory or no room for them, the history is forgotten.
     fn add_lines(&mut self, name: Name, effects: &[Effect])
         ensures counts { self.new.counts ≡ self.old.counts }
         ensures services { self.new.services ≡ self.old.services }

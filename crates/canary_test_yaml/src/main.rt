@@ -8,7 +8,9 @@
 //! - of `[TEXT, LINE, STEP..]`: as `LINE:COLUMN` where that part of the document of that line
 //!   stands; a step is a key, or a place of a sequence
 //!
-//! What is not read is a line of `!` and why.
+//! What is not read is a line of `!` and why. The exit status is 1 if memory, the input or the output
+//! fails.
+#![tactic(auto)]
 
 use canary_yaml::fault::YamlFault;
 use canary_yaml::places::{PathStep, Place, place_of};
@@ -16,9 +18,18 @@ use canary_yaml::read::{Document, json_of, read_documents, read_json_or_yaml, re
 use serde_json::Value;
 use std::alloc::Global;
 use std::io::{self, BufRead, BufReader};
+use std::process::ExitCode;
 
-/// Answers each line of standard input.
-pub fn answer_all(rt: &HostRuntime) -> io::Result<()> {
+// Answers each line of standard input.
+fn main(rt: HostRuntime) -> ExitCode {
+    match answer_all(&rt) {
+        Ok(()) => ExitCode::SUCCESS,
+        Err(_) => ExitCode::FAILURE,
+    }
+}
+
+// Answers each line of standard input.
+fn answer_all(rt: &HostRuntime) -> io::Result<()> {
     for line in BufReader::new(rt.alloc(), rt.reader())?.lines(rt.alloc()) {
         let answer = answer_to(rt.alloc(), line?.as_str())?;
         println!(rt; "{answer}")?;
