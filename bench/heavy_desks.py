@@ -121,6 +121,12 @@ class Desk:
         self.rest(2)
         return processor_of(self.process.pid)
 
+    def peak(self):
+        """The MiB that it has had at most."""
+        with open(f"/proc/{self.process.pid}/status", encoding="utf-8") as status:
+            high = next(line for line in status if line.startswith("VmHWM"))
+        return int(high.split()[1]) / 1024
+
     def serves_many(self):
         """Whether it answers one client while another one is connected."""
         with Client(self.port), Client(self.port, PROBE) as second:
