@@ -17,6 +17,8 @@ from story_words import Wrong, command, expect, put
 CALLERS, EACH, SERVICES = 20, 3, 20
 # A log of so many bytes, none of which is a frame, so that there are megabytes to be judged.
 LOG, MEGABYTE = 4_900_000, 1_000_000
+# The same of a large file, of which the first line comes before the clock goes on, and its megabytes.
+LARGE_LOG, LARGE = 17_900_000, ("MB judged", 18)
 # The milliseconds before a line that is the first, or comes behind another one.
 BETWEEN = 1_000
 # The milliseconds from one reading of the clock to the next: rows are judged in 41 parts, and of a
@@ -100,10 +102,14 @@ class Case:
             return [(int(stream), int(moment), text)
                     for stream, moment, text in WRITTEN.findall(written.read())]
 
-    def check(self, wanted, step):
+    def enlarge(self):
+        """Makes the log longer, so that the file is a large one."""
+        os.truncate(os.path.join(self.place, "desk.db-wal"), LARGE_LOG)
+
+    def check(self, wanted, step, first=BETWEEN):
         """The lines on standard error count these, one behind the other, and each comes as soon as
-        it may."""
-        parts, due = [], step + BETWEEN
+        it may, the first after so many milliseconds."""
+        parts, due = [], step + first
         for moment, text in [call[1:] for call in self.calls() if call[0] == 2]:
             line = LINE.fullmatch(text)
             if line is None or moment < due:
@@ -125,6 +131,16 @@ class Case:
         streams = [stream for stream, _, _ in self.calls()]
         if words[0] == "serve" and streams != sorted(streams, reverse=True):
             raise Wrong(f"{self.row}: a line comes when the desk listens")
+
+    def try_large(self, *words):
+        """The first line comes at once, and says that nothing is judged."""
+        self.enlarge()
+        self.run(words)
+        self.check((LARGE,), STEP, first=0)
+        moment, text = [call[1:] for call in self.calls() if call[0] == 2][0]
+        expect(f"{self.row}: its first line", text, "canary: 0 of 18 MB judged\n")
+        if moment > 2 * STEP:
+            raise Wrong(f"{self.row}: the first line comes at {moment}")
 
     def try_quick(self):
         """No line of what takes less than a second."""
@@ -165,6 +181,8 @@ def try_all(case):
     case("export").try_slow("export", *db, "--caller", "a", "s1")
     case("status").try_slow("status", *db)
     case("page").try_slow("page", *db, "out.html", wanted=(JUDGED, DRAWN))
+    case("a large desk").try_large(*SERVE)
+    case("status of a large desk").try_large("status", *db)
     case("a quick desk").try_quick()
     case("a closed standard error").try_closed()
     case("a full standard error").try_unread()

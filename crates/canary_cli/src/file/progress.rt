@@ -19,6 +19,9 @@ const PARTS: u64 = 1_000;
 // How many seconds pass before the first line where no terminal is, and between two of them.
 const LINE_SECONDS: u64 = 1;
 
+// The bytes of a file of which a line says at once that nothing is judged yet.
+const LARGE: u64 = 16 * MEGABYTE;
+
 // Erases the line in which the cursor stands.
 const ERASED: &str = "\r\x1b[K";
 
@@ -36,9 +39,10 @@ enum Unit {
 
 /// Shows how far a program has come. A terminal has one line, which is written anew as it goes, and
 /// erased where it is done. Elsewhere lines are written one below another: none in the first
-/// second, then at most one a second, and none that says the same as the one before it. Such a line
-/// waits for nobody who reads it: if it cannot be taken at once, it is left out. A fault of the
-/// stream, a clock that cannot be read, and memory that is refused for a line, are ignored.
+/// second, but for a large file, then at most one a second, and none that says the same as the one
+/// before it. Such a line waits for nobody who reads it: if it cannot be taken at once, it is left
+/// out. A fault of the stream, a clock that cannot be read, and memory that is refused for a line,
+/// are ignored.
 #[derive(Drop)]
 pub struct ProgressDisplay<'a, F: Write> {
     rt: &'a HostRuntime,
@@ -59,14 +63,22 @@ pub struct ProgressDisplay<'a, F: Write> {
 
 impl<'a, F: Write> ProgressDisplay<'a, F> {
     /// Shows how much of a file of so many bytes is judged, on `errors`, the standard error of the
-    /// process: as large a share of its bytes as is judged of its rows.
+    /// process: as large a share of its bytes as is judged of its rows. Of a large file it says at
+    /// once that nothing is judged yet: before the first row is, SQLite reads and checks all of it,
+    /// which takes a second for some 10 MB, and of which it says nothing.
     pub fn judging(
         rt: &'a HostRuntime,
         errors: &'a mut F,
         is_terminal: bool,
         bytes: u64,
     ) -> ProgressDisplay<'a, F> {
-        ProgressDisplay::of(rt, errors, is_terminal, Unit::Rows { bytes }, None)
+        let unit = Unit::Rows { bytes };
+        let mut shown = ProgressDisplay::of(rt, errors, is_terminal, unit, None);
+        if LARGE <= bytes {
+            shown.begin_whole(1);
+            shown.write_line();
+        }
+        shown
     }
 
     /// Shows how many bytes are read, of so many where that is known, on `errors`, the standard
@@ -116,7 +128,6 @@ impl<'a, F: Write> ProgressDisplay<'a, F> {
         self.done = 0;
         self.whole = Some(whole);
         self.next = 0;
-        self.told = None;
     }
 
     /// So much more is done.
@@ -138,9 +149,16 @@ impl<'a, F: Write> ProgressDisplay<'a, F> {
 
     // Draws the line of a terminal anew, or writes one below the others if that may be.
     fn show(&mut self) {
+        if self.is_terminal || self.is_due() {
+            self.write_line();
+        }
+    }
+
+    // Draws the line of a terminal anew, or writes one below the others, and notes which and when.
+    fn write_line(&mut self) {
         if self.is_terminal {
             self.draw();
-        } else if self.is_due() {
+        } else {
             self.tell();
             self.told = Some(self.number());
             self.pause = Pause::begun(self.rt, LINE_SECONDS);
