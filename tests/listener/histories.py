@@ -24,10 +24,6 @@ LONG = 0.03
 MOST = 400
 # How many histories may come while one message is waited for.
 BESIDE = 3
-# The bytes of a history that a client which reads nothing does not take, and the seconds of a
-# processor that a desk which waits for two seconds takes at most.
-LARGE = 400_000
-RESTING = 0.5
 
 
 def put(caller, number, command):
@@ -43,11 +39,8 @@ class Client:
     """A connection, and what came on it. A reply's length is in its head."""
 
     def __init__(self, port):
-        self.socket = self.connected(("127.0.0.1", port))
+        self.socket = socket.create_connection(("127.0.0.1", port), SECONDS)
         self.got = b""
-
-    def connected(self, address):
-        return socket.create_connection(address, SECONDS)
 
     def begin(self, sent):
         self.socket.sendall(sent)
@@ -83,24 +76,13 @@ class Client:
         self.socket.close()
 
 
-class Deaf(Client):
-    """One whose system takes little before it reads."""
-
-    def connected(self, address):
-        made = socket.socket()
-        made.setsockopt(socket.SOL_SOCKET, socket.SO_RCVBUF, 4096)
-        made.settimeout(SECONDS)
-        made.connect(address)
-        return made
-
-
-def make_history(port, seconds, length):
-    """A service with a history of which a reply takes so many seconds and bytes, or with as many
-    releases as it has at most. Gives the seconds."""
+def make_history(port):
+    """A service with a history of which a reply takes long, or with as many releases as it has at
+    most. Gives the seconds that it takes."""
     client, number, spent = Client(port), 0, 0.0
     if client.ask(put("ops", 1, SERVICE)) != b"200":
         sys.exit(f"no service: {client.got}")
-    while (spent < seconds or len(client.got) < length) and number < MOST:
+    while spent < LONG and number < MOST:
         number += 1
         client.release(number)
         if number % 5 == 0:
@@ -113,8 +95,8 @@ def make_history(port, seconds, length):
 class Crowd:
     """Clients of which each has asked for a history, by their numbers, and who was answered."""
 
-    def __init__(self, port, desk, first=Client):
-        self.clients = [first(port)] + [Client(port) for _ in range(CLIENTS - 1)]
+    def __init__(self, port, desk):
+        self.clients = [Client(port) for _ in range(CLIENTS)]
         for client in self.clients:
             # The desk has accepted it.
             client.ask(b"GET /services/nobody HTTP/1.1\r\n\r\n")
@@ -251,12 +233,7 @@ def hold(port):
     time.sleep(SECONDS)
 
 
-PARTS = {
-    "ticks": (try_ticks, LONG, 0),
-    "order": (try_order, LONG, 0),
-    "gone": (try_gone, LONG, 0),
-    "killed": (try_killed, LONG, 0),
-}
+PARTS = {"ticks": try_ticks, "order": try_order, "gone": try_gone, "killed": try_killed}
 
 
 def main():
@@ -265,8 +242,7 @@ def main():
         if part == "held":
             hold(port)
         else:
-            attempt, seconds, length = PARTS[part]
-            attempt(port, desk, make_history(port, seconds, length))
+            PARTS[part](port, desk, make_history(port))
     except TimeoutError:
         sys.exit(f"late: no reply in {SECONDS} seconds")
 
