@@ -36,10 +36,9 @@ pub(crate) fn bindings<Q: Reader>(
     requires ready { Q.IsReady conn.old }
     ensures reads { Reads Q.IsReady Q.place Q.below Q.shows conn.old conn.new }
     ensures found { FindsRows (λ t. all_bindings t.services t.runs)
-        (Q.shows conn.old) (Q.shows conn.new) result }
+        Q.shows conn.old conn.new result }
     ensures broken { BreaksUnless (λ t. AllByRecursion IsServiceWithin t.services
-        × AllByRecursion IsRunWithin t.runs)
-        (Q.shows conn.old) (Q.shows conn.new) result }
+        × AllByRecursion IsRunWithin t.runs) Q.shows conn.old conn.new result }
 {
     let names = lists::service_names(conn, alloc)?;
     bindings_of_all(conn, alloc, names.as_slice())
@@ -54,10 +53,9 @@ fn bindings_of_all<Q: Reader>(
     requires ready { Q.IsReady conn.old }
     ensures reads { Reads Q.IsReady Q.place Q.below Q.shows conn.old conn.new }
     ensures found { FindsRows (λ t. flat_map (bindings_named t.services t.runs) names.now)
-        (Q.shows conn.old) (Q.shows conn.new) result }
+        Q.shows conn.old conn.new result }
     ensures broken { BreaksUnless (λ t. AllByRecursion IsServiceWithin t.services
-        × AllByRecursion IsRunWithin t.runs)
-        (Q.shows conn.old) (Q.shows conn.new) result }
+        × AllByRecursion IsRunWithin t.runs) Q.shows conn.old conn.new result }
 {
     let mut found = Listed::of(Vec::new(alloc));
     for name in names {
@@ -85,10 +83,9 @@ fn bindings_of<Q: Reader>(
     requires ready { Q.IsReady conn.old }
     ensures reads { Reads Q.IsReady Q.place Q.below Q.shows conn.old conn.new }
     ensures found { FindsRows (λ t. bindings_named t.services t.runs name.now)
-        (Q.shows conn.old) (Q.shows conn.new) result }
+        Q.shows conn.old conn.new result }
     ensures broken { BreaksUnless (λ t. AllByRecursion IsServiceWithin t.services
-        × AllByRecursion IsRunWithin t.runs)
-        (Q.shows conn.old) (Q.shows conn.new) result }
+        × AllByRecursion IsRunWithin t.runs) Q.shows conn.old conn.new result }
 {
     let rows = services::service_rows(conn, alloc, name)?;
     match rows.as_slice().first() {
@@ -107,9 +104,9 @@ fn row_bindings<Q: Reader>(
     ensures reads { Reads Q.IsReady Q.place Q.below Q.shows conn.old conn.new }
     ensures found { FindsRows
         (λ t. bindings_made t.runs row.now (made_from (canonical_in row.now.spec)))
-        (Q.shows conn.old) (Q.shows conn.new) result }
+        Q.shows conn.old conn.new result }
     ensures broken { BreaksUnless (λ t. AllByRecursion IsRunWithin t.runs)
-        (Q.shows conn.old) (Q.shows conn.new) result }
+        Q.shows conn.old conn.new result }
 {
     match made_by(alloc, row.spec.as_str())? {
         Some(made) => {
@@ -143,9 +140,9 @@ fn with_runs<Q: Reader>(
     ensures reads { Reads Q.IsReady Q.place Q.below Q.shows conn.old conn.new }
     ensures found { FindsRows (λ t. attempt
         ++ bindings_of_runs t.runs row.now.name made.now row.now.standing.runs)
-        (Q.shows conn.old) (Q.shows conn.new) result }
+        Q.shows conn.old conn.new result }
     ensures broken { BreaksUnless (λ t. AllByRecursion IsRunWithin t.runs)
-        (Q.shows conn.old) (Q.shows conn.new) result }
+        Q.shows conn.old conn.new result }
 {
     let mut found = attempt;
     for place in 0..row.standing.runs {
@@ -167,9 +164,9 @@ fn bindings_of_run<Q: Reader>(
     ensures reads { Reads Q.IsReady Q.place Q.below Q.shows conn.old conn.new }
     ensures found { FindsRows
         (λ t. run_bindings made.now (first (filter (is_run name.now number) t.runs)))
-        (Q.shows conn.old) (Q.shows conn.new) result }
+        Q.shows conn.old conn.new result }
     ensures broken { BreaksUnless (λ t. AllByRecursion IsRunWithin t.runs)
-        (Q.shows conn.old) (Q.shows conn.new) result }
+        Q.shows conn.old conn.new result }
 {
     match runs::run(conn, name, number)? {
         Some(run) => Ok(named::bindings_at(alloc, &run, made)?),

@@ -31,10 +31,10 @@ pub(crate) fn with_passes<Q: Reader>(
     requires ready { Q.IsReady conn.old }
     ensures reads { Reads Q.IsReady Q.place Q.below Q.shows conn.old conn.new }
     ensures found { FindsRows (λ t. map (tally_of t.measurements) rows.now)
-        (Q.shows conn.old) (Q.shows conn.new) result }
+        Q.shows conn.old conn.new result }
     ensures broken { BreaksUnless (λ t. AllByRecursion IsMeasurementWithin t.measurements
         × AllByRecursion IsTallyWithin (map (tally_of t.measurements) rows.now))
-        (Q.shows conn.old) (Q.shows conn.new) result }
+        Q.shows conn.old conn.new result }
 {
     let mut found = Listed::of(Vec::new(alloc));
     for row in rows {
@@ -48,10 +48,9 @@ fn tally<Q: Reader>(conn: &mut Q, alloc: Global, row: &FirstTally) -> Result<Tal
     requires ready { Q.IsReady conn.old }
     ensures reads { Reads Q.IsReady Q.place Q.below Q.shows conn.old conn.new }
     ensures found { FindsRows (λ t. tally_of t.measurements row.now)
-        (Q.shows conn.old) (Q.shows conn.new) result }
+        Q.shows conn.old conn.new result }
     ensures broken { BreaksUnless (λ t. AllByRecursion IsMeasurementWithin t.measurements
-        × IsTallyWithin (tally_of t.measurements row.now))
-        (Q.shows conn.old) (Q.shows conn.new) result }
+        × IsTallyWithin (tally_of t.measurements row.now)) Q.shows conn.old conn.new result }
 {
     let measurements = metrics::measurements(conn, alloc, &row.service, row.run, row.metric)?;
     let passes = passes_in(measurements.as_slice())?;

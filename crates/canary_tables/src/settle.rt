@@ -42,7 +42,7 @@ fn has_rows<S: Alter>(
     ensures reads { Looks conn.new.in_transaction
         (state S.Store conn.old) (state S.Store conn.new) }
     ensures found { FindsSuch (λ t has. has ≡ has_bindings name.now t)
-        (state S.Store conn.old) (state S.Store conn.new) result }
+        (state S.Store) conn.old conn.new result }
 {
     schema_laws::one_reading();
     match cached {
@@ -74,7 +74,7 @@ fn has_attempt<S: Alter>(
         (state S.Store conn.old) (state S.Store conn.new) }
     ensures found { FindsSuch
         (λ t has. begins command.now ≡ true → has ≡ has_bindings name.now t)
-        (state S.Store conn.old) (state S.Store conn.new) result }
+        (state S.Store) conn.old conn.new result }
 {
     if begins(command) {
         has_rows(conn, alloc, name, cached)
@@ -97,7 +97,7 @@ fn is_bound<S: Alter>(
         (state S.Store conn.old) (state S.Store conn.new) }
     ensures found { FindsSuch
         (λ t is_bound. IsBoundSaid is_bound settlement.now.receipt.command settlement.now.change t)
-        (state S.Store conn.old) (state S.Store conn.new) result }
+        (state S.Store) conn.old conn.new result }
 {
     let command = &settlement.receipt.command;
     match &settlement.change {

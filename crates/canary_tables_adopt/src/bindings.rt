@@ -52,9 +52,8 @@ pub fn bound_templates<Q: Reader>(
     requires ready { Q.IsReady conn.old }
     ensures reads { Reads Q.IsReady Q.place Q.below Q.shows conn.old conn.new }
     ensures found { FindsSuch (λ t found. IsKnownIn service.now run t (option_map get found))
-        (Q.shows conn.old) (Q.shows conn.new) result }
-    ensures broken { BreaksUnless AreWithin (Q.shows conn.old) (Q.shows conn.new)
-        result }
+        Q.shows conn.old conn.new result }
+    ensures broken { BreaksUnless AreWithin Q.shows conn.old conn.new result }
 {
     let rows = services::bindings(conn, alloc, service, run)?;
     known_by(conn, alloc, rows.as_slice())
@@ -69,9 +68,8 @@ fn known_by<Q: Reader>(
     requires ready { Q.IsReady conn.old }
     ensures reads { Reads Q.IsReady Q.place Q.below Q.shows conn.old conn.new }
     ensures found { FindsSuch (λ t found. IsKnownBy rows.now t (option_map get found))
-        (Q.shows conn.old) (Q.shows conn.new) result }
-    ensures broken { BreaksUnless AreWithin (Q.shows conn.old) (Q.shows conn.new)
-        result }
+        Q.shows conn.old conn.new result }
+    ensures broken { BreaksUnless AreWithin Q.shows conn.old conn.new result }
 {
     let mut known = Templates::new(alloc);
     for row in rows {
@@ -98,10 +96,8 @@ pub(crate) fn template_of<Q: Reader>(
 ) -> Result<Option<Template>, ReadFault>
     requires ready { Q.IsReady conn.old }
     ensures reads { Reads Q.IsReady Q.place Q.below Q.shows conn.old conn.new }
-    ensures found { FindsSuch (IsTemplateOf row.now)
-        (Q.shows conn.old) (Q.shows conn.new) result }
-    ensures broken { BreaksUnless AreWithin (Q.shows conn.old) (Q.shows conn.new)
-        result }
+    ensures found { FindsSuch (IsTemplateOf row.now) Q.shows conn.old conn.new result }
+    ensures broken { BreaksUnless AreWithin Q.shows conn.old conn.new result }
 {
     let Some(found) = services::revision(conn, &row.template, row.revision)? else {
         return Ok(None);
@@ -135,7 +131,7 @@ pub(crate) fn attempt<Q: Reader>(
     requires ready { Q.IsReady conn.old }
     ensures reads { Reads Q.IsReady Q.place Q.below Q.shows conn.old conn.new }
     ensures found { FindsSuch (IsAttemptBound service.now strategy.now)
-        (Q.shows conn.old) (Q.shows conn.new) result }
+        Q.shows conn.old conn.new result }
     ensures broken { RefusesJudged (HasSuch (IsAttemptBound service.now strategy.now))
         (Q.shows conn.old) (Q.shows conn.new) result }
 {
@@ -159,7 +155,7 @@ fn bound<Q: Reader>(
     requires ready { Q.IsReady conn.old }
     ensures reads { Reads Q.IsReady Q.place Q.below Q.shows conn.old conn.new }
     ensures found { FindsSuch (IsBindingOf service.now 0 strategy.now)
-        (Q.shows conn.old) (Q.shows conn.new) result }
+        Q.shows conn.old conn.new result }
     ensures broken { RefusesJudged (IsBoundWhole service.now 0)
         (Q.shows conn.old) (Q.shows conn.new) result }
 {

@@ -6,6 +6,7 @@ pub mod Sorts
 pub mod Pages
 pub mod Readable
 pub mod Breaks
+pub mod Chosen
 pub mod Faults
 pub mod TreeRows
 pub mod Meta

@@ -1,14 +1,14 @@
 //! The measurements of a service in pages, of which each may begin where another one ended.
-ghost use Rattle.std.specs.Prelude.{◌≡◌, ◌≢◌, ◌<◌, ◌+◌, ℕ, ℤ, List, Some, Err, IfOk, IfSome, length};
+ghost use Rattle.std.specs.Prelude.{◌≡◌, ◌≢◌, ◌<◌, ◌+◌, ℕ, ℤ, List, Some, Err, IfOk, IfSome};
+ghost use Rattle.std.specs.Prelude.{length};
 ghost use Rattle.std.specs.Prelude.{take, drop, filter, int_lt};
-ghost use Rattle.std.specs.List.{AllByRecursion};
 ghost use Rattle.sqlite.specs.Effect.{Database};
 ghost use Rattle.sqlite.specs.Order.{column};
 ghost use Rattle.sqlite.specs.declared.types.Value.TheVariants.{Int};
 ghost use Rattle.canary_tables_rows.specs.Limits.{IsMeasurementWithin};
 ghost use Rattle.canary_tables_rows.specs.Tables.{Tables};
 ghost use Rattle.canary_tables_schema.specs.Stores.{IsUsable, Stores};
-ghost use Rattle.canary_tables_read.specs.Breaks.{BreaksUnless};
+ghost use Rattle.canary_tables_read.specs.Breaks.{BreaksUnless, MeasurementsWithin};
 ghost use Rattle.canary_tables_read.specs.Finds.{FindsRows};
 ghost use Rattle.canary_tables_read.specs.Places.{placed_for, IsMark, IsPlacedPage};
 ghost use Rattle.canary_tables_read.specs.Reader.{Reads};
@@ -97,8 +97,7 @@ pub fn measurements<Q: Reader>(
     ensures found { IsUsable (Q.shows conn.new) → (t : Tables) → Stores (Q.shows conn.old) t
         → IfSome place (IsMark (Q.shows conn.old).now service.now from)
         → IfOk result (IsPlacedPage (Q.shows conn.old).now t service.now from most) }
-    ensures broken { BreaksUnless (λ t. AllByRecursion IsMeasurementWithin t.measurements)
-        (Q.shows conn.old) (Q.shows conn.new) result }
+    ensures broken { BreaksUnless MeasurementsWithin Q.shows conn.old conn.new result }
 {
     match near_place(from, place, most) {
         Some(place) => after(conn, alloc, service, place, most),
@@ -144,9 +143,8 @@ fn from_index<Q: Reader>(
     ensures reads { Reads Q.IsReady Q.place Q.below Q.shows conn.old conn.new }
     ensures found { FindsRows
         (λ _. take most (drop from (placed_for service.now (Q.shows conn.old).now)))
-        (Q.shows conn.old) (Q.shows conn.new) result }
-    ensures broken { BreaksUnless (λ t. AllByRecursion IsMeasurementWithin t.measurements)
-        (Q.shows conn.old) (Q.shows conn.new) result }
+        Q.shows conn.old conn.new result }
+    ensures broken { BreaksUnless MeasurementsWithin Q.shows conn.old conn.new result }
 {
     let offset = offset_of(from)?;
     let rows = conn.ask(
@@ -171,9 +169,8 @@ fn after<Q: Reader>(
     ensures found { FindsRows
         (λ _. take most
         (filter (λ p. int_lt place p.place) (placed_for service.now (Q.shows conn.old).now)))
-        (Q.shows conn.old) (Q.shows conn.new) result }
-    ensures broken { BreaksUnless (λ t. AllByRecursion IsMeasurementWithin t.measurements)
-        (Q.shows conn.old) (Q.shows conn.new) result }
+        Q.shows conn.old conn.new result }
+    ensures broken { BreaksUnless MeasurementsWithin Q.shows conn.old conn.new result }
 {
     let rows = conn.ask(
         "SELECT run, metric, ordinal, taken, phase, outcome, place FROM measurement \

@@ -9,6 +9,7 @@ ghost use Rattle.canary_tables_read.specs.declared.first.FirstTally.{FirstTally 
 ghost use Rattle.canary_tables_read.specs.First.{IsFirst, AreTemplatesIn, AreTalliesIn};
 ghost use Rattle.canary_tables_read.specs.First.{IsTemplateWithin, IsFirstTallyWithin};
 ghost use Rattle.canary_tables_read.specs.Reader.{Reads};
+ghost use Rattle.canary_tables_read.specs.Breaks.{BreaksIfNone};
 
 use crate::columns;
 use crate::fault::ReadFault;
@@ -52,8 +53,7 @@ pub(crate) trait FromFirstRow: Drop {
     /// hold no such row.
     fn read(row: &Row) -> Result<Self, ReadFault>
         ensures found { IfOk result (λ read. cells read ≡ row.now) }
-        ensures broken { result ≡ Err ReadFault.Broken
-            → (read : Self) → cells read ≡ row.now → ¬ Within read }
+        ensures broken { BreaksIfNone result (λ read. cells read ≡ row.now) Within }
         ensures unasked { result ≢ Err ReadFault.Storage };
 }
 
@@ -102,8 +102,7 @@ impl FromFirstRow for FirstTally {
 // hold one of them.
 fn all<R: FromFirstRow>(alloc: Global, rows: &[Row]) -> Result<Listed<R>, ReadFault>
     ensures found { IfOk result (λ all. map R.cells all ≡ rows.now) }
-    ensures broken { result ≡ Err ReadFault.Broken → (all : List R)
-        → map R.cells all ≡ rows.now → ¬ AllByRecursion R.Within all }
+    ensures broken { BreaksIfNone result (λ all. map R.cells all ≡ rows.now) (AllByRecursion R.Within) }
     ensures unasked { result ≢ Err ReadFault.Storage }
 {
     let mut all = Listed::of(Vec::new(alloc));

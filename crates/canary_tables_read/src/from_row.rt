@@ -9,6 +9,7 @@ ghost use Rattle.canary_tables_rows.specs.declared.rows.TallyRow.{TallyRow as Of
 ghost use Rattle.canary_tables_rows.specs.Limits.{IsServiceWithin, IsTallyWithin};
 ghost use Rattle.canary_tables_schema.specs.Cells.{integer as number};
 ghost use Rattle.canary_tables_read.specs.Parts.{standing_cells, counts_cells};
+ghost use Rattle.canary_tables_read.specs.Breaks.{BreaksIfNone};
 
 use crate::columns;
 use crate::fault::ReadFault;
@@ -38,8 +39,7 @@ pub(crate) trait FromRow: Drop {
     /// a program can hold no such row.
     fn read(name: &Name, row: &Row) -> Result<Self, ReadFault>
         ensures found { IfOk result (λ read. cells read ≡ whole name.now row.now) }
-        ensures broken { result ≡ Err ReadFault.Broken
-            → (read : Self) → cells read ≡ whole name.now row.now → ¬ Within read }
+        ensures broken { BreaksIfNone result (λ read. cells read ≡ whole name.now row.now) Within }
         ensures unasked { result ≢ Err ReadFault.Storage };
 }
 
@@ -322,8 +322,8 @@ impl FromRow for HistoryRow {
 pub(crate) fn first<R: FromRow>(name: &Name, rows: &[Row]) -> Result<Option<R>, ReadFault>
     ensures found { IfOk result (λ found. option_map R.cells found
         ≡ option_map (R.whole name.now) (slice_get rows.now 0)) }
-    ensures broken { result ≡ Err ReadFault.Broken → (all : List R)
-        → map R.cells all ≡ map (R.whole name.now) rows.now → ¬ AllByRecursion R.Within all }
+    ensures broken { BreaksIfNone result (λ all. map R.cells all ≡ map (R.whole name.now) rows.now)
+        (AllByRecursion R.Within) }
     ensures unasked { result ≢ Err ReadFault.Storage }
 {
     match rows.first() {
@@ -340,8 +340,8 @@ pub(crate) fn all<R: FromRow>(
     rows: &[Row],
 ) -> Result<Listed<R>, ReadFault>
     ensures found { IfOk result (λ all. map R.cells all ≡ map (R.whole name.now) rows.now) }
-    ensures broken { result ≡ Err ReadFault.Broken → (all : List R)
-        → map R.cells all ≡ map (R.whole name.now) rows.now → ¬ AllByRecursion R.Within all }
+    ensures broken { BreaksIfNone result (λ all. map R.cells all ≡ map (R.whole name.now) rows.now)
+        (AllByRecursion R.Within) }
     ensures unasked { result ≢ Err ReadFault.Storage }
 {
     let mut all = Listed::of(Vec::new(alloc));

@@ -62,10 +62,9 @@ pub(crate) fn measured<Q: Reader>(
     requires ready { Q.IsReady conn.old }
     ensures reads { Reads Q.IsReady Q.place Q.below Q.shows conn.old conn.new }
     ensures found { FindsSuch (λ t count. AreMeasured name.now runs.now t
-        × (count ≡ length (measurements_of name.now t)))
-        (Q.shows conn.old) (Q.shows conn.new) result }
+        × (count ≡ length (measurements_of name.now t))) Q.shows conn.old conn.new result }
     ensures broken { RefusesUnless (AreMeasured name.now runs.now)
-        (Q.shows conn.old) (Q.shows conn.new) result }
+        Q.shows conn.old conn.new result }
 {
     let counts = none_counted(alloc, runs)?;
     let mut so_far = SoFar {
@@ -111,9 +110,9 @@ fn count_page<Q: Reader>(
     ensures reads { Reads Q.IsReady Q.place Q.below Q.shows conn.old conn.new }
     ensures noted { IfOk result (IsNoted (Q.shows conn.new) name.now) }
     ensures found { FindsSuch (IsPageCounted name.now runs.now 32768 so_far)
-        (Q.shows conn.old) (Q.shows conn.new) result }
+        Q.shows conn.old conn.new result }
     ensures broken { RefusesUnless (HasSuch (IsPageCounted name.now runs.now 32768 so_far))
-        (Q.shows conn.old) (Q.shows conn.new) result }
+        Q.shows conn.old conn.new result }
     ensures more { IfOk result (λ after. so_far.count ≤ after.count) }
 {
     let SoFar {

@@ -39,10 +39,8 @@ pub(crate) fn page_between<Q: Reader>(
 ) -> Result<RunPage, ReadFault>
     requires ready { Q.IsReady conn.old }
     ensures reads { Reads Q.IsReady Q.place Q.below Q.shows conn.old conn.new }
-    ensures found { FindsSuch (IsPageOf name.now after last)
-        (Q.shows conn.old) (Q.shows conn.new) result }
-    ensures broken { BreaksUnless AreWithin (Q.shows conn.old) (Q.shows conn.new)
-        result }
+    ensures found { FindsSuch (IsPageOf name.now after last) Q.shows conn.old conn.new result }
+    ensures broken { BreaksUnless AreWithin Q.shows conn.old conn.new result }
 {
     let runs = pages::runs(conn, alloc, name, after, last)?;
     let bindings = pages::bindings(conn, alloc, name, after, last)?;

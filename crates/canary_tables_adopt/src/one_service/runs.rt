@@ -70,7 +70,7 @@ pub(crate) fn runs<Q: Reader>(
     requires ready { Q.IsReady conn.old }
     ensures reads { Reads Q.IsReady Q.place Q.below Q.shows conn.old conn.new }
     ensures found { FindsSuch (AreRunsOf strategy.now name.now count)
-        (Q.shows conn.old) (Q.shows conn.new) result }
+        Q.shows conn.old conn.new result }
     ensures broken { RefusesJudged (HasSuch (AreRunsOf strategy.now name.now count))
         (Q.shows conn.old) (Q.shows conn.new) result }
 {

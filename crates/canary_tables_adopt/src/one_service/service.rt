@@ -128,8 +128,7 @@ fn judge_past<Q: Reader>(
     ensures reads { Reads Q.IsReady Q.place Q.below Q.shows conn.old conn.new }
     ensures judged { FindsSuch
         (λ t totals. IsPastJudged t row.now service
-        × (totals ≡ totals_bound t row.now service.bound))
-        (Q.shows conn.old) (Q.shows conn.new) result }
+        × (totals ≡ totals_bound t row.now service.bound)) Q.shows conn.old conn.new result }
     ensures refused { RefusesJudged (λ t. IsPastJudged t row.now service)
         (Q.shows conn.old) (Q.shows conn.new) result }
 {
