@@ -6,7 +6,7 @@ ghost use Rattle.canary_tables_rows.specs.Limits.{IsServiceWithin, IsRunWithin};
 ghost use Rattle.canary_tables_rows.specs.Tables.{is_run};
 ghost use Rattle.canary_tables_contents.specs.Values.{made_from};
 ghost use Rattle.canary_tables_read.specs.Breaks.{BreaksUnless};
-ghost use Rattle.canary_tables_read.specs.Finds.{FindsRows, first};
+ghost use Rattle.canary_tables_read.specs.Finds.{Gives, first};
 ghost use Rattle.canary_migrate.specs.Migrated.{all_bindings, bindings_named, bindings_made};
 ghost use Rattle.canary_migrate.specs.Migrated.{bindings_of_runs, run_bindings};
 ghost use Rattle.canary_tables_read.specs.Reader.{Reads};
@@ -35,7 +35,7 @@ pub(crate) fn bindings<Q: Reader>(
 ) -> Result<Listed<BindingRow>, ReadFault>
     requires ready { Q.IsReady conn.old }
     ensures reads { Reads Q.IsReady Q.place Q.below Q.shows conn.old conn.new }
-    ensures found { FindsRows (λ t. all_bindings t.services t.runs)
+    ensures found { Gives (λ t. all_bindings t.services t.runs)
         Q.shows conn.old conn.new result }
     ensures broken { BreaksUnless (λ t. AllByRecursion IsServiceWithin t.services
         × AllByRecursion IsRunWithin t.runs) Q.shows conn.old conn.new result }
@@ -52,7 +52,7 @@ fn bindings_of_all<Q: Reader>(
 ) -> Result<Listed<BindingRow>, ReadFault>
     requires ready { Q.IsReady conn.old }
     ensures reads { Reads Q.IsReady Q.place Q.below Q.shows conn.old conn.new }
-    ensures found { FindsRows (λ t. flat_map (bindings_named t.services t.runs) names.now)
+    ensures found { Gives (λ t. flat_map (bindings_named t.services t.runs) names.now)
         Q.shows conn.old conn.new result }
     ensures broken { BreaksUnless (λ t. AllByRecursion IsServiceWithin t.services
         × AllByRecursion IsRunWithin t.runs) Q.shows conn.old conn.new result }
@@ -82,7 +82,7 @@ fn bindings_of<Q: Reader>(
 ) -> Result<Listed<BindingRow>, ReadFault>
     requires ready { Q.IsReady conn.old }
     ensures reads { Reads Q.IsReady Q.place Q.below Q.shows conn.old conn.new }
-    ensures found { FindsRows (λ t. bindings_named t.services t.runs name.now)
+    ensures found { Gives (λ t. bindings_named t.services t.runs name.now)
         Q.shows conn.old conn.new result }
     ensures broken { BreaksUnless (λ t. AllByRecursion IsServiceWithin t.services
         × AllByRecursion IsRunWithin t.runs) Q.shows conn.old conn.new result }
@@ -102,7 +102,7 @@ fn row_bindings<Q: Reader>(
 ) -> Result<Listed<BindingRow>, ReadFault>
     requires ready { Q.IsReady conn.old }
     ensures reads { Reads Q.IsReady Q.place Q.below Q.shows conn.old conn.new }
-    ensures found { FindsRows
+    ensures found { Gives
         (λ t. bindings_made t.runs row.now (made_from (canonical_in row.now.spec)))
         Q.shows conn.old conn.new result }
     ensures broken { BreaksUnless (λ t. AllByRecursion IsRunWithin t.runs)
@@ -138,7 +138,7 @@ fn with_runs<Q: Reader>(
 ) -> Result<Listed<BindingRow>, ReadFault>
     requires ready { Q.IsReady conn.old }
     ensures reads { Reads Q.IsReady Q.place Q.below Q.shows conn.old conn.new }
-    ensures found { FindsRows (λ t. attempt
+    ensures found { Gives (λ t. attempt
         ++ bindings_of_runs t.runs row.now.name made.now row.now.standing.runs)
         Q.shows conn.old conn.new result }
     ensures broken { BreaksUnless (λ t. AllByRecursion IsRunWithin t.runs)
@@ -162,7 +162,7 @@ fn bindings_of_run<Q: Reader>(
 ) -> Result<Listed<BindingRow>, ReadFault>
     requires ready { Q.IsReady conn.old }
     ensures reads { Reads Q.IsReady Q.place Q.below Q.shows conn.old conn.new }
-    ensures found { FindsRows
+    ensures found { Gives
         (λ t. run_bindings made.now (first (filter (is_run name.now number) t.runs)))
         Q.shows conn.old conn.new result }
     ensures broken { BreaksUnless (λ t. AllByRecursion IsRunWithin t.runs)

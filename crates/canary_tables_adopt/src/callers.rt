@@ -5,7 +5,7 @@ ghost use Rattle.std.specs.List.{AllByRecursion, sum_by};
 ghost use Rattle.canary_tables_contents.specs.Values.{receipt_of_row};
 ghost use Rattle.canary_tables_contents.specs.Judged.{AreCallersJudged, IsCallerJudged};
 ghost use Rattle.canary_tables_read.specs.declared.fault.ReadFault.TheVariants.{Broken, Storage};
-ghost use Rattle.canary_tables_read.specs.Finds.{FindsSuch};
+ghost use Rattle.canary_tables_read.specs.Finds.{Finds};
 ghost use Rattle.canary_tables_adopt.specs.Alone.{HasValue, only};
 ghost use Rattle.canary_tables_adopt.specs.Judges.{FindsThat, RefusesUnless};
 ghost use Rattle.canary_tables_adopt.specs.Receipts.{AreReceipts, AreReceived};
@@ -59,7 +59,7 @@ fn judge_each<Q: Reader, G: JudgingProgress>(
 ) -> Result<u64, ReadFault>
     requires ready { Q.IsReady conn.old }
     ensures reads { Reads Q.IsReady Q.place Q.below Q.shows conn.old conn.new }
-    ensures judged { FindsSuch (λ t settled. AllByRecursion (IsCallerJudged t) callers.now
+    ensures judged { Finds (λ t settled. AllByRecursion (IsCallerJudged t) callers.now
         × (settled ≡ sum_by (λ (row : _). row.settled) callers.now))
         Q.shows conn.old conn.new result }
     ensures refused { RefusesUnless (λ t. AllByRecursion (IsCallerJudged t) callers.now)

@@ -1,7 +1,9 @@
 -- When a read tells that a row is none that a program can hold.
-use Rattle.std.specs.Prelude.{◌≡◌, Result, Err}
+use Rattle.std.specs.Prelude.{◌≡◌, ℕ, Result, Err}
 use Rattle.std.specs.List.{AllByRecursion}
 use Rattle.sqlite.specs.State.{State}
+use Rattle.sqlite_value.specs.declared.value.Value.{Value}
+use Rattle.sqlite_value.specs.Order.{Row, column}
 use Rattle.canary_tables_rows.specs.Limits.{IsCallerWithin, IsKeptWithin, IsRevisionWithin, IsServiceWithin, IsBindingWithin, IsRunWithin, IsTallyWithin, IsMeasurementWithin, IsLineWithin}
 use Rattle.canary_tables_rows.specs.Tables.{Tables}
 use Rattle.canary_tables_schema.specs.Stores.{IsUsable, Stores}
@@ -18,6 +20,10 @@ BreaksUnless Within shows old new result =
 abbrev pub BreaksIfNone : {A X : Type 0} → Result A ReadFault → (X → Type 0) → (X → Type 0) → Type 0
 BreaksIfNone {X = X} result Is Fits = result ≡ Err Broken → (x : X) → Is x → ¬ Fits x
 
+-- only where none that the column is fits
+abbrev pub BreaksAt : {A X : Type 0} → Result A ReadFault → Row → ℕ → (X → Value) → (X → Type 0)
+    → Type 0
+BreaksAt result row at cell Fits = BreaksIfNone result (λ x. column row at ≡ cell x) Fits
 
 -- each row of a table is within its limits
 abbrev pub CallersWithin : Tables → Type 0

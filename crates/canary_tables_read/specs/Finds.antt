@@ -10,19 +10,19 @@ abbrev pub IsSame : State → State → Type 0
 IsSame old new = IsUsable new → IsUsable old × (new.now ≡ old.now)
 
 -- what a reader shows as usable afterwards has such a value in the tables, which it finds
-abbrev pub FindsSuch : {Q A F : Type 0} → (Tables → A → Type 0) → (Q → State) → Q → Q
+abbrev pub Finds : {Q A F : Type 0} → (Tables → A → Type 0) → (Q → State) → Q → Q
     → Result A F → Type 0
-FindsSuch such shows old new result =
+Finds such shows old new result =
     IsUsable (shows new) → (t : Tables) → Stores (shows old) t → IfOk result (such t)
 
 -- it finds this value in the tables
-abbrev pub FindsRows : {Q A F : Type 0} → (Tables → A) → (Q → State) → Q → Q → Result A F
+abbrev pub Gives : {Q A F : Type 0} → (Tables → A) → (Q → State) → Q → Q → Result A F
     → Type 0
-FindsRows told shows old new = FindsSuch (λ t found. found ≡ told t) shows old new
+Gives told shows old new = Finds (λ t found. found ≡ told t) shows old new
 
 -- it finds this count, as SQLite counts
-abbrev pub FindsCount : {Q F : Type 0} → (Tables → ℕ) → (Q → State) → Q → Q → Result ℕ F → Type 0
-FindsCount told shows old new = FindsRows (λ t. min (told t) 9223372036854775807) shows old new
+abbrev pub Counts : {Q F : Type 0} → (Tables → ℕ) → (Q → State) → Q → Q → Result ℕ F → Type 0
+Counts told shows old new = Gives (λ t. min (told t) 9223372036854775807) shows old new
 
 abbrev pub first : {A : Type 0} → List A → Option A
 first xs = slice_get xs 0

@@ -10,6 +10,7 @@ pub mod Chosen
 pub mod Faults
 pub mod TreeRows
 pub mod Meta
+pub mod Rows
 pub mod Reader
 pub mod First
 pub mod Metrics

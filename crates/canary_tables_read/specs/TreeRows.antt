@@ -7,6 +7,7 @@ use Rattle.canary_tables_schema.specs.Layout.{Layout, service_at, run_at, measur
 use Rattle.canary_tables_schema.specs.Schema.{schema_at}
 use Rattle.canary_tables_schema.specs.Cells.{cells_of, caller_cells, kept_cells, service_cells, run_cells, measurement_cells, history_cells, revision_cells, binding_cells, tally_cells}
 use Rattle.canary_tables_schema.specs.Stores.{IsUsable}
+use Rattle.canary_tables_schema.specs.Formed.{IsFormed, HasRows, HasWholeTallies}
 use Rattle.canary_tables_read.specs.declared.fault.ReadFault.{ReadFault}
 use Rattle.canary_tables_read.specs.declared.fault.ReadFault.TheVariants.{Broken}
 
@@ -57,6 +58,13 @@ pub record HasLateRows (at : Layout) (db : Database) : Type 0 where
   pub bindings : HasBindings at db
   pub tallies : HasTallies at db
 
+-- where no cell is missing in tallies
+abbrev pub HasTalliesIfWhole : Layout → Database → Type 0
+HasTalliesIfWhole at db = HasWholeTallies db → HasTallies at db
+
+abbrev pub HasLateRowsIfWhole : Layout → Database → Type 0
+HasLateRowsIfWhole at db = HasWholeTallies db → HasLateRows at db
+
 -- it tells of a database of a desk's schema that this holds
 abbrev pub Assures : {Q A : Type 0} → (Layout → Database → Type 0) → (Q → State) → Q → Q
     → Result A ReadFault → Type 0
@@ -68,3 +76,13 @@ abbrev pub Denies : {Q A : Type 0} → (Layout → Database → Type 0) → (Q �
     → Result A ReadFault → Type 0
 Denies Holds shows old new result = IsUsable (shows new) → (at : Layout)
     → (shows old).now.schema ≡ schema_at at → result ≡ Err Broken → ¬ Holds at (shows old).now
+
+-- it tells of a desk's database that all its rows are those of a desk's tables
+abbrev pub AssuresAll : {Q A : Type 0} → (Q → State) → Q → Q → Result A ReadFault → Type 0
+AssuresAll shows old new result = IsUsable (shows new) → IsFormed (shows old).now
+    → HasWholeTallies (shows old).now → OnOk result (HasRows (shows old).now)
+
+-- and that they are broken only where they are not
+abbrev pub DeniesAll : {Q A : Type 0} → (Q → State) → Q → Q → Result A ReadFault → Type 0
+DeniesAll shows old new result = IsUsable (shows new) → IsFormed (shows old).now
+    → result ≡ Err Broken → ¬ HasRows (shows old).now

@@ -1,11 +1,11 @@
 //! Callers, and what is kept of their requests.
-ghost use Rattle.std.specs.Prelude.{◌≡◌, ◌∷◌, false};
+ghost use Rattle.std.specs.Prelude.{◌∷◌, false};
 ghost use Rattle.sqlite.specs.declared.types.Value.TheVariants.{Text as Words};
 ghost use Rattle.canary_tables_schema.specs.Cells.{caller_cells, kept_cells};
-ghost use Rattle.canary_tables_read.specs.Finds.{FindsRows, FindsSuch, TellsCells, first};
+ghost use Rattle.canary_tables_read.specs.Finds.{Gives, Finds, TellsCells, first};
 ghost use Rattle.canary_tables_read.specs.Breaks.{BreaksUnless, CallersWithin, KeptWithin};
 ghost use Rattle.canary_tables_read.specs.Reader.{Reads};
-ghost use Rattle.canary_tables_read.specs.Chosen.{callers_of, kept_of, settled_of};
+ghost use Rattle.canary_tables_read.specs.Chosen.{callers_of, kept_of, settled_of, first_kept};
 
 use crate::fault::ReadFault;
 use crate::from_row;
@@ -23,7 +23,7 @@ use std::alloc::Global;
 pub fn settled<Q: Reader>(conn: &mut Q, caller: &Name) -> Result<Option<u32>, ReadFault>
     requires ready { Q.IsReady conn.old }
     ensures reads { Reads Q.IsReady Q.place Q.below Q.shows conn.old conn.new }
-    ensures found { FindsRows (settled_of caller.now) Q.shows conn.old conn.new result }
+    ensures found { Gives (settled_of caller.now) Q.shows conn.old conn.new result }
     ensures broken { BreaksUnless CallersWithin Q.shows conn.old conn.new result }
 {
     let rows = caller_shown(conn, caller)?;
@@ -40,7 +40,7 @@ pub fn caller_rows<Q: Reader>(
 ) -> Result<Listed<CallerRow>, ReadFault>
     requires ready { Q.IsReady conn.old }
     ensures reads { Reads Q.IsReady Q.place Q.below Q.shows conn.old conn.new }
-    ensures found { FindsRows (callers_of name.now) Q.shows conn.old conn.new result }
+    ensures found { Gives (callers_of name.now) Q.shows conn.old conn.new result }
     ensures broken { BreaksUnless CallersWithin Q.shows conn.old conn.new result }
 {
     let rows = caller_shown(conn, name)?;
@@ -51,7 +51,7 @@ pub fn caller_rows<Q: Reader>(
 fn caller_shown<Q: Reader>(conn: &mut Q, name: &Name) -> Result<Vec<Row>, StoreFault>
     requires ready { Q.IsReady conn.old }
     ensures reads { Reads Q.IsReady Q.place Q.below Q.shows conn.old conn.new }
-    ensures found { FindsSuch (λ t rows. TellsCells caller_cells (λ row. Words name.now ∷ row)
+    ensures found { Finds (λ t rows. TellsCells caller_cells (λ row. Words name.now ∷ row)
         (callers_of name.now t) rows.items) Q.shows conn.old conn.new result }
 {
     conn.ask(
@@ -70,8 +70,7 @@ pub fn kept<Q: Reader>(
 ) -> Result<Option<KeptRow>, ReadFault>
     requires ready { Q.IsReady conn.old }
     ensures reads { Reads Q.IsReady Q.place Q.below Q.shows conn.old conn.new }
-    ensures found { FindsRows (λ t. first (kept_of caller.now number t))
-        Q.shows conn.old conn.new result }
+    ensures found { Gives (first_kept caller.now number) Q.shows conn.old conn.new result }
     ensures broken { BreaksUnless KeptWithin Q.shows conn.old conn.new result }
 {
     let rows = kept_shown(conn, caller, number)?;
@@ -82,7 +81,7 @@ pub fn kept<Q: Reader>(
 fn kept_shown<Q: Reader>(conn: &mut Q, caller: &Name, number: u32) -> Result<Vec<Row>, StoreFault>
     requires ready { Q.IsReady conn.old }
     ensures reads { Reads Q.IsReady Q.place Q.below Q.shows conn.old conn.new }
-    ensures found { FindsSuch (λ t rows. TellsCells kept_cells (λ row. Words caller.now ∷ row)
+    ensures found { Finds (λ t rows. TellsCells kept_cells (λ row. Words caller.now ∷ row)
         (kept_of caller.now number t) rows.items) Q.shows conn.old conn.new result }
 {
     conn.ask(

@@ -1,15 +1,13 @@
 //! Whether the rows of a desk's database are those of tables at all.
-ghost use Rattle.std.specs.Prelude.{◌≡◌, ◌∷◌, [], List, OnOk, Err};
-ghost use Rattle.sqlite.specs.Order.{Row as Cells};
-ghost use Rattle.sqlite.specs.State.{Shown};
-ghost use Rattle.canary_tables_schema.specs.Stores.{IsUsable};
-ghost use Rattle.canary_tables_schema.specs.Formed.{IsFormed, HasRows, HasWholeTallies};
+ghost use Rattle.std.specs.Prelude.{Err};
 ghost use Rattle.canary_tables_read.specs.TreeRows.{HasEarlyRows, HasLateRows, Assures, Denies};
 ghost use Rattle.canary_tables_read.specs.TreeRows.{HasCallers, HasKept, HasServices, HasRuns};
 ghost use Rattle.canary_tables_read.specs.TreeRows.{HasMeasurements, HasLines, HasRevisions};
-ghost use Rattle.canary_tables_read.specs.TreeRows.{HasBindings, HasTallies};
+ghost use Rattle.canary_tables_read.specs.TreeRows.{HasBindings, HasTallies, HasTalliesIfWhole};
+ghost use Rattle.canary_tables_read.specs.TreeRows.{HasLateRowsIfWhole, AssuresAll, DeniesAll};
 ghost use Rattle.canary_tables_read.specs.Queries.{IsQuery};
 ghost use Rattle.canary_tables_read.specs.Reader.{Reads};
+ghost use Rattle.canary_tables_read.specs.Rows.{ShowsNone, ShowsSome};
 
 use crate::fault::ReadFault;
 use crate::reader::Reader;
@@ -20,11 +18,8 @@ use crate::reader::Reader;
 pub fn check_types<Q: Reader>(conn: &mut Q) -> Result<(), ReadFault>
     requires ready { Q.IsReady conn.old }
     ensures reads { Reads Q.IsReady Q.place Q.below Q.shows conn.old conn.new }
-    ensures typed { IsUsable (Q.shows conn.new) → IsFormed (Q.shows conn.old).now
-        → HasWholeTallies (Q.shows conn.old).now
-        → OnOk result (HasRows (Q.shows conn.old).now) }
-    ensures broken { IsUsable (Q.shows conn.new) → IsFormed (Q.shows conn.old).now
-        → result ≡ Err ReadFault.Broken → ¬ HasRows (Q.shows conn.old).now }
+    ensures typed { AssuresAll Q.shows conn.old conn.new result }
+    ensures broken { DeniesAll Q.shows conn.old conn.new result }
 {
     conn.look();
     early_typed(conn)?;
@@ -50,8 +45,7 @@ fn early_typed<Q: Reader>(conn: &mut Q) -> Result<(), ReadFault>
 fn late_typed<Q: Reader>(conn: &mut Q) -> Result<(), ReadFault>
     requires ready { Q.IsReady conn.old }
     ensures reads { Reads Q.IsReady Q.place Q.below Q.shows conn.old conn.new }
-    ensures typed { Assures (λ at db. HasWholeTallies db → HasLateRows at db)
-        Q.shows conn.old conn.new result }
+    ensures typed { Assures HasLateRowsIfWhole Q.shows conn.old conn.new result }
     ensures broken { Denies HasLateRows Q.shows conn.old conn.new result }
 {
     measurements_typed(conn)?;
@@ -173,9 +167,7 @@ fn bindings_typed<Q: Reader>(conn: &mut Q) -> Result<(), ReadFault>
 fn tallies_typed<Q: Reader>(conn: &mut Q) -> Result<(), ReadFault>
     requires ready { Q.IsReady conn.old }
     ensures reads { Reads Q.IsReady Q.place Q.below Q.shows conn.old conn.new }
-    ensures typed { Assures
-        (λ at db. HasWholeTallies db → HasTallies at db)
-        Q.shows conn.old conn.new result }
+    ensures typed { Assures HasTalliesIfWhole Q.shows conn.old conn.new result }
     ensures broken { Denies HasTallies Q.shows conn.old conn.new result }
 {
     conn.look();
@@ -192,11 +184,8 @@ fn none_shown<Q: Reader>(conn: &mut Q, text: &str) -> Result<(), ReadFault>
     requires ready { Q.IsReady conn.old }
     requires query { IsQuery text.now }
     ensures reads { Reads Q.IsReady Q.place Q.below Q.shows conn.old conn.new }
-    ensures none { IsUsable (Q.shows conn.new)
-        → OnOk result (Shown text.now [] (Q.shows conn.old) (Q.shows conn.new) []) }
-    ensures some { IsUsable (Q.shows conn.new) → result ≡ Err ReadFault.Broken
-        → (row : Cells) × (rows : List Cells)
-        × Shown text.now [] (Q.shows conn.old) (Q.shows conn.new) (row ∷ rows) }
+    ensures none { ShowsNone text.now Q.shows conn.old conn.new result }
+    ensures some { ShowsSome text.now Q.shows conn.old conn.new result }
 {
     let rows = conn.ask(text, &[])?;
     if rows.is_empty() {

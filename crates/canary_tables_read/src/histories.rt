@@ -1,9 +1,9 @@
 //! What happened to a service: its history, and the measurements of its runs.
-ghost use Rattle.std.specs.Prelude.{◌≡◌, ◌≤◌, ◌^◌, pos, take, drop, IfOk, IfErr, false};
-ghost use Rattle.canary_tables_read.specs.Finds.{FindsRows};
+ghost use Rattle.std.specs.Prelude.{◌≡◌, ◌≤◌, ◌^◌, pos, IfOk, IfErr, false};
+ghost use Rattle.canary_tables_read.specs.Finds.{Gives};
 ghost use Rattle.canary_tables_read.specs.Breaks.{BreaksUnless, MeasurementsWithin, LinesWithin};
 ghost use Rattle.canary_tables_read.specs.Reader.{Reads};
-ghost use Rattle.canary_tables_read.specs.Chosen.{measurements_of, lines_of};
+ghost use Rattle.canary_tables_read.specs.Chosen.{measurements_of, lines_of, lines_from};
 
 use crate::fault::ReadFault;
 use crate::from_row;
@@ -23,7 +23,7 @@ pub fn history<Q: Reader>(
 ) -> Result<Listed<HistoryRow>, ReadFault>
     requires ready { Q.IsReady conn.old }
     ensures reads { Reads Q.IsReady Q.place Q.below Q.shows conn.old conn.new }
-    ensures found { FindsRows (lines_of service.now) Q.shows conn.old conn.new result }
+    ensures found { Gives (lines_of service.now) Q.shows conn.old conn.new result }
     ensures broken { BreaksUnless LinesWithin Q.shows conn.old conn.new result }
 {
     let rows = conn.ask(
@@ -56,8 +56,7 @@ pub fn lines<Q: Reader>(
 ) -> Result<Listed<HistoryRow>, ReadFault>
     requires ready { Q.IsReady conn.old }
     ensures reads { Reads Q.IsReady Q.place Q.below Q.shows conn.old conn.new }
-    ensures found { FindsRows (λ t. take most (drop from (lines_of service.now t)))
-        Q.shows conn.old conn.new result }
+    ensures found { Gives (lines_from service.now from most) Q.shows conn.old conn.new result }
     ensures broken { BreaksUnless LinesWithin Q.shows conn.old conn.new result }
 {
     let offset = offset_of(from)?;
@@ -77,7 +76,7 @@ pub fn measurement_rows<Q: Reader>(
 ) -> Result<Listed<MeasurementRow>, ReadFault>
     requires ready { Q.IsReady conn.old }
     ensures reads { Reads Q.IsReady Q.place Q.below Q.shows conn.old conn.new }
-    ensures found { FindsRows (measurements_of service.now) Q.shows conn.old conn.new result }
+    ensures found { Gives (measurements_of service.now) Q.shows conn.old conn.new result }
     ensures broken { BreaksUnless MeasurementsWithin Q.shows conn.old conn.new result }
 {
     let rows = conn.ask(

@@ -1,9 +1,8 @@
 //! The measurements of one metric of a run.
-ghost use Rattle.std.specs.Prelude.{◌≡◌};
 ghost use Rattle.canary_tables_read.specs.Breaks.{BreaksUnless, MeasurementsWithin};
-ghost use Rattle.canary_tables_read.specs.Finds.{FindsRows};
+ghost use Rattle.canary_tables_read.specs.Finds.{Gives};
 ghost use Rattle.canary_tables_read.specs.Reader.{Reads};
-ghost use Rattle.canary_tables_read.specs.Chosen.{measurements_in};
+ghost use Rattle.canary_tables_read.specs.Chosen.{measured_in};
 
 use crate::fault::ReadFault;
 use crate::from_row;
@@ -26,8 +25,7 @@ pub fn measurements<Q: Reader>(
 ) -> Result<Listed<MeasurementRow>, ReadFault>
     requires ready { Q.IsReady conn.old }
     ensures reads { Reads Q.IsReady Q.place Q.below Q.shows conn.old conn.new }
-    ensures found { FindsRows (measurements_in service.now run metric)
-        Q.shows conn.old conn.new result }
+    ensures found { Gives (measured_in service.now run metric) Q.shows conn.old conn.new result }
     ensures broken { BreaksUnless MeasurementsWithin Q.shows conn.old conn.new result }
 {
     let rows = conn.ask(

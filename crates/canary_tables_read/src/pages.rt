@@ -1,13 +1,12 @@
 //! Rows in pages, of which each is of so many keys at most.
-ghost use Rattle.std.specs.Prelude.{◌≡◌};
 ghost use Rattle.canary_tables_read.specs.Breaks.{BreaksUnless, KeptWithin, BindingsWithin};
 ghost use Rattle.canary_tables_read.specs.Breaks.{RunsWithin, TalliesWithin};
-ghost use Rattle.canary_tables_read.specs.Finds.{FindsRows, FindsSuch};
+ghost use Rattle.canary_tables_read.specs.Finds.{Gives, Finds};
 ghost use Rattle.canary_tables_read.specs.Pages.{number_of_kept};
 ghost use Rattle.canary_tables_read.specs.Sorts.{Sorts};
 ghost use Rattle.canary_tables_read.specs.Reader.{Reads};
-ghost use Rattle.canary_tables_read.specs.Chosen.{kept_between, bindings_between, runs_between};
-ghost use Rattle.canary_tables_read.specs.Chosen.{tallies_between};
+ghost use Rattle.canary_tables_read.specs.Chosen.{kept_after, bindings_after, runs_after};
+ghost use Rattle.canary_tables_read.specs.Chosen.{tallies_after};
 
 use crate::fault::ReadFault;
 use crate::from_row;
@@ -30,7 +29,7 @@ pub fn kept<Q: Reader>(
 ) -> Result<Listed<KeptRow>, ReadFault>
     requires ready { Q.IsReady conn.old }
     ensures reads { Reads Q.IsReady Q.place Q.below Q.shows conn.old conn.new }
-    ensures found { FindsSuch (λ t. Sorts number_of_kept (kept_between caller.now after last t))
+    ensures found { Finds (λ t. Sorts number_of_kept (kept_after caller.now after last t))
         Q.shows conn.old conn.new result }
     ensures broken { BreaksUnless KeptWithin Q.shows conn.old conn.new result }
 {
@@ -54,8 +53,7 @@ pub fn runs<Q: Reader>(
 ) -> Result<Listed<RunRow>, ReadFault>
     requires ready { Q.IsReady conn.old }
     ensures reads { Reads Q.IsReady Q.place Q.below Q.shows conn.old conn.new }
-    ensures found { FindsRows (runs_between service.now after last)
-        Q.shows conn.old conn.new result }
+    ensures found { Gives (runs_after service.now after last) Q.shows conn.old conn.new result }
     ensures broken { BreaksUnless RunsWithin Q.shows conn.old conn.new result }
 {
     let rows = conn.ask(
@@ -79,8 +77,7 @@ pub fn bindings<Q: Reader>(
 ) -> Result<Listed<BindingRow>, ReadFault>
     requires ready { Q.IsReady conn.old }
     ensures reads { Reads Q.IsReady Q.place Q.below Q.shows conn.old conn.new }
-    ensures found { FindsRows (bindings_between service.now after last)
-        Q.shows conn.old conn.new result }
+    ensures found { Gives (bindings_after service.now after last) Q.shows conn.old conn.new result }
     ensures broken { BreaksUnless BindingsWithin Q.shows conn.old conn.new result }
 {
     let rows = conn.ask(
@@ -103,8 +100,7 @@ pub fn tallies<Q: Reader>(
 ) -> Result<Listed<TallyRow>, ReadFault>
     requires ready { Q.IsReady conn.old }
     ensures reads { Reads Q.IsReady Q.place Q.below Q.shows conn.old conn.new }
-    ensures found { FindsRows (tallies_between service.now after last)
-        Q.shows conn.old conn.new result }
+    ensures found { Gives (tallies_after service.now after last) Q.shows conn.old conn.new result }
     ensures broken { BreaksUnless TalliesWithin Q.shows conn.old conn.new result }
 {
     let rows = conn.ask(

@@ -1,11 +1,10 @@
 //! Runs, and the counts of their metrics.
 ghost use Rattle.std.specs.Prelude.{◌≡◌, filter, IfOk, false};
 ghost use Rattle.canary_tables_read.specs.Breaks.{BreaksUnless, RunsWithin, TalliesWithin};
-ghost use Rattle.canary_tables_read.specs.Finds.{FindsRows, FindsSuch, first};
-ghost use Rattle.canary_tables_read.specs.Sorts.{Sorts, IsFront, is_open};
-ghost use Rattle.canary_tables_read.specs.Sorts.{number_of, metric_of};
+ghost use Rattle.canary_tables_read.specs.Finds.{Gives, Finds, first};
+ghost use Rattle.canary_tables_read.specs.Sorts.{Sorts, is_open, number_of, metric_of};
 ghost use Rattle.canary_tables_read.specs.Reader.{Reads};
-ghost use Rattle.canary_tables_read.specs.Chosen.{runs_of, open_runs_of, tallies_of, run_of};
+ghost use Rattle.canary_tables_read.specs.Chosen.{open_runs_of, tallies_of, run_of, IsFrontOf};
 
 use crate::fault::ReadFault;
 use crate::from_row;
@@ -27,7 +26,7 @@ pub fn run<Q: Reader>(
 ) -> Result<Option<RunRow>, ReadFault>
     requires ready { Q.IsReady conn.old }
     ensures reads { Reads Q.IsReady Q.place Q.below Q.shows conn.old conn.new }
-    ensures found { FindsRows (run_of service.now number) Q.shows conn.old conn.new result }
+    ensures found { Gives (run_of service.now number) Q.shows conn.old conn.new result }
     ensures broken { BreaksUnless RunsWithin Q.shows conn.old conn.new result }
 {
     let rows = conn.ask(
@@ -47,7 +46,7 @@ pub fn open_runs<Q: Reader>(
 ) -> Result<Listed<RunRow>, ReadFault>
     requires ready { Q.IsReady conn.old }
     ensures reads { Reads Q.IsReady Q.place Q.below Q.shows conn.old conn.new }
-    ensures found { FindsSuch (λ t. Sorts number_of (open_runs_of service.now t)) Q.shows conn.old conn.new result }
+    ensures found { Finds (λ t. Sorts number_of (open_runs_of service.now t)) Q.shows conn.old conn.new result }
     ensures broken { BreaksUnless RunsWithin Q.shows conn.old conn.new result }
 {
     let front = front_runs(conn, alloc, service)?;
@@ -67,8 +66,7 @@ fn front_runs<Q: Reader>(
 ) -> Result<Listed<RunRow>, ReadFault>
     requires ready { Q.IsReady conn.old }
     ensures reads { Reads Q.IsReady Q.place Q.below Q.shows conn.old conn.new }
-    ensures found { FindsSuch (λ t. IsFront 3 (runs_of service.now t))
-        Q.shows conn.old conn.new result }
+    ensures found { Finds (IsFrontOf service.now) Q.shows conn.old conn.new result }
     ensures broken { BreaksUnless RunsWithin Q.shows conn.old conn.new result }
 {
     let rows = conn.ask(
@@ -87,7 +85,7 @@ fn all_open_runs<Q: Reader>(
 ) -> Result<Listed<RunRow>, ReadFault>
     requires ready { Q.IsReady conn.old }
     ensures reads { Reads Q.IsReady Q.place Q.below Q.shows conn.old conn.new }
-    ensures found { FindsSuch (λ t. Sorts number_of (open_runs_of service.now t)) Q.shows conn.old conn.new result }
+    ensures found { Finds (λ t. Sorts number_of (open_runs_of service.now t)) Q.shows conn.old conn.new result }
     ensures broken { BreaksUnless RunsWithin Q.shows conn.old conn.new result }
 {
     let rows = conn.ask(
@@ -130,7 +128,7 @@ pub fn tallies<Q: Reader>(
 ) -> Result<Listed<TallyRow>, ReadFault>
     requires ready { Q.IsReady conn.old }
     ensures reads { Reads Q.IsReady Q.place Q.below Q.shows conn.old conn.new }
-    ensures found { FindsSuch (λ t. Sorts metric_of (tallies_of service.now run t))
+    ensures found { Finds (λ t. Sorts metric_of (tallies_of service.now run t))
         Q.shows conn.old conn.new result }
     ensures broken { BreaksUnless TalliesWithin Q.shows conn.old conn.new result }
 {

@@ -1,14 +1,14 @@
 //! Revisions of templates, services, and to which revisions these are bound.
-ghost use Rattle.std.specs.Prelude.{◌≡◌, ◌≢◌, ◌∷◌, Err, false};
+ghost use Rattle.std.specs.Prelude.{◌≢◌, ◌∷◌, Err, false};
 ghost use Rattle.sqlite.specs.declared.types.Value.TheVariants.{Text as Words};
-ghost use Rattle.canary_tables_rows.specs.Newest.{IsNewest};
 ghost use Rattle.canary_tables_schema.specs.Cells.{revision_cells, service_cells};
-ghost use Rattle.canary_tables_read.specs.Finds.{FindsRows, FindsSuch, TellsCells, first};
+ghost use Rattle.canary_tables_read.specs.Finds.{Gives, Finds, TellsCells, first};
 ghost use Rattle.canary_tables_read.specs.Breaks.{BreaksUnless, RevisionsWithin, ServicesWithin};
 ghost use Rattle.canary_tables_read.specs.Breaks.{BindingsWithin};
 ghost use Rattle.canary_tables_read.specs.Reader.{Reads};
-ghost use Rattle.canary_tables_read.specs.Chosen.{revisions_of, revision_of, service_of};
-ghost use Rattle.canary_tables_read.specs.Chosen.{bindings_of, is_attempt_bound};
+ghost use Rattle.canary_tables_read.specs.Chosen.{revision_of, service_of, bindings_of};
+ghost use Rattle.canary_tables_read.specs.Chosen.{is_attempt_bound, first_revision, first_service};
+ghost use Rattle.canary_tables_read.specs.Chosen.{IsNewestOf};
 
 use crate::fault::ReadFault;
 use crate::from_row;
@@ -26,8 +26,7 @@ use std::alloc::Global;
 pub fn newest<Q: Reader>(conn: &mut Q, name: &Name) -> Result<Option<RevisionRow>, ReadFault>
     requires ready { Q.IsReady conn.old }
     ensures reads { Reads Q.IsReady Q.place Q.below Q.shows conn.old conn.new }
-    ensures found { FindsSuch (λ t. IsNewest (revisions_of name.now t))
-        Q.shows conn.old conn.new result }
+    ensures found { Finds (IsNewestOf name.now) Q.shows conn.old conn.new result }
     ensures broken { BreaksUnless RevisionsWithin Q.shows conn.old conn.new result }
 {
     let rows = conn.ask(
@@ -47,8 +46,7 @@ pub fn revision<Q: Reader>(
 ) -> Result<Option<RevisionRow>, ReadFault>
     requires ready { Q.IsReady conn.old }
     ensures reads { Reads Q.IsReady Q.place Q.below Q.shows conn.old conn.new }
-    ensures found { FindsRows (λ t. first (revision_of name.now number t))
-        Q.shows conn.old conn.new result }
+    ensures found { Gives (first_revision name.now number) Q.shows conn.old conn.new result }
     ensures broken { BreaksUnless RevisionsWithin Q.shows conn.old conn.new result }
 {
     let rows = revision_shown(conn, name, number)?;
@@ -66,7 +64,7 @@ pub fn revision_rows<Q: Reader>(
 ) -> Result<Listed<RevisionRow>, ReadFault>
     requires ready { Q.IsReady conn.old }
     ensures reads { Reads Q.IsReady Q.place Q.below Q.shows conn.old conn.new }
-    ensures found { FindsRows (revision_of name.now number) Q.shows conn.old conn.new result }
+    ensures found { Gives (revision_of name.now number) Q.shows conn.old conn.new result }
     ensures broken { BreaksUnless RevisionsWithin Q.shows conn.old conn.new result }
 {
     let rows = revision_shown(conn, name, number)?;
@@ -77,7 +75,7 @@ pub fn revision_rows<Q: Reader>(
 fn revision_shown<Q: Reader>(conn: &mut Q, name: &Name, number: u32) -> Result<Vec<Row>, StoreFault>
     requires ready { Q.IsReady conn.old }
     ensures reads { Reads Q.IsReady Q.place Q.below Q.shows conn.old conn.new }
-    ensures found { FindsSuch (λ t rows. TellsCells revision_cells (λ row. Words name.now ∷ row)
+    ensures found { Finds (λ t rows. TellsCells revision_cells (λ row. Words name.now ∷ row)
         (revision_of name.now number t) rows.items) Q.shows conn.old conn.new result }
 {
     conn.ask(
@@ -91,8 +89,7 @@ fn revision_shown<Q: Reader>(conn: &mut Q, name: &Name, number: u32) -> Result<V
 pub fn service<Q: Reader>(conn: &mut Q, name: &Name) -> Result<Option<ServiceRow>, ReadFault>
     requires ready { Q.IsReady conn.old }
     ensures reads { Reads Q.IsReady Q.place Q.below Q.shows conn.old conn.new }
-    ensures found { FindsRows (λ t. first (service_of name.now t))
-        Q.shows conn.old conn.new result }
+    ensures found { Gives (first_service name.now) Q.shows conn.old conn.new result }
     ensures broken { BreaksUnless ServicesWithin Q.shows conn.old conn.new result }
 {
     let rows = service_shown(conn, name)?;
@@ -108,7 +105,7 @@ pub fn service_rows<Q: Reader>(
 ) -> Result<Listed<ServiceRow>, ReadFault>
     requires ready { Q.IsReady conn.old }
     ensures reads { Reads Q.IsReady Q.place Q.below Q.shows conn.old conn.new }
-    ensures found { FindsRows (service_of name.now) Q.shows conn.old conn.new result }
+    ensures found { Gives (service_of name.now) Q.shows conn.old conn.new result }
     ensures broken { BreaksUnless ServicesWithin Q.shows conn.old conn.new result }
 {
     let rows = service_shown(conn, name)?;
@@ -119,7 +116,7 @@ pub fn service_rows<Q: Reader>(
 fn service_shown<Q: Reader>(conn: &mut Q, name: &Name) -> Result<Vec<Row>, StoreFault>
     requires ready { Q.IsReady conn.old }
     ensures reads { Reads Q.IsReady Q.place Q.below Q.shows conn.old conn.new }
-    ensures found { FindsSuch (λ t rows. TellsCells service_cells (λ row. Words name.now ∷ row)
+    ensures found { Finds (λ t rows. TellsCells service_cells (λ row. Words name.now ∷ row)
         (service_of name.now t) rows.items) Q.shows conn.old conn.new result }
 {
     conn.ask(
@@ -140,7 +137,7 @@ pub fn bindings<Q: Reader>(
 ) -> Result<Listed<BindingRow>, ReadFault>
     requires ready { Q.IsReady conn.old }
     ensures reads { Reads Q.IsReady Q.place Q.below Q.shows conn.old conn.new }
-    ensures found { FindsRows (bindings_of service.now run) Q.shows conn.old conn.new result }
+    ensures found { Gives (bindings_of service.now run) Q.shows conn.old conn.new result }
     ensures broken { BreaksUnless BindingsWithin Q.shows conn.old conn.new result }
 {
     let rows = conn.ask(
@@ -156,7 +153,7 @@ pub fn bindings<Q: Reader>(
 pub fn has_bindings<Q: Reader>(conn: &mut Q, service: &Name) -> Result<bool, ReadFault>
     requires ready { Q.IsReady conn.old }
     ensures reads { Reads Q.IsReady Q.place Q.below Q.shows conn.old conn.new }
-    ensures found { FindsRows (is_attempt_bound service.now) Q.shows conn.old conn.new result }
+    ensures found { Gives (is_attempt_bound service.now) Q.shows conn.old conn.new result }
     ensures whole { result ≢ Err ReadFault.Broken }
 {
     let rows = conn.ask(
