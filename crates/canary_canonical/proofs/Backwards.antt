@@ -25,6 +25,7 @@ use Rattle.canary_plan.specs.declared.report.Entry.{Entry}
 use Rattle.canary_plan.specs.declared.report.Report.{Report}
 use Rattle.canary_plan.specs.declared.command.Command.{Command}
 use Rattle.canary_plan.specs.declared.command.Command.TheVariants as command
+use Rattle.canary_plan.specs.Commands.{subject_of}
 use Rattle.canary_canonical.specs.Texts.{whole_data, signed_data, data_or_null, list_data, metric_data, metric_data_with, template_data, step_data, background_data, service_data, result_data, entry_with, entry_data, report_data, start_data, service_alone, command_data, command_text}
 use Rattle.canary_canonical.specs.Forms.{◌⊛◌, at, at_if, is_object_of, name_in, label_in, number_up_to, signed_in, null_or, each, list_of}
 use Rattle.canary_canonical.specs.Readings.{seconds_in, moment_in, word_in, weight_in, starting_step_in, dry_run_name_in, metric_with, metric_in, template_with, template_in, step_in, background_with, background_in, service_with, service_in, values_with, result_in, outcome_in, entry_of, entry_in, report_with, report_in, start_with, start_in, named_in, plain_of_kind, command_of_kind, command_in, if_text_of, canonical_in}
@@ -226,17 +227,16 @@ start_back service version h k =
 named_back : (service : List ℕ) → IsTrue (is_name service) → named_in (service_alone service) ≡ Some service
 named_back service h = name_back service h
 
+by_name : (make : List ℕ → Command) (service : List ℕ) → IsTrue (is_name service) → option_map make (named_in (service_alone service)) ≡ Some (make service)
+by_name make service h = ap (option_map make) (named_back service h)
+
 command_back : (c : Command) → KeepsLimits c → command_in (command_data c) ≡ Some c
 unfolding command_data command_of_kind plain_of_kind keeps_limits
 command_back (command.Template spec) h = ap (option_map command.Template) (template_back spec h)
 command_back (command.Service spec) h = ap (option_map command.Service) (service_back spec h)
 command_back (command.Start service version) h = start_back service version (both h).0 (both h).1
-command_back (command.Promote service) h = ap (option_map command.Promote) (named_back service h)
-command_back (command.PromoteFull service) h = ap (option_map command.PromoteFull) (named_back service h)
-command_back (command.Abort service) h = ap (option_map command.Abort) (named_back service h)
-command_back (command.Retry service) h = ap (option_map command.Retry) (named_back service h)
-command_back (command.Tick service) h = ap (option_map command.Tick) (named_back service h)
 command_back (command.Report report) h = ap (option_map command.Report) (report_back report h)
+command_back other h = by_name _ (subject_of other) h
 
 -- ---- texts
 

@@ -19,6 +19,7 @@ use Rattle.canary_plan.specs.declared.report.Entry.{Entry}
 use Rattle.canary_plan.specs.declared.report.Report.{Report}
 use Rattle.canary_plan.specs.declared.command.Command.{Command}
 use Rattle.canary_plan.specs.declared.command.Command.TheVariants as command
+use Rattle.canary_plan.specs.Commands.{subject_of}
 use Rattle.canary_canonical.specs.Texts.{whole_data, signed_data, data_or_null, list_data, only, passing, metric_data, metric_data_with, template_data, step_data, background_data, service_data, result_data, entry_with, entry_data, report_data, start_data, service_alone, command_data}
 use Rattle.canary_canonical.proofs.Regular.{rebuilt, IsInOrder, ItemsInOrder, MembersInOrder}
 
@@ -184,9 +185,5 @@ unfolding command_data
 plain_command (command.Template spec) = deeper 4 max_depth _ (omega arith) (plain_only 3 _ _ (plain_template spec))
 plain_command (command.Service spec) = deeper 5 max_depth _ (omega arith) (plain_only 4 _ _ (plain_service spec))
 plain_command (command.Start service version) = deeper 2 max_depth _ (omega arith) (plain_only 1 _ _ (plain_start service version))
-plain_command (command.Promote service) = deeper 2 max_depth _ (omega arith) (plain_only 1 _ _ (plain_alone service))
-plain_command (command.PromoteFull service) = deeper 2 max_depth _ (omega arith) (plain_only 1 _ _ (plain_alone service))
-plain_command (command.Abort service) = deeper 2 max_depth _ (omega arith) (plain_only 1 _ _ (plain_alone service))
-plain_command (command.Retry service) = deeper 2 max_depth _ (omega arith) (plain_only 1 _ _ (plain_alone service))
-plain_command (command.Tick service) = deeper 2 max_depth _ (omega arith) (plain_only 1 _ _ (plain_alone service))
 plain_command (command.Report report) = deeper 5 max_depth _ (omega arith) (plain_only 4 _ _ (plain_report report))
+plain_command other = deeper 2 max_depth _ (omega arith) (plain_only 1 _ _ (plain_alone (subject_of other)))

@@ -15,6 +15,7 @@ use Rattle.canary_plan.specs.declared.report.Entry.{Entry}
 use Rattle.canary_plan.specs.declared.report.Report.{Report}
 use Rattle.canary_plan.specs.declared.command.Command.{Command}
 use Rattle.canary_plan.specs.declared.command.Command.TheVariants as command
+use Rattle.canary_plan.specs.Commands.{subject_of}
 use Rattle.canary_plan.specs.Limits.{is_dry_run_name}
 use Rattle.canary_canonical.specs.Texts.{command_text}
 use Rattle.canary_canonical.specs.Readings.{canonical_in}
@@ -78,12 +79,8 @@ unfoldable pub keeps_limits : Command → Bool
 keeps_limits (command.Template spec) = keeps_template spec
 keeps_limits (command.Service spec) = keeps_service spec
 keeps_limits (command.Start service version) = is_name service && is_label version
-keeps_limits (command.Promote service) = is_name service
-keeps_limits (command.PromoteFull service) = is_name service
-keeps_limits (command.Abort service) = is_name service
-keeps_limits (command.Retry service) = is_name service
-keeps_limits (command.Tick service) = is_name service
 keeps_limits (command.Report report) = keeps_report report
+keeps_limits other = is_name (subject_of other)
 
 abbrev pub KeepsLimits : Command → Type 0
 KeepsLimits c = IsTrue (keeps_limits c)

@@ -1,7 +1,7 @@
 //! What is found in the body of a request.
 use crate::json_place::JsonPlace;
 use crate::lines::Lines;
-use crate::members::{key_shown, tell_label, tell_members, tell_name};
+use crate::members::{is_known, key_shown, tell_label, tell_members, tell_name};
 use crate::report::tell_report;
 use crate::rollout::tell_rollout;
 use crate::template::tell_template;
@@ -16,8 +16,19 @@ const BODY: &str = "an object with exactly one member, whose key is the command"
 const COMMANDS: &str =
     "template, service, start, promote, promoteFull, abort, retry, tick or report";
 
+// The keys of the commands of a service alone.
+const SERVICE_ALONE: [&str; 5] = ["promote", "promoteFull", "abort", "retry", "tick"];
+
+// The keys of those that say more.
+const WITH_MORE: [&str; 4] = ["template", "service", "start", "report"];
+
 const MANIFEST: &str = "write {\"template\":MANIFEST}, \
     or {\"service\":{\"version\":\"v1\",\"manifest\":MANIFEST}}";
+
+/// Whether a command has this key.
+pub(crate) fn is_command(key: &str) -> bool {
+    is_known(&SERVICE_ALONE, key) || is_known(&WITH_MORE, key)
+}
 
 /// Adds what is found in the body, or `Memory`.
 pub(crate) fn tell_body(alloc: Global, lines: &mut Lines, body: &Value) -> Result<(), Memory> {
@@ -42,12 +53,10 @@ fn tell_command(alloc: Global, lines: &mut Lines, kind: &str, value: &Value) -> 
         "template" => tell_template(alloc, lines, &JsonPlace::at(alloc, kind)?, value),
         "service" => tell_service(alloc, lines, &JsonPlace::at(alloc, kind)?, value),
         "start" => tell_start(lines, &JsonPlace::at(alloc, kind)?, value),
-        "promote" => tell_named(lines, &JsonPlace::at(alloc, kind)?, value),
-        "promoteFull" => tell_named(lines, &JsonPlace::at(alloc, kind)?, value),
-        "abort" => tell_named(lines, &JsonPlace::at(alloc, kind)?, value),
-        "retry" => tell_named(lines, &JsonPlace::at(alloc, kind)?, value),
-        "tick" => tell_named(lines, &JsonPlace::at(alloc, kind)?, value),
         "report" => tell_report(alloc, lines, &JsonPlace::at(alloc, kind)?, value),
+        _ if is_known(&SERVICE_ALONE, kind) => {
+            tell_named(lines, &JsonPlace::at(alloc, kind)?, value)
+        }
         _ => tell_kind(alloc, lines, kind),
     }
 }

@@ -52,8 +52,8 @@ fn tell_foreign(
     Ok(())
 }
 
-// Whether the key is one of these.
-fn is_known(known: &[&str], key: &str) -> bool {
+/// Whether the key is one of these.
+pub(crate) fn is_known(known: &[&str], key: &str) -> bool {
     known.iter().any(|name| *name == key)
 }
 

@@ -1,4 +1,5 @@
 //! What to do with a file that is no manifest in JSON, where it is one in another form.
+use crate::body::is_command;
 use crate::check::has_in_spec;
 use canary_canonical::form::only_member;
 use canary_manifest::member::member_of;
@@ -110,20 +111,4 @@ pub(crate) fn instead_of_kind(kind: &str) -> Option<&'static str> {
 fn instead_of_body(value: &Value) -> Option<&'static str> {
     let (key, _) = only_member(value)?;
     if is_command(key) { Some(REQUEST) } else { None }
-}
-
-// Whether a command has this key.
-fn is_command(key: &str) -> bool {
-    match key {
-        "template" => true,
-        "service" => true,
-        "start" => true,
-        "promote" => true,
-        "promoteFull" => true,
-        "abort" => true,
-        "retry" => true,
-        "tick" => true,
-        "report" => true,
-        _ => false,
-    }
 }

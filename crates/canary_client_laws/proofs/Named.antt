@@ -6,7 +6,7 @@ use Rattle.std.specs.Str.{bytes_eq}
 use Rattle.std.proofs.lemmas.Slice.Eq.{bytes_eq-Decides}
 use Rattle.std.proofs.lemmas.Bool.{both_ways, cases_Bool, false_from_ne_true, or_parts, or_cases}
 use Rattle.canary_plan.specs.declared.command.Command.{Command}
-use Rattle.canary_plan.specs.declared.command.Command.TheVariants.{Template, Service, Start, Promote, PromoteFull, Abort, Retry, Tick, Report}
+use Rattle.canary_plan.specs.declared.command.Command.TheVariants.{Template}
 use Rattle.canary_plan.specs.Commands.{subject_of}
 use Rattle.canary_release.specs.declared.reply.Reply.{Reply}
 use Rattle.canary_release.specs.Laws.{is_template, is_on, concerns, concerning, is_reply_on}
@@ -38,28 +38,14 @@ named_so name subject e = sym ((bytes_eq-Decides name subject).0 e)
 
 on_subject : (name : List ℕ) (x : Command) → is_on name x ≡ true → subject_of x ≡ name
 on_subject name (Template spec) e = let none : ⊥ = cc e in absurd none
-on_subject name (Service spec) e = named_so name spec.name e
-on_subject name (Start service version) e = named_so name service e
-on_subject name (Promote service) e = named_so name service e
-on_subject name (PromoteFull service) e = named_so name service e
-on_subject name (Abort service) e = named_so name service e
-on_subject name (Retry service) e = named_so name service e
-on_subject name (Tick service) e = named_so name service e
-on_subject name (Report report) e = named_so name report.service e
+on_subject name x e = named_so name (subject_of x) e
 
 itself : (name : List ℕ) → bytes_eq name name ≡ true
 itself name = (bytes_eq-Decides name name).1 refl
 
 pub on_its_own : (x : Command) → is_template x ≡ false → is_on (subject_of x) x ≡ true
 on_its_own (Template spec) e = let none : ⊥ = cc e in absurd none
-on_its_own (Service spec) e = itself spec.name
-on_its_own (Start service version) e = itself service
-on_its_own (Promote service) e = itself service
-on_its_own (PromoteFull service) e = itself service
-on_its_own (Abort service) e = itself service
-on_its_own (Retry service) e = itself service
-on_its_own (Tick service) e = itself service
-on_its_own (Report report) e = itself report.service
+on_its_own x e = itself (subject_of x)
 
 -- a script names a service
 abbrev pub Names : Scripts → List ℕ → List ℕ → Type 0

@@ -6,7 +6,7 @@ ghost use Rattle.canary_tables_rows.specs.Limits.{IsServiceWithin, IsRunWithin};
 ghost use Rattle.canary_tables_rows.specs.Tables.{is_run};
 ghost use Rattle.canary_tables_contents.specs.Values.{made_from};
 ghost use Rattle.canary_tables_read.specs.Breaks.{BreaksUnless};
-ghost use Rattle.canary_tables_read.specs.Finds.{FindsRows, first};
+ghost use Rattle.canary_tables_read.specs.Finds.{Gives, first};
 ghost use Rattle.canary_migrate.specs.Migrated.{all_bindings, bindings_named, bindings_made};
 ghost use Rattle.canary_migrate.specs.Migrated.{bindings_of_runs, run_bindings};
 ghost use Rattle.canary_tables_read.specs.Reader.{Reads};
@@ -35,11 +35,10 @@ pub(crate) fn bindings<Q: Reader>(
 ) -> Result<Listed<BindingRow>, ReadFault>
     requires ready { Q.IsReady conn.old }
     ensures reads { Reads Q.IsReady Q.place Q.below Q.shows conn.old conn.new }
-    ensures found { FindsRows (λ t. all_bindings t.services t.runs)
-        (Q.shows conn.old) (Q.shows conn.new) result }
+    ensures found { Gives (λ t. all_bindings t.services t.runs)
+        Q.shows conn.old conn.new result }
     ensures broken { BreaksUnless (λ t. AllByRecursion IsServiceWithin t.services
-        × AllByRecursion IsRunWithin t.runs)
-        (Q.shows conn.old) (Q.shows conn.new) result }
+        × AllByRecursion IsRunWithin t.runs) Q.shows conn.old conn.new result }
 {
     let names = lists::service_names(conn, alloc)?;
     bindings_of_all(conn, alloc, names.as_slice())
@@ -53,11 +52,10 @@ fn bindings_of_all<Q: Reader>(
 ) -> Result<Listed<BindingRow>, ReadFault>
     requires ready { Q.IsReady conn.old }
     ensures reads { Reads Q.IsReady Q.place Q.below Q.shows conn.old conn.new }
-    ensures found { FindsRows (λ t. flat_map (bindings_named t.services t.runs) names.now)
-        (Q.shows conn.old) (Q.shows conn.new) result }
+    ensures found { Gives (λ t. flat_map (bindings_named t.services t.runs) names.now)
+        Q.shows conn.old conn.new result }
     ensures broken { BreaksUnless (λ t. AllByRecursion IsServiceWithin t.services
-        × AllByRecursion IsRunWithin t.runs)
-        (Q.shows conn.old) (Q.shows conn.new) result }
+        × AllByRecursion IsRunWithin t.runs) Q.shows conn.old conn.new result }
 {
     let mut found = Listed::of(Vec::new(alloc));
     for name in names {
@@ -84,11 +82,10 @@ fn bindings_of<Q: Reader>(
 ) -> Result<Listed<BindingRow>, ReadFault>
     requires ready { Q.IsReady conn.old }
     ensures reads { Reads Q.IsReady Q.place Q.below Q.shows conn.old conn.new }
-    ensures found { FindsRows (λ t. bindings_named t.services t.runs name.now)
-        (Q.shows conn.old) (Q.shows conn.new) result }
+    ensures found { Gives (λ t. bindings_named t.services t.runs name.now)
+        Q.shows conn.old conn.new result }
     ensures broken { BreaksUnless (λ t. AllByRecursion IsServiceWithin t.services
-        × AllByRecursion IsRunWithin t.runs)
-        (Q.shows conn.old) (Q.shows conn.new) result }
+        × AllByRecursion IsRunWithin t.runs) Q.shows conn.old conn.new result }
 {
     let rows = services::service_rows(conn, alloc, name)?;
     match rows.as_slice().first() {
@@ -105,11 +102,11 @@ fn row_bindings<Q: Reader>(
 ) -> Result<Listed<BindingRow>, ReadFault>
     requires ready { Q.IsReady conn.old }
     ensures reads { Reads Q.IsReady Q.place Q.below Q.shows conn.old conn.new }
-    ensures found { FindsRows
+    ensures found { Gives
         (λ t. bindings_made t.runs row.now (made_from (canonical_in row.now.spec)))
-        (Q.shows conn.old) (Q.shows conn.new) result }
+        Q.shows conn.old conn.new result }
     ensures broken { BreaksUnless (λ t. AllByRecursion IsRunWithin t.runs)
-        (Q.shows conn.old) (Q.shows conn.new) result }
+        Q.shows conn.old conn.new result }
 {
     match made_by(alloc, row.spec.as_str())? {
         Some(made) => {
@@ -141,11 +138,11 @@ fn with_runs<Q: Reader>(
 ) -> Result<Listed<BindingRow>, ReadFault>
     requires ready { Q.IsReady conn.old }
     ensures reads { Reads Q.IsReady Q.place Q.below Q.shows conn.old conn.new }
-    ensures found { FindsRows (λ t. attempt
+    ensures found { Gives (λ t. attempt
         ++ bindings_of_runs t.runs row.now.name made.now row.now.standing.runs)
-        (Q.shows conn.old) (Q.shows conn.new) result }
+        Q.shows conn.old conn.new result }
     ensures broken { BreaksUnless (λ t. AllByRecursion IsRunWithin t.runs)
-        (Q.shows conn.old) (Q.shows conn.new) result }
+        Q.shows conn.old conn.new result }
 {
     let mut found = attempt;
     for place in 0..row.standing.runs {
@@ -165,11 +162,11 @@ fn bindings_of_run<Q: Reader>(
 ) -> Result<Listed<BindingRow>, ReadFault>
     requires ready { Q.IsReady conn.old }
     ensures reads { Reads Q.IsReady Q.place Q.below Q.shows conn.old conn.new }
-    ensures found { FindsRows
+    ensures found { Gives
         (λ t. run_bindings made.now (first (filter (is_run name.now number) t.runs)))
-        (Q.shows conn.old) (Q.shows conn.new) result }
+        Q.shows conn.old conn.new result }
     ensures broken { BreaksUnless (λ t. AllByRecursion IsRunWithin t.runs)
-        (Q.shows conn.old) (Q.shows conn.new) result }
+        Q.shows conn.old conn.new result }
 {
     match runs::run(conn, name, number)? {
         Some(run) => Ok(named::bindings_at(alloc, &run, made)?),

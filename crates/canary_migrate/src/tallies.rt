@@ -3,7 +3,7 @@ ghost use Rattle.std.specs.Prelude.{◌≡◌, ◌≢◌, ◌+◌, if◌then◌e
 ghost use Rattle.std.specs.List.{AllByRecursion, suffix_len};
 ghost use Rattle.canary_tables_rows.specs.Limits.{IsMeasurementWithin, IsTallyWithin};
 ghost use Rattle.canary_tables_read.specs.Breaks.{BreaksUnless};
-ghost use Rattle.canary_tables_read.specs.Finds.{FindsRows};
+ghost use Rattle.canary_tables_read.specs.Finds.{Gives};
 ghost use Rattle.canary_migrate.specs.Migrated.{is_passed, counted_with, tally_of};
 ghost use Rattle.canary_tables_read.specs.Reader.{Reads};
 
@@ -30,11 +30,11 @@ pub(crate) fn with_passes<Q: Reader>(
 ) -> Result<Listed<TallyRow>, ReadFault>
     requires ready { Q.IsReady conn.old }
     ensures reads { Reads Q.IsReady Q.place Q.below Q.shows conn.old conn.new }
-    ensures found { FindsRows (λ t. map (tally_of t.measurements) rows.now)
-        (Q.shows conn.old) (Q.shows conn.new) result }
+    ensures found { Gives (λ t. map (tally_of t.measurements) rows.now)
+        Q.shows conn.old conn.new result }
     ensures broken { BreaksUnless (λ t. AllByRecursion IsMeasurementWithin t.measurements
         × AllByRecursion IsTallyWithin (map (tally_of t.measurements) rows.now))
-        (Q.shows conn.old) (Q.shows conn.new) result }
+        Q.shows conn.old conn.new result }
 {
     let mut found = Listed::of(Vec::new(alloc));
     for row in rows {
@@ -47,11 +47,10 @@ pub(crate) fn with_passes<Q: Reader>(
 fn tally<Q: Reader>(conn: &mut Q, alloc: Global, row: &FirstTally) -> Result<TallyRow, ReadFault>
     requires ready { Q.IsReady conn.old }
     ensures reads { Reads Q.IsReady Q.place Q.below Q.shows conn.old conn.new }
-    ensures found { FindsRows (λ t. tally_of t.measurements row.now)
-        (Q.shows conn.old) (Q.shows conn.new) result }
+    ensures found { Gives (λ t. tally_of t.measurements row.now)
+        Q.shows conn.old conn.new result }
     ensures broken { BreaksUnless (λ t. AllByRecursion IsMeasurementWithin t.measurements
-        × IsTallyWithin (tally_of t.measurements row.now))
-        (Q.shows conn.old) (Q.shows conn.new) result }
+        × IsTallyWithin (tally_of t.measurements row.now)) Q.shows conn.old conn.new result }
 {
     let measurements = metrics::measurements(conn, alloc, &row.service, row.run, row.metric)?;
     let passes = passes_in(measurements.as_slice())?;

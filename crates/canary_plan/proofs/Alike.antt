@@ -229,14 +229,7 @@ kind_at (suc (suc (suc (suc (suc (suc (suc (suc n)))))))) = kind.Report
 kind_there : (k : CommandKind) → kind_at (place_of_kind k) ≡ k
 unfolding kind_at
 kind_there kind.Template = refl
-kind_there kind.Service = refl
-kind_there kind.Start = refl
-kind_there kind.Promote = refl
-kind_there kind.PromoteFull = refl
-kind_there kind.Abort = refl
-kind_there kind.Retry = refl
-kind_there kind.Tick = refl
-kind_there kind.Report = refl
+kind_there k = refl
 
 kinds_decide : (a b : CommandKind) → Decides (same_kind a b) (a ≡ b)
 kinds_decide a b = decides_as _ (Decides-eqb (place_of_kind a) (place_of_kind b)) (λ e. sym (kind_there a) ∙ ap kind_at e ∙ kind_there b) (λ e. ap place_of_kind e)
@@ -256,14 +249,7 @@ command_of kind.Report subject version template service report = option_map comm
 read_back : (c : Command) → command_of (kind_of c) (subject_of c) (version_of c) (template_in c) (service_in c) (report_in c) ≡ Some c
 unfolding command_of
 read_back (command.Template spec) = refl
-read_back (command.Service spec) = refl
-read_back (command.Start service version) = refl
-read_back (command.Promote service) = refl
-read_back (command.PromoteFull service) = refl
-read_back (command.Abort service) = refl
-read_back (command.Retry service) = refl
-read_back (command.Tick service) = refl
-read_back (command.Report report) = refl
+read_back other = refl
 
 some_command : (a b : Command) → ◌≡◌ {A = Option Command} (Some a) (Some b) → a ≡ b
 some_command a b h = cc h

@@ -147,12 +147,9 @@ event_again (AnalysisEntered step run) h = step_again step (codes "analysis run 
 event_again (Completed run phase) h = run_again run (phase_text phase) h ∙ completed_again run phase
 event_again (Ended run phase) h = run_again run (phase_text phase ++ codes " ended") h ∙ ended_again run phase
 event_again (StepHeld step) h = ap (option_map (λ n. StepHeld n)) (number_again step h)
-event_again BackgroundHeld h = refl
-event_again Promoted h = refl
-event_again PromotedFull h = refl
-event_again Aborted h = refl
 event_again (AbortedBy run) h = ap (option_map (λ n. AbortedBy n)) (number_again run h)
 event_again (Finished version) h = ap (option_map (λ v. Finished v)) (version_again version h)
+event_again other h = refl
 
 pub reads_back : WordsReadBack
 reads_back e f he hf same = same_Some e f (sym (event_again e he) ∙ ap event_of same ∙ event_again f hf)

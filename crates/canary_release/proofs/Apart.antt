@@ -9,7 +9,7 @@ use Rattle.std.proofs.lemmas.Map.Text.{is_eq-slice_cmp}
 use Rattle.std.proofs.lemmas.Slice.Eq.{bytes_eq-Decides}
 use Rattle.std.specs.FinMap.{get, insert, get-insert}
 use Rattle.canary_plan.specs.declared.command.Command.{Command}
-use Rattle.canary_plan.specs.declared.command.Command.TheVariants.{Template, Service, Start, Promote, PromoteFull, Abort, Retry, Tick, Report}
+use Rattle.canary_plan.specs.declared.command.Command.TheVariants.{Template}
 use Rattle.canary_plan.specs.declared.template_spec.TemplateSpec.{TemplateSpec}
 use Rattle.canary_plan.specs.declared.template.Template.{Template as Known}
 use Rattle.canary_plan.specs.declared.refusal.Refusal.{Refusal}
@@ -138,28 +138,14 @@ adds_it name desk other now spec h =
 
 pub steps_alike : (name : List ℕ) (desk other : Desk) (now : ℕ) (command : Command) → AgreeOn name desk other → concerns name (now, command) ≡ true → StepsAlike name desk other now command
 steps_alike name desk other now (Template spec) h e = adds_it name desk other now spec h
-steps_alike name desk other now (Service spec) h e = on_it name desk other now (Service spec) h e
-steps_alike name desk other now (Start service version) h e = on_it name desk other now (Start service version) h e
-steps_alike name desk other now (Promote service) h e = on_it name desk other now (Promote service) h e
-steps_alike name desk other now (PromoteFull service) h e = on_it name desk other now (PromoteFull service) h e
-steps_alike name desk other now (Abort service) h e = on_it name desk other now (Abort service) h e
-steps_alike name desk other now (Retry service) h e = on_it name desk other now (Retry service) h e
-steps_alike name desk other now (Tick service) h e = on_it name desk other now (Tick service) h e
-steps_alike name desk other now (Report report) h e = on_it name desk other now (Report report) h e
+steps_alike name desk other now command h e = on_it name desk other now command h e
 
 leaves_it : (name : List ℕ) (desk other : Desk) (now : ℕ) (command : Command) → ChangesNoTemplate (ruling_on desk now command).change → bytes_eq name (subject_of command) ≡ false → AgreeOn name desk other → AgreeOn name (apply desk now command).desk other
 leaves_it name desk other now command none apart h = left_alone name desk other command (ruling_on desk now command).change none apart h
 
 pub leaves_service : (name : List ℕ) (desk other : Desk) (now : ℕ) (command : Command) → AgreeOn name desk other → concerns name (now, command) ≡ false → AgreeOn name (apply desk now command).desk other
 leaves_service name desk other now (Template spec) h e = cc e
-leaves_service name desk other now (Service spec) h e = leaves_it name desk other now (Service spec) (changes_on desk now (Service spec)) e h
-leaves_service name desk other now (Start service version) h e = leaves_it name desk other now (Start service version) (changes_on desk now (Start service version)) e h
-leaves_service name desk other now (Promote service) h e = leaves_it name desk other now (Promote service) (changes_on desk now (Promote service)) e h
-leaves_service name desk other now (PromoteFull service) h e = leaves_it name desk other now (PromoteFull service) (changes_on desk now (PromoteFull service)) e h
-leaves_service name desk other now (Abort service) h e = leaves_it name desk other now (Abort service) (changes_on desk now (Abort service)) e h
-leaves_service name desk other now (Retry service) h e = leaves_it name desk other now (Retry service) (changes_on desk now (Retry service)) e h
-leaves_service name desk other now (Tick service) h e = leaves_it name desk other now (Tick service) (changes_on desk now (Tick service)) e h
-leaves_service name desk other now (Report report) h e = leaves_it name desk other now (Report report) (changes_on desk now (Report report)) e h
+leaves_service name desk other now command h e = leaves_it name desk other now command (changes_on desk now command) e h
 
 -- All commands.
 

@@ -4,7 +4,7 @@ use Rattle.std.specs.Prelude.{false, Option, Some, None}
 use Rattle.canary_plan.specs.declared.service.ServiceSpec.{ServiceSpec}
 use Rattle.canary_plan.specs.declared.strategy.CheckedStrategy.{CheckedStrategy}
 use Rattle.canary_plan.specs.declared.bound.BoundParts.{BoundParts}
-use Rattle.canary_plan.specs.declared.command.Command.TheVariants.{Template, Service, Start, Promote, PromoteFull, Abort, Retry, Tick, Report}
+use Rattle.canary_plan.specs.declared.command.Command.TheVariants.{Template, Service, Start, Retry}
 use Rattle.canary_plan.specs.declared.line.LineEvent.{LineEvent}
 use Rattle.canary_plan.specs.declared.line.LineEvent.TheVariants.{Started, Retried}
 use Rattle.canary_plan.specs.Plans.{Templates, Agree}
@@ -52,17 +52,7 @@ after_passing known other c now h = subst (AgreeFor known other) (sym (passed_ke
 pub looks_only_at : LooksOnlyAt
 looks_only_at known other found now (Template spec) h = ap (λ o. rule_template o spec) h.0
 looks_only_at known other found now (Service spec) h = found_alike known other found now spec h
-looks_only_at known other None now (Start name version) h = refl
-looks_only_at known other None now (Promote name) h = refl
-looks_only_at known other None now (PromoteFull name) h = refl
-looks_only_at known other None now (Abort name) h = refl
-looks_only_at known other None now (Retry name) h = refl
-looks_only_at known other None now (Tick name) h = refl
-looks_only_at known other None now (Report report) h = refl
+looks_only_at known other None now command h = refl
 looks_only_at known other (Some c) now (Start name version) h = ap (λ r. rules (passed_on r (judged_at c.service now))) (start_alike known other (pass c now) (judged_at c.service now) name version (after_passing known other c now h))
-looks_only_at known other (Some c) now (Promote name) h = refl
-looks_only_at known other (Some c) now (PromoteFull name) h = refl
-looks_only_at known other (Some c) now (Abort name) h = refl
 looks_only_at known other (Some c) now (Retry name) h = ap (λ r. rules (passed_on r (judged_at c.service now))) (retry_alike known other (pass c now) (judged_at c.service now) name (after_passing known other c now h))
-looks_only_at known other (Some c) now (Tick name) h = refl
-looks_only_at known other (Some c) now (Report report) h = refl
+looks_only_at known other (Some c) now command h = refl

@@ -1,6 +1,6 @@
 -- The machine keeps a desk in order.
 use Rattle.std.proofs.Common.{◌≡◌, ℕ, suc, ◌+◌, List, [], ◌∷◌, ◌++◌, length-append, Bool, true, false, refl, ap, sym, ◌∙◌, subst}
-use Rattle.std.specs.Prelude.{◌-◌, length, cond, nat_lt, nat_le, unwrap_or, IsTrue, Option, Some, None, option_map, Result, Ok, Err}
+use Rattle.std.specs.Prelude.{length, cond, nat_lt, nat_le, unwrap_or, IsTrue, Option, Some, None, option_map, Result, Ok, Err}
 use Rattle.std.specs.List.{AllByRecursion, list_any, last_or}
 use Rattle.std.specs.Ordering.{nat_cmp}
 use Rattle.std.specs.Cmp.Lexicographic.{slice_cmp, nat_list_cmp_total}
@@ -15,7 +15,7 @@ use Rattle.canary_plan.specs.declared.template_spec.TemplateSpec.{TemplateSpec}
 use Rattle.canary_plan.specs.declared.template.Template.{Template}
 use Rattle.canary_plan.specs.declared.strategy.CheckedStrategy.{CheckedStrategy}
 use Rattle.canary_plan.specs.declared.command.Command.{Command}
-use Rattle.canary_plan.specs.declared.command.Command.TheVariants.{Template as AddTemplate, Service as AddService, Start, Promote, PromoteFull, Abort, Retry, Tick, Report}
+use Rattle.canary_plan.specs.declared.command.Command.TheVariants.{Template as AddTemplate, Service as AddService}
 use Rattle.canary_plan.specs.declared.refusal.Refusal.{Refusal}
 use Rattle.canary_plan.specs.Plans.{Templates, template_of, bound_of, analysis_at, is_accepted, are_fit}
 use Rattle.canary_plan.specs.Refusals.{first_that_holds}
@@ -176,14 +176,7 @@ module _ (alike : WatchesAlike) (passing : PassingKeepsParts) (acting : ActingKe
 
   came_to_none : (command : Command) (now : ℕ) → HasCome ts None command (rules (act_new (newest ts) command now)).change
   came_to_none (AddService spec) now = came_new spec now (strategy_refusal (newest ts) spec) refl
-  came_to_none (AddTemplate spec) now = tt
-  came_to_none (Start name version) now = tt
-  came_to_none (Promote name) now = tt
-  came_to_none (PromoteFull name) now = tt
-  came_to_none (Abort name) now = tt
-  came_to_none (Retry name) now = tt
-  came_to_none (Tick name) now = tt
-  came_to_none (Report report) now = tt
+  came_to_none command now = tt
 
   came_to_service : (found : Option ModelService) (now : ℕ) (command : Command) → OrderIf ts (subject_of command) found → HasCome ts found command (rule_service (newest ts) (option_map model_evolution found) now command).change
   came_to_service None now command o = came_to_none command now
@@ -198,14 +191,7 @@ module _ (alike : WatchesAlike) (passing : PassingKeepsParts) (acting : ActingKe
 
   pub came : (found : Option ModelService) (now : ℕ) (command : Command) → OrderIf ts (subject_of command) found → HasCome ts found command (model_decision (newest ts) (option_map model_evolution found) now command).change
   came found now (AddTemplate spec) o = came_adds found spec (revision_refusal (newest_number (newest ts spec.name)) spec) refl
-  came found now (AddService spec) o = came_to_service found now (AddService spec) o
-  came found now (Start name version) o = came_to_service found now (Start name version) o
-  came found now (Promote name) o = came_to_service found now (Promote name) o
-  came found now (PromoteFull name) o = came_to_service found now (PromoteFull name) o
-  came found now (Abort name) o = came_to_service found now (Abort name) o
-  came found now (Retry name) o = came_to_service found now (Retry name) o
-  came found now (Tick name) o = came_to_service found now (Tick name) o
-  came found now (Report report) o = came_to_service found now (Report report) o
+  came found now command o = came_to_service found now command o
 
 -- The desk.
 

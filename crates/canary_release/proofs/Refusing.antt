@@ -6,7 +6,7 @@ use Rattle.canary_plan.specs.Commands.{subject_of}
 use Rattle.canary_plan.specs.declared.template_spec.TemplateSpec.{TemplateSpec}
 use Rattle.canary_plan.specs.declared.template.Template.{Template as Known}
 use Rattle.canary_plan.specs.declared.command.Command.{Command}
-use Rattle.canary_plan.specs.declared.command.Command.TheVariants.{Template, Service, Start, Promote, PromoteFull, Abort, Retry, Tick, Report}
+use Rattle.canary_plan.specs.declared.command.Command.TheVariants.{Template}
 use Rattle.canary_plan.specs.declared.refusal.Refusal.{Refusal}
 use Rattle.canary_plan.specs.Plans.{Templates, template_of}
 use Rattle.canary_release.specs.declared.reply.ReplyStatus.TheVariants.{Accepted, Refused}
@@ -37,14 +37,7 @@ clear_service known (Some c) now command = clear_rules (act_passed known command
 
 clear : (known : Templates) (found : Option Evolution) (now : ℕ) (command : Command) → IsClear (model_decision known found now command)
 clear known found now (Template spec) = clear_template (known spec.name) spec
-clear known found now (Service spec) = clear_service known found now (Service spec)
-clear known found now (Start name version) = clear_service known found now (Start name version)
-clear known found now (Promote name) = clear_service known found now (Promote name)
-clear known found now (PromoteFull name) = clear_service known found now (PromoteFull name)
-clear known found now (Abort name) = clear_service known found now (Abort name)
-clear known found now (Retry name) = clear_service known found now (Retry name)
-clear known found now (Tick name) = clear_service known found now (Tick name)
-clear known found now (Report report) = clear_service known found now (Report report)
+clear known found now command = clear_service known found now command
 
 leaves : (desk : Desk) (command : Command) (r : ModelDecision) → IsClear r → (r.reply.status ≡ Accepted) ⊎ ((r.reply.status ≡ Refused) × (desk_after desk command r.change ≡ desk))
 leaves desk command r (inl accepted) = inl accepted

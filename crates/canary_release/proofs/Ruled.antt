@@ -23,47 +23,19 @@ use Rattle.canary_release.specs.Stored.{evolution_of, stored_evolution, stored_a
 
 pub by_template : (known : Templates) (found : Option Evolution) (now : ℕ) (c : Command) (spec : TemplateSpec) → template_in c ≡ Some spec → model_decision known found now c ≡ rule_template (known spec.name) spec
 by_template known found now (command.Template s) spec h = cc h
-by_template known found now (command.Service s) spec h = cc h
-by_template known found now (command.Start s v) spec h = cc h
-by_template known found now (command.Promote s) spec h = cc h
-by_template known found now (command.PromoteFull s) spec h = cc h
-by_template known found now (command.Abort s) spec h = cc h
-by_template known found now (command.Retry s) spec h = cc h
-by_template known found now (command.Tick s) spec h = cc h
-by_template known found now (command.Report r) spec h = cc h
+by_template known found now other spec h = cc h
 
 pub by_service : (known : Templates) (found : Option Evolution) (now : ℕ) (c : Command) → template_in c ≡ None → model_decision known found now c ≡ rule_service known found now c
 by_service known found now (command.Template s) h = cc h
-by_service known found now (command.Service s) h = refl
-by_service known found now (command.Start s v) h = refl
-by_service known found now (command.Promote s) h = refl
-by_service known found now (command.PromoteFull s) h = refl
-by_service known found now (command.Abort s) h = refl
-by_service known found now (command.Retry s) h = refl
-by_service known found now (command.Tick s) h = refl
-by_service known found now (command.Report r) h = refl
+by_service known found now other h = refl
 
 pub new_by_service : (known : Templates) (now : ℕ) (c : Command) (spec : ServiceSpec) → service_in c ≡ Some spec → act_new known c now ≡ act_new known (command.Service spec) now
-new_by_service known now (command.Template s) spec h = cc h
 new_by_service known now (command.Service s) spec h = cc h
-new_by_service known now (command.Start s v) spec h = cc h
-new_by_service known now (command.Promote s) spec h = cc h
-new_by_service known now (command.PromoteFull s) spec h = cc h
-new_by_service known now (command.Abort s) spec h = cc h
-new_by_service known now (command.Retry s) spec h = cc h
-new_by_service known now (command.Tick s) spec h = cc h
-new_by_service known now (command.Report r) spec h = cc h
+new_by_service known now other spec h = cc h
 
 pub new_unknown : (known : Templates) (now : ℕ) (c : Command) → service_in c ≡ None → act_new known c now ≡ Err UnknownService
-new_unknown known now (command.Template s) h = refl
 new_unknown known now (command.Service s) h = cc h
-new_unknown known now (command.Start s v) h = refl
-new_unknown known now (command.Promote s) h = refl
-new_unknown known now (command.PromoteFull s) h = refl
-new_unknown known now (command.Abort s) h = refl
-new_unknown known now (command.Retry s) h = refl
-new_unknown known now (command.Tick s) h = refl
-new_unknown known now (command.Report r) h = refl
+new_unknown known now other h = refl
 
 -- where a command leads the code, the parts are unbroken
 pub acting_keeps : ActingKeepsParts → (known : Templates) (command : Command) (s : ServiceParts) (now : ℕ) (acted : Result CommandResult Refusal) → IsTrue (is_accepted s.service.strategy) → IsTrue (are_fit s.service.bound) → is_broken s ≡ false → model_result_of acted ≡ act_passed known command (stored_evolution s) now → IfOk acted (λ command_result. IsTrue (are_fit command_result.transition.service.bound)) → IfOk acted (λ command_result. is_broken (stored_after (evolution_of command_result.transition)) ≡ false)

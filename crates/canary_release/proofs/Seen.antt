@@ -8,7 +8,7 @@ use Rattle.std.proofs.lemmas.Map.Text.{is_eq-slice_cmp}
 use Rattle.std.proofs.lemmas.Slice.Eq.{bytes_eq-Decides}
 use Rattle.std.specs.FinMap.{get, insert, get-insert}
 use Rattle.canary_plan.specs.declared.command.Command.{Command}
-use Rattle.canary_plan.specs.declared.command.Command.TheVariants.{Template, Service, Start, Promote, PromoteFull, Abort, Retry, Tick, Report}
+use Rattle.canary_plan.specs.declared.command.Command.TheVariants.{Template, Service}
 use Rattle.canary_plan.specs.declared.template_spec.TemplateSpec.{TemplateSpec}
 use Rattle.canary_plan.specs.declared.template.Template.{Template as Known}
 use Rattle.canary_plan.specs.declared.refusal.Refusal.{Refusal}
@@ -56,14 +56,7 @@ unless_new (Some refusal) a k = tt
 
 new_watch : (known : Templates) (command : Command) (now : ℕ) → HasWatch (watch_of no_past) (act_new known command now)
 new_watch known (Service spec) now = unless_new (strategy_refusal known spec) (succeeds_with (new_service spec now)) refl
-new_watch known (Template spec) now = tt
-new_watch known (Start name version) now = tt
-new_watch known (Promote name) now = tt
-new_watch known (PromoteFull name) now = tt
-new_watch known (Abort name) now = tt
-new_watch known (Retry name) now = tt
-new_watch known (Tick name) now = tt
-new_watch known (Report report) now = tt
+new_watch known command now = tt
 
 fits_service : (known : Templates) (found : Option ModelService) (now : ℕ) (command : Command) → Fits found (rule_service known (option_map model_evolution found) now command).change
 fits_service known None now command = fits_new command (act_new known command now) (new_watch known command now)
@@ -78,14 +71,7 @@ fits_template found command there spec = fits_adds found command (revision_refus
 
 pub fits : (known : Templates) (found : Option ModelService) (now : ℕ) (command : Command) → Fits found (model_decision known (option_map model_evolution found) now command).change
 fits known found now (Template spec) = fits_template found (Template spec) (known spec.name) spec
-fits known found now (Service spec) = fits_service known found now (Service spec)
-fits known found now (Start name version) = fits_service known found now (Start name version)
-fits known found now (Promote name) = fits_service known found now (Promote name)
-fits known found now (PromoteFull name) = fits_service known found now (PromoteFull name)
-fits known found now (Abort name) = fits_service known found now (Abort name)
-fits known found now (Retry name) = fits_service known found now (Retry name)
-fits known found now (Tick name) = fits_service known found now (Tick name)
-fits known found now (Report report) = fits_service known found now (Report report)
+fits known found now command = fits_service known found now command
 
 bytes_same : (name : List ℕ) → bytes_eq name name ≡ true
 bytes_same name = (bytes_eq-Decides name name).1 refl

@@ -6,7 +6,7 @@ use Rattle.std.proofs.lemmas.Slice.Eq.{bytes_eq-Decides}
 use Rattle.std.specs.FinMap.{get}
 use Rattle.canary_plan.specs.declared.template_spec.TemplateSpec.{TemplateSpec}
 use Rattle.canary_plan.specs.declared.command.Command.{Command}
-use Rattle.canary_plan.specs.declared.command.Command.TheVariants.{Template, Service, Start, Promote, PromoteFull, Abort, Retry, Tick, Report}
+use Rattle.canary_plan.specs.declared.command.Command.TheVariants.{Template, Tick}
 use Rattle.canary_plan.specs.declared.refusal.Refusal.{Refusal}
 use Rattle.canary_plan.specs.declared.refusal.Refusal.TheVariants.{UnknownService}
 use Rattle.canary_plan.specs.Plans.{Templates}
@@ -249,14 +249,7 @@ on_template t name ticked plain now spec h =
 one_alike : (t : ℕ) (name : List ℕ) (ticked plain : Desk) (now : ℕ) (command : Command) → AreApart t name ticked plain → (IsTrue (is_on name command) → t ≤ now)
     → DoAlike t name ticked plain command (ruling_on ticked now command) (ruling_on plain now command)
 one_alike t name ticked plain now (Template spec) h from = on_template t name ticked plain now spec h
-one_alike t name ticked plain now (Service spec) h from = on_service t name ticked plain now (Service spec) h from
-one_alike t name ticked plain now (Start service version) h from = on_service t name ticked plain now (Start service version) h from
-one_alike t name ticked plain now (Promote service) h from = on_service t name ticked plain now (Promote service) h from
-one_alike t name ticked plain now (PromoteFull service) h from = on_service t name ticked plain now (PromoteFull service) h from
-one_alike t name ticked plain now (Abort service) h from = on_service t name ticked plain now (Abort service) h from
-one_alike t name ticked plain now (Retry service) h from = on_service t name ticked plain now (Retry service) h from
-one_alike t name ticked plain now (Tick service) h from = on_service t name ticked plain now (Tick service) h from
-one_alike t name ticked plain now (Report report) h from = on_service t name ticked plain now (Report report) h from
+one_alike t name ticked plain now command h from = on_service t name ticked plain now command h from
 
 -- All commands that follow.
 

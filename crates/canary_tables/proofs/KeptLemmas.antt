@@ -6,7 +6,7 @@ use Rattle.std.specs.Ordering.{nat_cmp}
 use Rattle.std.specs.Cmp.Lexicographic.{slice_cmp, nat_list_cmp_total}
 use Rattle.std.specs.FinMap.{get, insert, remove, empty, get-insert, get-remove, get-empty}
 use Rattle.canary_plan.specs.declared.command.Command.{Command}
-use Rattle.canary_plan.specs.declared.command.Command.TheVariants.{Template as AddTemplate, Service as AddService, Start, Promote, PromoteFull, Abort, Retry, Tick, Report}
+use Rattle.canary_plan.specs.declared.command.Command.TheVariants.{Template as AddTemplate}
 use Rattle.canary_plan.specs.declared.line.Line.{Line}
 use Rattle.canary_plan.specs.declared.template.Template.{Template}
 use Rattle.canary_plan.specs.declared.refusal.Refusal.{Refusal}
@@ -150,14 +150,7 @@ revision_added (Some refusal) t u e = let never : ⊥ = cc in absurd never
 
 revised : (desk : Desk) (now : ℕ) (command : Command) (t : Template) → AddsTemplate t ≡ change_of (ruling_on desk now command).change → t.spec.name ≡ subject_of command
 revised desk now (AddTemplate spec) t e = ap (λ (u : Template). u.spec.name) (revision_added _ t _ e)
-revised desk now (AddService spec) t e = absurd (no_revision_on desk now (AddService spec) t e)
-revised desk now (Start service version) t e = absurd (no_revision_on desk now (Start service version) t e)
-revised desk now (Promote service) t e = absurd (no_revision_on desk now (Promote service) t e)
-revised desk now (PromoteFull service) t e = absurd (no_revision_on desk now (PromoteFull service) t e)
-revised desk now (Abort service) t e = absurd (no_revision_on desk now (Abort service) t e)
-revised desk now (Retry service) t e = absurd (no_revision_on desk now (Retry service) t e)
-revised desk now (Tick service) t e = absurd (no_revision_on desk now (Tick service) t e)
-revised desk now (Report report) t e = absurd (no_revision_on desk now (Report report) t e)
+revised desk now command t e = absurd (no_revision_on desk now command t e)
 
 others_stay : (desk : Desk) (u : Template) (name : List ℕ) (m : Named Template) → ((q : List ℕ) (t : Template) → get m q ≡ Some t → newest desk.templates q ≡ Some t)
     → (q : List ℕ) (t : Template) → get (remove m name) q ≡ Some t → newest (insert desk.templates name (revisions_of desk.templates name ++ u ∷ [])) q ≡ Some t

@@ -4,7 +4,7 @@ ghost use Rattle.std.specs.Prelude.{option_copied, length, ◌==◌};
 ghost use Rattle.sqlite.specs.Held.{state};
 ghost use Rattle.canary_once.specs.Contents.{IsSettling, with_settlement};
 ghost use Rattle.canary_tables_rows.specs.Tables.{Tables};
-ghost use Rattle.canary_tables_read.specs.Finds.{FindsSuch};
+ghost use Rattle.canary_tables_read.specs.Finds.{Finds};
 ghost use Rattle.canary_tables_schema.specs.Stores.{IsUsable};
 ghost use Rattle.canary_tables.specs.Desk.{HasDesk, Looks, IsDesk, contents_in};
 ghost use Rattle.canary_plan.specs.Plans.{all_revisions};
@@ -41,8 +41,8 @@ fn has_rows<S: Alter>(
         name.now (contents_in (state S.Store conn.old)) }
     ensures reads { Looks conn.new.in_transaction
         (state S.Store conn.old) (state S.Store conn.new) }
-    ensures found { FindsSuch (λ t has. has ≡ has_bindings name.now t)
-        (state S.Store conn.old) (state S.Store conn.new) result }
+    ensures found { Finds (λ t has. has ≡ has_bindings name.now t)
+        (state S.Store) conn.old conn.new result }
 {
     schema_laws::one_reading();
     match cached {
@@ -72,9 +72,9 @@ fn has_attempt<S: Alter>(
         name.now (contents_in (state S.Store conn.old)) }
     ensures reads { Looks conn.new.in_transaction
         (state S.Store conn.old) (state S.Store conn.new) }
-    ensures found { FindsSuch
+    ensures found { Finds
         (λ t has. begins command.now ≡ true → has ≡ has_bindings name.now t)
-        (state S.Store conn.old) (state S.Store conn.new) result }
+        (state S.Store) conn.old conn.new result }
 {
     if begins(command) {
         has_rows(conn, alloc, name, cached)
@@ -95,9 +95,9 @@ fn is_bound<S: Alter>(
         settlement.now.change (contents_in (state S.Store conn.old)) }
     ensures reads { Looks conn.new.in_transaction
         (state S.Store conn.old) (state S.Store conn.new) }
-    ensures found { FindsSuch
+    ensures found { Finds
         (λ t is_bound. IsBoundSaid is_bound settlement.now.receipt.command settlement.now.change t)
-        (state S.Store conn.old) (state S.Store conn.new) result }
+        (state S.Store) conn.old conn.new result }
 {
     let command = &settlement.receipt.command;
     match &settlement.change {

@@ -34,15 +34,7 @@ use Rattle.canary_tables_adopt.proofs.KnownAmong.{Found, none_among, found_more,
 
 told : (revision : ℕ) (o : Option Command) (template : Template) → IsRevisionRead revision o (Ok template) → (revision_from revision o ≡ Some template) × (template_refusal template.spec ≡ None)
 told revision (Some (command.Template spec)) template read = (ap Some (sym read.1), ap (λ (t : Template). template_refusal t.spec) read.1 ∙ read.0)
-told revision (Some (command.Service spec)) template read = absurd read
-told revision (Some (command.Start service version)) template read = absurd read
-told revision (Some (command.Promote service)) template read = absurd read
-told revision (Some (command.PromoteFull service)) template read = absurd read
-told revision (Some (command.Abort service)) template read = absurd read
-told revision (Some (command.Retry service)) template read = absurd read
-told revision (Some (command.Tick service)) template read = absurd read
-told revision (Some (command.Report report)) template read = absurd read
-told revision None template read = absurd read
+told revision other template read = absurd read
 
 pub row_read : (row : RevisionRow) (template : Template) → IsRevisionRead row.revision (canonical_in row.spec) (Ok template) → IsAcceptedAs row template
 row_read row template read = let t = told row.revision (canonical_in row.spec) template read in record { is = t.0; accepted = t.1 }
@@ -53,15 +45,7 @@ spec_of d (Some t) = t
 
 untold : (revision : ℕ) (o : Option Command) (template : Template) → IsRevisionRead revision o (Err Broken) → revision_from revision o ≡ Some template → template_refusal template.spec ≡ None → ⊥
 untold revision (Some (command.Template spec)) template refused is accepted = refused (ap (λ o. template_refusal (spec_of template o).spec) is ∙ accepted)
-untold revision (Some (command.Service spec)) template refused is accepted = cc
-untold revision (Some (command.Start service version)) template refused is accepted = cc
-untold revision (Some (command.Promote service)) template refused is accepted = cc
-untold revision (Some (command.PromoteFull service)) template refused is accepted = cc
-untold revision (Some (command.Abort service)) template refused is accepted = cc
-untold revision (Some (command.Retry service)) template refused is accepted = cc
-untold revision (Some (command.Tick service)) template refused is accepted = cc
-untold revision (Some (command.Report report)) template refused is accepted = cc
-untold revision None template refused is accepted = cc
+untold revision other template refused is accepted = cc
 
 pub row_refused : (row : RevisionRow) (template : Template) → IsRevisionRead row.revision (canonical_in row.spec) (Err Broken) → ¬ IsAcceptedAs row template
 row_refused row template refused accepted = untold row.revision (canonical_in row.spec) template refused accepted.is accepted.accepted

@@ -37,15 +37,7 @@ some_same x y e = cc e
 
 read_number : (revision : ℕ) (o : Option Command) (template : Template) → revision_from revision o ≡ Some template → template.revision ≡ revision
 read_number revision (Some (command.Template spec)) template e = sym (ap (λ (x : Template). x.revision) (some_same _ template e))
-read_number revision (Some (command.Service spec)) template e = absurd (cc)
-read_number revision (Some (command.Start service version)) template e = absurd (cc)
-read_number revision (Some (command.Promote service)) template e = absurd (cc)
-read_number revision (Some (command.PromoteFull service)) template e = absurd (cc)
-read_number revision (Some (command.Abort service)) template e = absurd (cc)
-read_number revision (Some (command.Retry service)) template e = absurd (cc)
-read_number revision (Some (command.Tick service)) template e = absurd (cc)
-read_number revision (Some (command.Report report)) template e = absurd (cc)
-read_number revision None template e = absurd (cc)
+read_number revision other template e = absurd (cc)
 
 row_number : (t : Tables) (name : List ℕ) (number : ℕ) (o : Option RevisionRow) (template : Template) → first_row (filter (is_revision name number) t.revisions) ≡ o → option_and_then revision_of_row o ≡ Some template → template.revision ≡ number
 row_number t name number None template there e = absurd (cc)

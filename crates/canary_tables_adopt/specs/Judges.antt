@@ -8,11 +8,13 @@ use Rattle.canary_tables_read.specs.declared.fault.ReadFault.{ReadFault}
 use Rattle.canary_tables_read.specs.Breaks.{BreaksUnless}
 
 -- where it succeeds, this is so of the tables
-abbrev pub FindsThat : {A F : Type 0} → (Tables → Type 0) → State → State → Result A F → Type 0
-FindsThat P old new result = IsUsable new → (t : Tables) → Stores old t → OnOk result (P t)
+abbrev pub FindsThat : {Q A F : Type 0} → (Tables → Type 0) → (Q → State) → Q → Q → Result A F
+    → Type 0
+FindsThat P shows old new result =
+    IsUsable (shows new) → (t : Tables) → Stores (shows old) t → OnOk result (P t)
 
 -- it tells that the tables are broken only where a program cannot hold a row of theirs, or this is
 -- not so of them
-abbrev pub RefusesUnless : {A : Type 0} → (Tables → Type 0) → State → State → Result A ReadFault
-    → Type 0
-RefusesUnless P old new result = BreaksUnless (λ t. AreWithin t × P t) old new result
+abbrev pub RefusesUnless : {Q A : Type 0} → (Tables → Type 0) → (Q → State) → Q → Q
+    → Result A ReadFault → Type 0
+RefusesUnless P shows old new result = BreaksUnless (λ t. AreWithin t × P t) shows old new result

@@ -6,7 +6,7 @@ ghost use Rattle.std.specs.FinMap.{get};
 ghost use Rattle.canary_plan.specs.Plans.{distinct};
 ghost use Rattle.canary_tables_rows.specs.Limits.{AreWithin};
 ghost use Rattle.canary_tables_read.specs.Breaks.{BreaksUnless};
-ghost use Rattle.canary_tables_read.specs.Finds.{FindsSuch};
+ghost use Rattle.canary_tables_read.specs.Finds.{Finds};
 ghost use Rattle.canary_tables_adopt.specs.OfService.{HasSuch};
 ghost use Rattle.canary_tables_adopt.specs.OneService.{RefusesJudged};
 ghost use Rattle.canary_tables_adopt.specs.Bindings.{IsTemplateOf, IsKnownBy, IsKnownIn, IsBindingOf};
@@ -51,10 +51,9 @@ pub fn bound_templates<Q: Reader>(
 ) -> Result<Option<Templates>, ReadFault>
     requires ready { Q.IsReady conn.old }
     ensures reads { Reads Q.IsReady Q.place Q.below Q.shows conn.old conn.new }
-    ensures found { FindsSuch (λ t found. IsKnownIn service.now run t (option_map get found))
-        (Q.shows conn.old) (Q.shows conn.new) result }
-    ensures broken { BreaksUnless AreWithin (Q.shows conn.old) (Q.shows conn.new)
-        result }
+    ensures found { Finds (λ t found. IsKnownIn service.now run t (option_map get found))
+        Q.shows conn.old conn.new result }
+    ensures broken { BreaksUnless AreWithin Q.shows conn.old conn.new result }
 {
     let rows = services::bindings(conn, alloc, service, run)?;
     known_by(conn, alloc, rows.as_slice())
@@ -68,10 +67,9 @@ fn known_by<Q: Reader>(
 ) -> Result<Option<Templates>, ReadFault>
     requires ready { Q.IsReady conn.old }
     ensures reads { Reads Q.IsReady Q.place Q.below Q.shows conn.old conn.new }
-    ensures found { FindsSuch (λ t found. IsKnownBy rows.now t (option_map get found))
-        (Q.shows conn.old) (Q.shows conn.new) result }
-    ensures broken { BreaksUnless AreWithin (Q.shows conn.old) (Q.shows conn.new)
-        result }
+    ensures found { Finds (λ t found. IsKnownBy rows.now t (option_map get found))
+        Q.shows conn.old conn.new result }
+    ensures broken { BreaksUnless AreWithin Q.shows conn.old conn.new result }
 {
     let mut known = Templates::new(alloc);
     for row in rows {
@@ -98,10 +96,8 @@ pub(crate) fn template_of<Q: Reader>(
 ) -> Result<Option<Template>, ReadFault>
     requires ready { Q.IsReady conn.old }
     ensures reads { Reads Q.IsReady Q.place Q.below Q.shows conn.old conn.new }
-    ensures found { FindsSuch (IsTemplateOf row.now)
-        (Q.shows conn.old) (Q.shows conn.new) result }
-    ensures broken { BreaksUnless AreWithin (Q.shows conn.old) (Q.shows conn.new)
-        result }
+    ensures found { Finds (IsTemplateOf row.now) Q.shows conn.old conn.new result }
+    ensures broken { BreaksUnless AreWithin Q.shows conn.old conn.new result }
 {
     let Some(found) = services::revision(conn, &row.template, row.revision)? else {
         return Ok(None);
@@ -134,8 +130,8 @@ pub(crate) fn attempt<Q: Reader>(
 ) -> Result<Bound, ReadFault>
     requires ready { Q.IsReady conn.old }
     ensures reads { Reads Q.IsReady Q.place Q.below Q.shows conn.old conn.new }
-    ensures found { FindsSuch (IsAttemptBound service.now strategy.now)
-        (Q.shows conn.old) (Q.shows conn.new) result }
+    ensures found { Finds (IsAttemptBound service.now strategy.now)
+        Q.shows conn.old conn.new result }
     ensures broken { RefusesJudged (HasSuch (IsAttemptBound service.now strategy.now))
         (Q.shows conn.old) (Q.shows conn.new) result }
 {
@@ -158,8 +154,8 @@ fn bound<Q: Reader>(
 ) -> Result<Binding, ReadFault>
     requires ready { Q.IsReady conn.old }
     ensures reads { Reads Q.IsReady Q.place Q.below Q.shows conn.old conn.new }
-    ensures found { FindsSuch (IsBindingOf service.now 0 strategy.now)
-        (Q.shows conn.old) (Q.shows conn.new) result }
+    ensures found { Finds (IsBindingOf service.now 0 strategy.now)
+        Q.shows conn.old conn.new result }
     ensures broken { RefusesJudged (IsBoundWhole service.now 0)
         (Q.shows conn.old) (Q.shows conn.new) result }
 {

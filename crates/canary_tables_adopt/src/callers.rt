@@ -5,7 +5,7 @@ ghost use Rattle.std.specs.List.{AllByRecursion, sum_by};
 ghost use Rattle.canary_tables_contents.specs.Values.{receipt_of_row};
 ghost use Rattle.canary_tables_contents.specs.Judged.{AreCallersJudged, IsCallerJudged};
 ghost use Rattle.canary_tables_read.specs.declared.fault.ReadFault.TheVariants.{Broken, Storage};
-ghost use Rattle.canary_tables_read.specs.Finds.{FindsSuch};
+ghost use Rattle.canary_tables_read.specs.Finds.{Finds};
 ghost use Rattle.canary_tables_adopt.specs.Alone.{HasValue, only};
 ghost use Rattle.canary_tables_adopt.specs.Judges.{FindsThat, RefusesUnless};
 ghost use Rattle.canary_tables_adopt.specs.Receipts.{AreReceipts, AreReceived};
@@ -41,10 +41,8 @@ pub(crate) fn validate<Q: Reader, G: JudgingProgress>(
 ) -> Result<(), ReadFault>
     requires ready { Q.IsReady conn.old }
     ensures reads { Reads Q.IsReady Q.place Q.below Q.shows conn.old conn.new }
-    ensures judged { FindsThat AreCallersJudged
-        (Q.shows conn.old) (Q.shows conn.new) result }
-    ensures refused { RefusesUnless AreCallersJudged
-        (Q.shows conn.old) (Q.shows conn.new) result }
+    ensures judged { FindsThat AreCallersJudged Q.shows conn.old conn.new result }
+    ensures refused { RefusesUnless AreCallersJudged Q.shows conn.old conn.new result }
 {
     let callers = lists::callers(conn, alloc)?;
     let settled = judge_each(conn, alloc, callers.as_slice(), progress)?;
@@ -61,11 +59,11 @@ fn judge_each<Q: Reader, G: JudgingProgress>(
 ) -> Result<u64, ReadFault>
     requires ready { Q.IsReady conn.old }
     ensures reads { Reads Q.IsReady Q.place Q.below Q.shows conn.old conn.new }
-    ensures judged { FindsSuch (λ t settled. AllByRecursion (IsCallerJudged t) callers.now
+    ensures judged { Finds (λ t settled. AllByRecursion (IsCallerJudged t) callers.now
         × (settled ≡ sum_by (λ (row : _). row.settled) callers.now))
-        (Q.shows conn.old) (Q.shows conn.new) result }
+        Q.shows conn.old conn.new result }
     ensures refused { RefusesUnless (λ t. AllByRecursion (IsCallerJudged t) callers.now)
-        (Q.shows conn.old) (Q.shows conn.new) result }
+        Q.shows conn.old conn.new result }
 {
     let mut settled = 0;
     for caller in callers {
@@ -84,10 +82,9 @@ fn judge_one<Q: Reader, G: JudgingProgress>(
 ) -> Result<(), ReadFault>
     requires ready { Q.IsReady conn.old }
     ensures reads { Reads Q.IsReady Q.place Q.below Q.shows conn.old conn.new }
-    ensures judged { FindsThat (λ t. IsCallerJudged t caller.now)
-        (Q.shows conn.old) (Q.shows conn.new) result }
+    ensures judged { FindsThat (λ t. IsCallerJudged t caller.now) Q.shows conn.old conn.new result }
     ensures refused { RefusesUnless (λ t. IsCallerJudged t caller.now)
-        (Q.shows conn.old) (Q.shows conn.new) result }
+        Q.shows conn.old conn.new result }
 {
     let rows = callers::caller_rows(conn, alloc, &caller.name)?;
     if !is_alone(rows, caller) || !is_number(caller.settled) {
@@ -131,10 +128,9 @@ fn judge_receipts<Q: Reader, G: JudgingProgress>(
 ) -> Result<(), ReadFault>
     requires ready { Q.IsReady conn.old }
     ensures reads { Reads Q.IsReady Q.place Q.below Q.shows conn.old conn.new }
-    ensures judged { FindsThat (AreReceived caller.now 0 settled)
-        (Q.shows conn.old) (Q.shows conn.new) result }
+    ensures judged { FindsThat (AreReceived caller.now 0 settled) Q.shows conn.old conn.new result }
     ensures refused { RefusesUnless (AreReceived caller.now 0 settled)
-        (Q.shows conn.old) (Q.shows conn.new) result }
+        Q.shows conn.old conn.new result }
 {
     let mut before = 0;
     while before < settled {
@@ -168,9 +164,9 @@ fn judge_page<Q: Reader>(
     requires some { before < last }
     ensures reads { Reads Q.IsReady Q.place Q.below Q.shows conn.old conn.new }
     ensures judged { FindsThat (AreReceived caller.now before last)
-        (Q.shows conn.old) (Q.shows conn.new) result }
+        Q.shows conn.old conn.new result }
     ensures refused { RefusesUnless (AreReceived caller.now before last)
-        (Q.shows conn.old) (Q.shows conn.new) result }
+        Q.shows conn.old conn.new result }
 {
     let rows = pages::kept(conn, alloc, caller, before, last)?;
     are_receipts(alloc, rows.as_slice(), before, last)

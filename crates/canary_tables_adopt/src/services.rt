@@ -69,10 +69,9 @@ fn judge_each<Q: Reader, G: JudgingProgress>(
 fn are_all<Q: Reader>(conn: &mut Q, totals: &Totals) -> Result<(), ReadFault>
     requires ready { Q.IsReady conn.old }
     ensures reads { Reads Q.IsReady Q.place Q.below Q.shows conn.old conn.new }
-    ensures judged { FindsThat (λ t. HaveTotals t totals.now)
-        (Q.shows conn.old) (Q.shows conn.new) result }
+    ensures judged { FindsThat (λ t. HaveTotals t totals.now) Q.shows conn.old conn.new result }
     ensures refused { RefusesUnless (λ t. HaveTotals t totals.now)
-        (Q.shows conn.old) (Q.shows conn.new) result }
+        Q.shows conn.old conn.new result }
 {
     are_as_many(totals.runs, lists::run_count(conn))?;
     are_as_many(totals.bindings, lists::binding_count(conn))?;

@@ -33,10 +33,8 @@ use std::alloc::Global;
 pub(crate) fn validate<Q: Reader>(conn: &mut Q, alloc: Global) -> Result<(), ReadFault>
     requires ready { Q.IsReady conn.old }
     ensures reads { Reads Q.IsReady Q.place Q.below Q.shows conn.old conn.new }
-    ensures judged { FindsThat AreTemplatesJudged
-        (Q.shows conn.old) (Q.shows conn.new) result }
-    ensures refused { RefusesUnless AreTemplatesJudged
-        (Q.shows conn.old) (Q.shows conn.new) result }
+    ensures judged { FindsThat AreTemplatesJudged Q.shows conn.old conn.new result }
+    ensures refused { RefusesUnless AreTemplatesJudged Q.shows conn.old conn.new result }
 {
     let keys = lists::revision_keys(conn, alloc)?;
     judge_each(conn, alloc, keys.as_slice())
@@ -47,9 +45,9 @@ fn judge_each<Q: Reader>(conn: &mut Q, alloc: Global, keys: &[RevisionKey]) -> R
     requires ready { Q.IsReady conn.old }
     ensures reads { Reads Q.IsReady Q.place Q.below Q.shows conn.old conn.new }
     ensures judged { FindsThat (λ t. AllByRecursion (IsJudgedUnder t) keys.now)
-        (Q.shows conn.old) (Q.shows conn.new) result }
+        Q.shows conn.old conn.new result }
     ensures refused { RefusesUnless (λ t. AllByRecursion (IsJudgedUnder t) keys.now)
-        (Q.shows conn.old) (Q.shows conn.new) result }
+        Q.shows conn.old conn.new result }
 {
     for key in keys {
         judge_one(conn, alloc, key)?;
@@ -61,10 +59,9 @@ fn judge_each<Q: Reader>(conn: &mut Q, alloc: Global, keys: &[RevisionKey]) -> R
 fn judge_one<Q: Reader>(conn: &mut Q, alloc: Global, key: &RevisionKey) -> Result<(), ReadFault>
     requires ready { Q.IsReady conn.old }
     ensures reads { Reads Q.IsReady Q.place Q.below Q.shows conn.old conn.new }
-    ensures judged { FindsThat (λ t. IsJudgedUnder t key.now)
-        (Q.shows conn.old) (Q.shows conn.new) result }
+    ensures judged { FindsThat (λ t. IsJudgedUnder t key.now) Q.shows conn.old conn.new result }
     ensures refused { RefusesUnless (λ t. IsJudgedUnder t key.now)
-        (Q.shows conn.old) (Q.shows conn.new) result }
+        Q.shows conn.old conn.new result }
 {
     let rows = services::revision_rows(conn, alloc, &key.name, key.revision)?;
     read_revision(alloc, rows)?;
@@ -99,10 +96,8 @@ fn is_of(template: &Template, name: &Name) -> bool
 fn judge_number<Q: Reader>(conn: &mut Q, key: &RevisionKey) -> Result<(), ReadFault>
     requires ready { Q.IsReady conn.old }
     ensures reads { Reads Q.IsReady Q.place Q.below Q.shows conn.old conn.new }
-    ensures judged { FindsThat (λ t. IsNumbered t key.now)
-        (Q.shows conn.old) (Q.shows conn.new) result }
-    ensures refused { RefusesUnless (λ t. IsNumbered t key.now)
-        (Q.shows conn.old) (Q.shows conn.new) result }
+    ensures judged { FindsThat (λ t. IsNumbered t key.now) Q.shows conn.old conn.new result }
+    ensures refused { RefusesUnless (λ t. IsNumbered t key.now) Q.shows conn.old conn.new result }
 {
     if key.revision == 0 || key.revision > MAX_REVISIONS {
         return Err(ReadFault::Broken);

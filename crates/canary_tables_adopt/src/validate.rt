@@ -26,9 +26,8 @@ pub fn validate<Q: Reader, G: JudgingProgress>(
 ) -> Result<(), ReadFault>
     requires ready { Q.IsReady conn.old }
     ensures reads { Reads Q.IsReady Q.place Q.below Q.shows conn.old conn.new }
-    ensures judged { FindsThat IsJudged (Q.shows conn.old) (Q.shows conn.new) result }
-    ensures refused { RefusesUnless IsJudged
-        (Q.shows conn.old) (Q.shows conn.new) result }
+    ensures judged { FindsThat IsJudged Q.shows conn.old conn.new result }
+    ensures refused { RefusesUnless IsJudged Q.shows conn.old conn.new result }
 {
     progress.begin(count_rows(conn)?);
     judge_all(conn, alloc, progress)
@@ -77,9 +76,8 @@ fn judge_all<Q: Reader, G: JudgingProgress>(
 ) -> Result<(), ReadFault>
     requires ready { Q.IsReady conn.old }
     ensures reads { Reads Q.IsReady Q.place Q.below Q.shows conn.old conn.new }
-    ensures judged { FindsThat IsJudged (Q.shows conn.old) (Q.shows conn.new) result }
-    ensures refused { RefusesUnless IsJudged
-        (Q.shows conn.old) (Q.shows conn.new) result }
+    ensures judged { FindsThat IsJudged Q.shows conn.old conn.new result }
+    ensures refused { RefusesUnless IsJudged Q.shows conn.old conn.new result }
 {
     callers::validate(conn, alloc, progress)?;
     templates::validate(conn, alloc)?;

@@ -53,14 +53,7 @@ service_adds_nothing known (Some c) now asked t e = adds_nothing _ t e
 
 asked_so : (known : Templates) (found : Option Evolution) (now : ℕ) (asked : Command) (t : Template) → change.Template t ≡ change_of (model_decision known found now asked).change → asked ≡ command.Template t.spec
 asked_so known found now (command.Template spec) t e = adds_by (known spec.name) spec t e
-asked_so known found now (command.Service spec) t e = absurd (service_adds_nothing known found now (command.Service spec) t e)
-asked_so known found now (command.Start name version) t e = absurd (service_adds_nothing known found now (command.Start name version) t e)
-asked_so known found now (command.Promote name) t e = absurd (service_adds_nothing known found now (command.Promote name) t e)
-asked_so known found now (command.PromoteFull name) t e = absurd (service_adds_nothing known found now (command.PromoteFull name) t e)
-asked_so known found now (command.Abort name) t e = absurd (service_adds_nothing known found now (command.Abort name) t e)
-asked_so known found now (command.Retry name) t e = absurd (service_adds_nothing known found now (command.Retry name) t e)
-asked_so known found now (command.Tick name) t e = absurd (service_adds_nothing known found now (command.Tick name) t e)
-asked_so known found now (command.Report report) t e = absurd (service_adds_nothing known found now (command.Report report) t e)
+asked_so known found now asked t e = absurd (service_adds_nothing known found now asked t e)
 
 pub adding : CommandsChange → (desk : Desk) (now : ℕ) (asked : Command) (t : Template) → AreInOrder desk → change.Template t ≡ change_of (ruling_on desk now asked).change → IsAdding desk.templates asked t
 adding commands desk now asked t order is =
@@ -96,26 +89,13 @@ stays s effects e = cc e
 made_new : (known : Templates) (now : ℕ) (asked : Command) (s : ServiceParts) (effects : List Effect) → change.Service s effects ≡ change_of (model_decision known None now asked).change → asked ≡ command.Service (made_as s.service)
 made_new known now (command.Template spec) s effects e = absurd (template_updates_none spec s effects (known spec.name) e)
 made_new known now (command.Service spec) s effects e = made_that spec now s effects (strategy_refusal known spec) e
-made_new known now (command.Start name version) s effects e = absurd (stays s effects e)
-made_new known now (command.Promote name) s effects e = absurd (stays s effects e)
-made_new known now (command.PromoteFull name) s effects e = absurd (stays s effects e)
-made_new known now (command.Abort name) s effects e = absurd (stays s effects e)
-made_new known now (command.Retry name) s effects e = absurd (stays s effects e)
-made_new known now (command.Tick name) s effects e = absurd (stays s effects e)
-made_new known now (command.Report report) s effects e = absurd (stays s effects e)
+made_new known now asked s effects e = absurd (stays s effects e)
 
 -- and a command that makes a service changes none that is there
 none_before : (known : Templates) (found : Option ModelService) (now : ℕ) (asked : Command) (s : ServiceParts) (effects : List Effect) → makes_service asked ≡ true → change.Service s effects ≡ change_of (model_decision known (option_map model_evolution found) now asked).change → found ≡ None
 none_before known None now asked s effects makes e = refl
 none_before known (Some m) now (command.Service spec) s effects makes e = absurd (stays s effects e)
-none_before known (Some m) now (command.Template spec) s effects makes e = absurd (cc)
-none_before known (Some m) now (command.Start name version) s effects makes e = absurd (cc)
-none_before known (Some m) now (command.Promote name) s effects makes e = absurd (cc)
-none_before known (Some m) now (command.PromoteFull name) s effects makes e = absurd (cc)
-none_before known (Some m) now (command.Abort name) s effects makes e = absurd (cc)
-none_before known (Some m) now (command.Retry name) s effects makes e = absurd (cc)
-none_before known (Some m) now (command.Tick name) s effects makes e = absurd (cc)
-none_before known (Some m) now (command.Report report) s effects makes e = absurd (cc)
+none_before known (Some m) now asked s effects makes e = absurd (cc)
 
 one_before : (known : Templates) (found : Option ModelService) (now : ℕ) (asked : Command) (s : ServiceParts) (effects : List Effect) → makes_service asked ≡ false → change.Service s effects ≡ change_of (model_decision known (option_map model_evolution found) now asked).change
     → (m : ModelService) × (found ≡ Some m)
@@ -144,13 +124,7 @@ begun_by known m now (command.Retry name) s effects begin e =
     let c : Evolution = pass (model_evolution m) now in
     let none : retry_refusal known c ≡ None = unless_none (retry_refusal known c) _ _ s effects e in
     ap (bound_refusal known) (sym (passing_keeps (model_evolution m) now)) ∙ first_none (bound_refusal known c.service.strategy) (retry_refusal_at c) none
-begun_by known m now (command.Template spec) s effects begin e = absurd (cc)
-begun_by known m now (command.Service spec) s effects begin e = absurd (cc)
-begun_by known m now (command.Promote name) s effects begin e = absurd (cc)
-begun_by known m now (command.PromoteFull name) s effects begin e = absurd (cc)
-begun_by known m now (command.Abort name) s effects begin e = absurd (cc)
-begun_by known m now (command.Tick name) s effects begin e = absurd (cc)
-begun_by known m now (command.Report report) s effects begin e = absurd (cc)
+begun_by known m now asked s effects begin e = absurd (cc)
 
 begun_if : (known : Templates) (found : Option ModelService) (now : ℕ) (asked : Command) (s : ServiceParts) (effects : List Effect) → s.service.strategy ≡ (before found s.service).service.strategy → begins asked ≡ true
     → change.Service s effects ≡ change_of (model_decision known (option_map model_evolution found) now asked).change → bound_refusal known s.service.strategy ≡ None

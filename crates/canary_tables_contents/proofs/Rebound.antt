@@ -251,24 +251,12 @@ each_there name old new t are same = all_rebind name (distinct new) t (all_disti
 begin_binds : (known : Templates) (asked : Command) (found : Option ModelService) (s : CheckedStrategy) → begins asked ≡ true → bound_after known asked found s ≡ bound_of known s
 begin_binds known (command.Start name version) found s e = refl
 begin_binds known (command.Retry name) found s e = refl
-begin_binds known (command.Template spec) found s e = absurd (cc)
-begin_binds known (command.Service spec) found s e = absurd (cc)
-begin_binds known (command.Promote name) found s e = absurd (cc)
-begin_binds known (command.PromoteFull name) found s e = absurd (cc)
-begin_binds known (command.Abort name) found s e = absurd (cc)
-begin_binds known (command.Tick name) found s e = absurd (cc)
-begin_binds known (command.Report report) found s e = absurd (cc)
+begin_binds known asked found s e = absurd (cc)
 
 else_keeps : (known : Templates) (asked : Command) (found : Option ModelService) (s : CheckedStrategy) → begins asked ≡ false → bound_after known asked found s ≡ bound_before found s
 else_keeps known (command.Start name version) found s e = absurd (cc)
 else_keeps known (command.Retry name) found s e = absurd (cc)
-else_keeps known (command.Template spec) found s e = refl
-else_keeps known (command.Service spec) found s e = refl
-else_keeps known (command.Promote name) found s e = refl
-else_keeps known (command.PromoteFull name) found s e = refl
-else_keeps known (command.Abort name) found s e = refl
-else_keeps known (command.Tick name) found s e = refl
-else_keeps known (command.Report report) found s e = refl
+else_keeps known asked found s e = refl
 
 bound_as_before : (found : Option ModelService) (s : CheckedStrategy) (bound : BoundParts) → bound ≡ bound_before found s → revisions_bound found 0 ≡ all_revisions bound
 bound_as_before None s bound is = sym (ap all_revisions is ∙ unbound_none s)

@@ -25,7 +25,6 @@ use Rattle.canary_release.specs.Desks.{ModelService}
 use Rattle.canary_once.specs.declared.record.RunRecord.{RunRecord}
 use Rattle.canary_tables_rows.specs.declared.rows.ServiceColumns.{ServiceColumns}
 use Rattle.canary_tables_rows.specs.declared.rows.ServiceRow.{ServiceRow}
-use Rattle.canary_tables_rows.specs.declared.rows.RunRow.{RunRow}
 use Rattle.canary_tables_rows.specs.Tables.{Tables, is_run}
 use Rattle.canary_tables_contents.specs.Numbers.{bit, truth_of}
 use Rattle.canary_tables_contents.specs.Values.{service_row, made_from, standing_of, stand_from, stand_of, ending_of, closing_from, closing_of, lists_in, run_from, run_of_row, history_row, line_of_row}
@@ -122,16 +121,8 @@ record IsMadeBy (o : Option Command) (spec : ServiceSpec) : Type 0 where
   command : o ≡ Some (command.Service spec)
 
 of_made : (o : Option Command) (spec : ServiceSpec) → made_from o ≡ Some spec → IsMadeBy o spec
-of_made None spec e = absurd (cc)
-of_made (Some (command.Template template)) spec e = absurd (cc)
 of_made (Some (command.Service made)) spec e = let same : made ≡ spec = cc e in subst (IsMadeBy (Some (command.Service made))) same (record { command = refl })
-of_made (Some (command.Start service version)) spec e = absurd (cc)
-of_made (Some (command.Promote service)) spec e = absurd (cc)
-of_made (Some (command.PromoteFull service)) spec e = absurd (cc)
-of_made (Some (command.Abort service)) spec e = absurd (cc)
-of_made (Some (command.Retry service)) spec e = absurd (cc)
-of_made (Some (command.Tick service)) spec e = absurd (cc)
-of_made (Some (command.Report report)) spec e = absurd (cc)
+of_made other spec e = absurd (cc)
 
 -- Runs.
 

@@ -36,18 +36,10 @@ pub record IsOfRevision (revision : ℕ) (o : Option Command) (t : Template) : T
   pub bound : t ≡ template_of t.spec revision
 
 pub of_revision : (revision : ℕ) (o : Option Command) (t : Template) → revision_from revision o ≡ Some t → IsOfRevision revision o t
-of_revision revision None t e = absurd (cc)
 of_revision revision (Some (command.Template spec)) t e =
     let same : template_of spec revision ≡ t = cc e in
     subst (IsOfRevision revision (Some (command.Template spec))) same (record { command = refl; bound = refl })
-of_revision revision (Some (command.Service spec)) t e = absurd (cc)
-of_revision revision (Some (command.Start service version)) t e = absurd (cc)
-of_revision revision (Some (command.Promote service)) t e = absurd (cc)
-of_revision revision (Some (command.PromoteFull service)) t e = absurd (cc)
-of_revision revision (Some (command.Abort service)) t e = absurd (cc)
-of_revision revision (Some (command.Retry service)) t e = absurd (cc)
-of_revision revision (Some (command.Tick service)) t e = absurd (cc)
-of_revision revision (Some (command.Report report)) t e = absurd (cc)
+of_revision revision other t e = absurd (cc)
 
 -- what is read of a row has its number
 pub its_revision : (row : RevisionRow) (t : Template) → revision_of_row row ≡ Some t → t.revision ≡ row.revision

@@ -11,21 +11,25 @@ use Rattle.canary_tables_schema.specs.Stores.{IsUsable, AreNumbered}
 use Rattle.canary_tables_schema.specs.Cells.{meta_rows}
 use Rattle.canary_tables_read.specs.declared.fault.ReadFault.{ReadFault}
 use Rattle.canary_tables_read.specs.Finds.{IsSame}
-use Rattle.canary_tables_read.specs.TreeRows.{HasEarlyRows, HasLateRows, Assures}
+use Rattle.canary_tables_read.specs.TreeRows.{HasEarlyRows, HasLateRows}
 
 pub same_both : (old mid new : State) → IsSame old mid → IsSame mid new → IsSame old new
 same_both old mid new first second usable = let s = second usable in let f = first s.0 in (f.0, s.1 ∙ f.1)
 
+-- what a read between two states assures
+abbrev AssuresBetween : {A : Type 0} → (Layout → Database → Type 0) → State → State → Result A ReadFault → Type 0
+AssuresBetween Holds old new result = IsUsable new → (at : Layout) → old.now.schema ≡ schema_at at → OnOk result (Holds at old.now)
+
 -- what is told after a read is told from before it
 module _ {A : Type 0} (Holds : Layout → Database → Type 0) (old mid new : State) (r : Result A ReadFault) (first : IsSame old mid) (second : IsSame mid new) where
-  pub assures_before : Assures Holds mid new r → Assures Holds old new r
+  pub assures_before : AssuresBetween Holds mid new r → AssuresBetween Holds old new r
   assures_before h usable at schema =
       let is : mid.now ≡ old.now = (first (second usable).0).1 in
       subst (λ (db : Database). OnOk r (Holds at db)) is (h usable at (subst (λ (db : Database). db.schema ≡ schema_at at) (sym is) schema))
 
 -- the rows of all tables
 pub all_told : (s0 s1 s2 : State) (r : Result (Unit {0}) ReadFault) → IsSame s0 s1 → IsSame s1 s2 → HasWholeTallies s0.now → (IsUsable s1 → (at : Layout) → s0.now.schema ≡ schema_at at → HasEarlyRows at s0.now)
-    → Assures (λ at db. HasWholeTallies db → HasLateRows at db) s1 s2 r → IsUsable s2 → IsFormed s0.now → OnOk r (HasRows s0.now)
+    → AssuresBetween (λ at db. HasWholeTallies db → HasLateRows at db) s1 s2 r → IsUsable s2 → IsFormed s0.now → OnOk r (HasRows s0.now)
 all_told s0 s1 s2 r first second whole early late usable formed =
     let at = formed.layout in
     let e = early (second usable).0 at formed.schema in

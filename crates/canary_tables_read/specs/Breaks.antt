@@ -1,13 +1,54 @@
 -- When a read tells that a row is none that a program can hold.
-use Rattle.std.specs.Prelude.{◌≡◌, Result, Err}
+use Rattle.std.specs.Prelude.{◌≡◌, ℕ, Result, Err}
+use Rattle.std.specs.List.{AllByRecursion}
 use Rattle.sqlite.specs.State.{State}
+use Rattle.sqlite_value.specs.declared.value.Value.{Value}
+use Rattle.sqlite_value.specs.Order.{Row, column}
+use Rattle.canary_tables_rows.specs.Limits.{IsCallerWithin, IsKeptWithin, IsRevisionWithin, IsServiceWithin, IsBindingWithin, IsRunWithin, IsTallyWithin, IsMeasurementWithin, IsLineWithin}
 use Rattle.canary_tables_rows.specs.Tables.{Tables}
 use Rattle.canary_tables_schema.specs.Stores.{IsUsable, Stores}
 use Rattle.canary_tables_read.specs.declared.fault.ReadFault.{ReadFault}
 use Rattle.canary_tables_read.specs.declared.fault.ReadFault.TheVariants.{Broken}
 
 -- only where the tables are not within these limits
-abbrev pub BreaksUnless : {A : Type 0} → (Tables → Type 0) → State → State → Result A ReadFault
+abbrev pub BreaksUnless : {Q A : Type 0} → (Tables → Type 0) → (Q → State) → Q → Q
+    → Result A ReadFault → Type 0
+BreaksUnless Within shows old new result =
+    IsUsable (shows new) → (t : Tables) → Stores (shows old) t → result ≡ Err Broken → ¬ Within t
+
+-- only where none that is so fits
+abbrev pub BreaksIfNone : {A X : Type 0} → Result A ReadFault → (X → Type 0) → (X → Type 0) → Type 0
+BreaksIfNone {X = X} result Is Fits = result ≡ Err Broken → (x : X) → Is x → ¬ Fits x
+
+-- only where none that the column is fits
+abbrev pub BreaksAt : {A X : Type 0} → Result A ReadFault → Row → ℕ → (X → Value) → (X → Type 0)
     → Type 0
-BreaksUnless Within old new result =
-    IsUsable new → (t : Tables) → Stores old t → result ≡ Err Broken → ¬ Within t
+BreaksAt result row at cell Fits = BreaksIfNone result (λ x. column row at ≡ cell x) Fits
+
+-- each row of a table is within its limits
+abbrev pub CallersWithin : Tables → Type 0
+CallersWithin t = AllByRecursion IsCallerWithin t.callers
+
+abbrev pub KeptWithin : Tables → Type 0
+KeptWithin t = AllByRecursion IsKeptWithin t.kept
+
+abbrev pub RevisionsWithin : Tables → Type 0
+RevisionsWithin t = AllByRecursion IsRevisionWithin t.revisions
+
+abbrev pub ServicesWithin : Tables → Type 0
+ServicesWithin t = AllByRecursion IsServiceWithin t.services
+
+abbrev pub BindingsWithin : Tables → Type 0
+BindingsWithin t = AllByRecursion IsBindingWithin t.bindings
+
+abbrev pub RunsWithin : Tables → Type 0
+RunsWithin t = AllByRecursion IsRunWithin t.runs
+
+abbrev pub TalliesWithin : Tables → Type 0
+TalliesWithin t = AllByRecursion IsTallyWithin t.tallies
+
+abbrev pub MeasurementsWithin : Tables → Type 0
+MeasurementsWithin t = AllByRecursion IsMeasurementWithin t.measurements
+
+abbrev pub LinesWithin : Tables → Type 0
+LinesWithin t = AllByRecursion IsLineWithin t.history

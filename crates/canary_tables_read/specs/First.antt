@@ -1,6 +1,8 @@
 -- The rows of the first schema that a desk's tables no longer have: templates, and tallies that
 -- count no passes.
-use Rattle.std.specs.Prelude.{◌≡◌, [], ◌∷◌, IsTrue, IsUtf8, IfSome, List, map}
+use Rattle.std.specs.Prelude.{◌≡◌, [], ◌∷◌, IsTrue, IsUtf8, IfSome, List, map, Result, Err, IfOk}
+use Rattle.std.specs.List.{AllByRecursion}
+use Rattle.sqlite.specs.State.{State}
 use Rattle.sqlite.specs.Effect.{Database}
 use Rattle.sqlite_value.specs.declared.value.Value.TheVariants.{Text as Words}
 use Rattle.sqlite_value.specs.Order.{Row, column}
@@ -9,6 +11,9 @@ use Rattle.canary_tables_rows.specs.Limits.{FitsNumber, FitsMoment}
 use Rattle.canary_tables_schema.specs.Cells.{integer, whole_or_null}
 use Rattle.canary_tables_schema.specs.First.{first_schema}
 use Rattle.canary_tables_schema.specs.Formed.{HasRisingTables}
+use Rattle.canary_tables_schema.specs.Stores.{IsUsable}
+use Rattle.canary_tables_read.specs.declared.fault.ReadFault.{ReadFault}
+use Rattle.canary_tables_read.specs.declared.fault.ReadFault.TheVariants.{Broken}
 use Rattle.canary_tables_read.specs.declared.first.TemplateRow.{TemplateRow}
 use Rattle.canary_tables_read.specs.declared.first.FirstTally.{FirstTally}
 
@@ -42,6 +47,25 @@ AreTalliesIn db rows = map tally_shown (db.trees 11) ≡ map first_tally_cells r
 pub record IsFirst (db : Database) : Type 0 where
   pub schema : db.schema ≡ first_schema
   pub rising : HasRisingTables db
+
+-- it finds such a thing in a database of the first schema
+abbrev pub FindsFirst : {Q A F : Type 0} → (Database → A → Type 0) → (Q → State) → Q → Q
+    → Result A F → Type 0
+FindsFirst such shows old new result =
+    IsUsable (shows new) → IsFirst (shows old).now → IfOk result (such (shows old).now)
+
+-- and nothing else that is such a thing
+abbrev pub FindsOnly : {Q A F : Type 0} → (Database → A → Type 0) → (Q → State) → Q → Q
+    → Result A F → Type 0
+FindsOnly {A = A} such shows old new result = IsUsable (shows new) → IsFirst (shows old).now
+    → (all : A) → such (shows old).now all → IfOk result (λ found. found ≡ all)
+
+-- something is broken only where not all of those are within these limits
+abbrev pub BreaksFirst : {Q A X : Type 0} → (Database → List X → Type 0) → (X → Type 0)
+    → (Q → State) → Q → Q → Result A ReadFault → Type 0
+BreaksFirst {X = X} are Within shows old new result = IsUsable (shows new)
+    → IsFirst (shows old).now → result ≡ Err Broken
+    → (all : List X) → are (shows old).now all → ¬ AllByRecursion Within all
 
 -- The rows that a program can hold.
 

@@ -6,9 +6,11 @@ pub mod Sorts
 pub mod Pages
 pub mod Readable
 pub mod Breaks
+pub mod Chosen
 pub mod Faults
 pub mod TreeRows
 pub mod Meta
+pub mod Rows
 pub mod Reader
 pub mod First
 pub mod Metrics

@@ -1,12 +1,14 @@
 -- Measurements with their places, and how far those of a service are read.
-use Rattle.std.specs.Prelude.{◌≡◌, ◌+◌, ◌++◌, ℕ, suc, ℤ, int_le, List, [], ◌∷◌, length, map, filter, take, drop, slice_get, Option, None, option_map, IfSome}
+use Rattle.std.specs.Prelude.{Result, IfOk, ◌≡◌, ◌+◌, ◌++◌, ℕ, suc, ℤ, int_le, int_lt, List, [], ◌∷◌, length, map, filter, take, drop, slice_get, Option, None, option_map, IfSome}
 use Rattle.std.specs.List.{filter_map}
 use Rattle.sqlite.specs.Effect.{Database}
+use Rattle.sqlite.specs.State.{State}
 use Rattle.sqlite_value.specs.declared.value.Value.TheVariants.{Int}
 use Rattle.sqlite_value.specs.Order.{Row}
 use Rattle.canary_tables_rows.specs.declared.rows.MeasurementRow.{MeasurementRow}
 use Rattle.canary_tables_rows.specs.Tables.{Tables, is_measurement_of}
 use Rattle.canary_tables_schema.specs.Layout.{measurement_at}
+use Rattle.canary_tables_schema.specs.Stores.{IsUsable, Stores}
 use Rattle.canary_tables_schema.specs.Cells.{layout_of, measurement_cells, measurement_in}
 use Rattle.canary_tables_read.specs.declared.after.MeasurementAt.{MeasurementAt}
 
@@ -45,3 +47,24 @@ pub record IsPlacedPage (db : Database) (t : Tables) (service : List ℕ) (from 
   pub rows : map row_of page
       ≡ take most (drop from (filter (is_measurement_of service) t.measurements))
   pub marks : (i : ℕ) → IfSome (slice_get page i) (λ p. IsMark db service (from + suc i) p.place)
+
+-- so many of them from that one on, counted from 0
+abbrev pub placed_from : List ℕ → ℕ → ℕ → Database → List MeasurementAt
+placed_from service from most db = take most (drop from (placed_for service db))
+
+-- so many of those behind a place
+abbrev pub placed_after : List ℕ → ℤ → ℕ → Database → List MeasurementAt
+placed_after service place most db =
+    take most (filter (λ p. int_lt place p.place) (placed_for service db))
+
+-- it finds the page from that one on, if the place is where the page before it ends
+abbrev pub FindsPlaced : {Q F : Type 0} → List ℕ → ℕ → Option ℤ → ℕ → (Q → State) → Q → Q
+    → Result (List MeasurementAt) F → Type 0
+FindsPlaced service from place most shows old new result = IsUsable (shows new) → (t : Tables)
+    → Stores (shows old) t → IfSome place (IsMark (shows old).now service from)
+    → IfOk result (IsPlacedPage (shows old).now t service from most)
+
+-- the place, if there is one, is where a page ends
+abbrev pub MarksEnd : List MeasurementAt → Option ℤ → Type 0
+MarksEnd page place = (db : Database) (t : Tables) (service : List ℕ) (from most : ℕ)
+    → IsPlacedPage db t service from most page → IfSome place (IsMark db service (from + length page))

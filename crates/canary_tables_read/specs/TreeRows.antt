@@ -7,6 +7,7 @@ use Rattle.canary_tables_schema.specs.Layout.{Layout, service_at, run_at, measur
 use Rattle.canary_tables_schema.specs.Schema.{schema_at}
 use Rattle.canary_tables_schema.specs.Cells.{cells_of, caller_cells, kept_cells, service_cells, run_cells, measurement_cells, history_cells, revision_cells, binding_cells, tally_cells}
 use Rattle.canary_tables_schema.specs.Stores.{IsUsable}
+use Rattle.canary_tables_schema.specs.Formed.{IsFormed, HasRows, HasWholeTallies}
 use Rattle.canary_tables_read.specs.declared.fault.ReadFault.{ReadFault}
 use Rattle.canary_tables_read.specs.declared.fault.ReadFault.TheVariants.{Broken}
 
@@ -14,30 +15,74 @@ use Rattle.canary_tables_read.specs.declared.fault.ReadFault.TheVariants.{Broken
 abbrev pub HasCells : {X : Type 0} → (X → Row) → List Row → Type 0
 HasCells cells rows = (all : List _) × (cells_of rows ≡ map cells all)
 
+-- so in a table of a desk
+abbrev pub HasCallers : Layout → Database → Type 0
+HasCallers at db = HasCells caller_cells (db.trees 1)
+
+abbrev pub HasKept : Layout → Database → Type 0
+HasKept at db = HasCells kept_cells (db.trees 3)
+
+abbrev pub HasServices : Layout → Database → Type 0
+HasServices at db = HasCells service_cells (db.trees (service_at at))
+
+abbrev pub HasRuns : Layout → Database → Type 0
+HasRuns at db = HasCells run_cells (db.trees (run_at at))
+
+abbrev pub HasMeasurements : Layout → Database → Type 0
+HasMeasurements at db = HasCells measurement_cells (db.trees (measurement_at at))
+
+abbrev pub HasLines : Layout → Database → Type 0
+HasLines at db = HasCells history_cells (db.trees (history_at at))
+
+abbrev pub HasRevisions : Layout → Database → Type 0
+HasRevisions at db = HasCells revision_cells (db.trees (revision_at at))
+
+abbrev pub HasBindings : Layout → Database → Type 0
+HasBindings at db = HasCells binding_cells (db.trees (binding_at at))
+
+abbrev pub HasTallies : Layout → Database → Type 0
+HasTallies at db = HasCells tally_cells (db.trees (tally_at at))
+
 -- so in the tables of callers, of their requests, of services and of their runs
 pub record HasEarlyRows (at : Layout) (db : Database) : Type 0 where
-  pub callers : HasCells caller_cells (db.trees 1)
-  pub kept : HasCells kept_cells (db.trees 3)
-  pub services : HasCells service_cells (db.trees (service_at at))
-  pub runs : HasCells run_cells (db.trees (run_at at))
+  pub callers : HasCallers at db
+  pub kept : HasKept at db
+  pub services : HasServices at db
+  pub runs : HasRuns at db
 
 -- and in those of measurements, of histories, of revisions, of bindings and of tallies
 pub record HasLateRows (at : Layout) (db : Database) : Type 0 where
-  pub measurements : HasCells measurement_cells (db.trees (measurement_at at))
-  pub history : HasCells history_cells (db.trees (history_at at))
-  pub revisions : HasCells revision_cells (db.trees (revision_at at))
-  pub bindings : HasCells binding_cells (db.trees (binding_at at))
-  pub tallies : HasCells tally_cells (db.trees (tally_at at))
+  pub measurements : HasMeasurements at db
+  pub history : HasLines at db
+  pub revisions : HasRevisions at db
+  pub bindings : HasBindings at db
+  pub tallies : HasTallies at db
+
+-- where no cell is missing in tallies
+abbrev pub HasTalliesIfWhole : Layout → Database → Type 0
+HasTalliesIfWhole at db = HasWholeTallies db → HasTallies at db
+
+abbrev pub HasLateRowsIfWhole : Layout → Database → Type 0
+HasLateRowsIfWhole at db = HasWholeTallies db → HasLateRows at db
 
 -- it tells of a database of a desk's schema that this holds
-abbrev pub Assures : {A : Type 0} → (Layout → Database → Type 0) → State → State
+abbrev pub Assures : {Q A : Type 0} → (Layout → Database → Type 0) → (Q → State) → Q → Q
     → Result A ReadFault → Type 0
-Assures Holds old new result =
-    IsUsable new → (at : Layout) → old.now.schema ≡ schema_at at → OnOk result (Holds at old.now)
+Assures Holds shows old new result = IsUsable (shows new) → (at : Layout)
+    → (shows old).now.schema ≡ schema_at at → OnOk result (Holds at (shows old).now)
 
 -- and that something is broken only where it does not
-abbrev pub Denies : {A : Type 0} → (Layout → Database → Type 0) → State → State
+abbrev pub Denies : {Q A : Type 0} → (Layout → Database → Type 0) → (Q → State) → Q → Q
     → Result A ReadFault → Type 0
-Denies Holds old new result =
-    IsUsable new → (at : Layout) → old.now.schema ≡ schema_at at → result ≡ Err Broken
-    → ¬ Holds at old.now
+Denies Holds shows old new result = IsUsable (shows new) → (at : Layout)
+    → (shows old).now.schema ≡ schema_at at → result ≡ Err Broken → ¬ Holds at (shows old).now
+
+-- it tells of a desk's database that all its rows are those of a desk's tables
+abbrev pub AssuresAll : {Q A : Type 0} → (Q → State) → Q → Q → Result A ReadFault → Type 0
+AssuresAll shows old new result = IsUsable (shows new) → IsFormed (shows old).now
+    → HasWholeTallies (shows old).now → OnOk result (HasRows (shows old).now)
+
+-- and that they are broken only where they are not
+abbrev pub DeniesAll : {Q A : Type 0} → (Q → State) → Q → Q → Result A ReadFault → Type 0
+DeniesAll shows old new result = IsUsable (shows new) → IsFormed (shows old).now
+    → result ≡ Err Broken → ¬ HasRows (shows old).now

@@ -1,17 +1,12 @@
 //! The measurements of a service in pages, of which each may begin where another one ended.
-ghost use Rattle.std.specs.Prelude.{◌≡◌, ◌≢◌, ◌<◌, ◌+◌, ℕ, ℤ, List, Some, Err, IfOk, IfSome, length};
-ghost use Rattle.std.specs.Prelude.{take, drop, filter, int_lt};
-ghost use Rattle.std.specs.List.{AllByRecursion};
-ghost use Rattle.sqlite.specs.Effect.{Database};
+ghost use Rattle.std.specs.Prelude.{ℤ, ◌≡◌, ◌≢◌, ◌<◌, Some, Err, IfOk, IfSome, length};
 ghost use Rattle.sqlite.specs.Order.{column};
 ghost use Rattle.sqlite.specs.declared.types.Value.TheVariants.{Int};
 ghost use Rattle.canary_tables_rows.specs.Limits.{IsMeasurementWithin};
-ghost use Rattle.canary_tables_rows.specs.Tables.{Tables};
-ghost use Rattle.canary_tables_schema.specs.Stores.{IsUsable, Stores};
-ghost use Rattle.canary_tables_read.specs.Breaks.{BreaksUnless};
-ghost use Rattle.canary_tables_read.specs.Finds.{FindsRows};
-ghost use Rattle.canary_tables_read.specs.Places.{placed_for, IsMark, IsPlacedPage};
+ghost use Rattle.canary_tables_read.specs.Breaks.{BreaksUnless, MeasurementsWithin};
+ghost use Rattle.canary_tables_read.specs.Finds.{Gives};
 ghost use Rattle.canary_tables_read.specs.Reader.{Reads};
+ghost use Rattle.canary_tables_read.specs.Places.{placed_from, placed_after, FindsPlaced, MarksEnd};
 
 use crate::columns;
 use crate::fault::ReadFault;
@@ -94,11 +89,8 @@ pub fn measurements<Q: Reader>(
 ) -> Result<Listed<MeasurementAt>, ReadFault>
     requires ready { Q.IsReady conn.old }
     ensures reads { Reads Q.IsReady Q.place Q.below Q.shows conn.old conn.new }
-    ensures found { IsUsable (Q.shows conn.new) → (t : Tables) → Stores (Q.shows conn.old) t
-        → IfSome place (IsMark (Q.shows conn.old).now service.now from)
-        → IfOk result (IsPlacedPage (Q.shows conn.old).now t service.now from most) }
-    ensures broken { BreaksUnless (λ t. AllByRecursion IsMeasurementWithin t.measurements)
-        (Q.shows conn.old) (Q.shows conn.new) result }
+    ensures found { FindsPlaced service.now from place most Q.shows conn.old conn.new result }
+    ensures broken { BreaksUnless MeasurementsWithin Q.shows conn.old conn.new result }
 {
     match near_place(from, place, most) {
         Some(place) => after(conn, alloc, service, place, most),
@@ -109,9 +101,7 @@ pub fn measurements<Q: Reader>(
 /// The place of the last of a page: up to it stand as many of the service's measurements as up to
 /// the page's end. None where the page is empty.
 pub fn last_place(page: &[MeasurementAt]) -> Option<i64>
-    ensures { (db : Database) (t : Tables) (service : List ℕ) (from most : ℕ)
-        → IsPlacedPage db t service from most page.now
-        → IfSome result (IsMark db service (from + length page.now)) }
+    ensures { MarksEnd page.now result }
 {
     Some(page.last()?.place)
 }
@@ -142,11 +132,9 @@ fn from_index<Q: Reader>(
 ) -> Result<Listed<MeasurementAt>, ReadFault>
     requires ready { Q.IsReady conn.old }
     ensures reads { Reads Q.IsReady Q.place Q.below Q.shows conn.old conn.new }
-    ensures found { FindsRows
-        (λ _. take most (drop from (placed_for service.now (Q.shows conn.old).now)))
-        (Q.shows conn.old) (Q.shows conn.new) result }
-    ensures broken { BreaksUnless (λ t. AllByRecursion IsMeasurementWithin t.measurements)
-        (Q.shows conn.old) (Q.shows conn.new) result }
+    ensures found { Gives (λ _. placed_from service.now from most (Q.shows conn.old).now)
+        Q.shows conn.old conn.new result }
+    ensures broken { BreaksUnless MeasurementsWithin Q.shows conn.old conn.new result }
 {
     let offset = offset_of(from)?;
     let rows = conn.ask(
@@ -168,12 +156,9 @@ fn after<Q: Reader>(
 ) -> Result<Listed<MeasurementAt>, ReadFault>
     requires ready { Q.IsReady conn.old }
     ensures reads { Reads Q.IsReady Q.place Q.below Q.shows conn.old conn.new }
-    ensures found { FindsRows
-        (λ _. take most
-        (filter (λ p. int_lt place p.place) (placed_for service.now (Q.shows conn.old).now)))
-        (Q.shows conn.old) (Q.shows conn.new) result }
-    ensures broken { BreaksUnless (λ t. AllByRecursion IsMeasurementWithin t.measurements)
-        (Q.shows conn.old) (Q.shows conn.new) result }
+    ensures found { Gives (λ _. placed_after service.now place most (Q.shows conn.old).now)
+        Q.shows conn.old conn.new result }
+    ensures broken { BreaksUnless MeasurementsWithin Q.shows conn.old conn.new result }
 {
     let rows = conn.ask(
         "SELECT run, metric, ordinal, taken, phase, outcome, place FROM measurement \

@@ -1,13 +1,11 @@
 //! Callers, and what is kept of their requests.
-ghost use Rattle.std.specs.Prelude.{◌≡◌, ◌∷◌, false, filter, option_map};
-ghost use Rattle.std.specs.List.{AllByRecursion};
+ghost use Rattle.std.specs.Prelude.{◌∷◌, false};
 ghost use Rattle.sqlite.specs.declared.types.Value.TheVariants.{Text as Words};
-ghost use Rattle.canary_tables_rows.specs.Tables.{is_caller, is_kept};
-ghost use Rattle.canary_tables_rows.specs.Limits.{IsCallerWithin, IsKeptWithin};
 ghost use Rattle.canary_tables_schema.specs.Cells.{caller_cells, kept_cells};
-ghost use Rattle.canary_tables_read.specs.Finds.{FindsRows, FindsSuch, TellsCells, first};
-ghost use Rattle.canary_tables_read.specs.Breaks.{BreaksUnless};
+ghost use Rattle.canary_tables_read.specs.Finds.{Gives, Finds, TellsCells, first};
+ghost use Rattle.canary_tables_read.specs.Breaks.{BreaksUnless, CallersWithin, KeptWithin};
 ghost use Rattle.canary_tables_read.specs.Reader.{Reads};
+ghost use Rattle.canary_tables_read.specs.Chosen.{callers_of, kept_of, settled_of, first_kept};
 
 use crate::fault::ReadFault;
 use crate::from_row;
@@ -25,11 +23,8 @@ use std::alloc::Global;
 pub fn settled<Q: Reader>(conn: &mut Q, caller: &Name) -> Result<Option<u32>, ReadFault>
     requires ready { Q.IsReady conn.old }
     ensures reads { Reads Q.IsReady Q.place Q.below Q.shows conn.old conn.new }
-    ensures found { FindsRows
-        (λ t. option_map (λ row. row.settled) (first (filter (is_caller caller.now) t.callers)))
-        (Q.shows conn.old) (Q.shows conn.new) result }
-    ensures broken { BreaksUnless (λ t. AllByRecursion IsCallerWithin t.callers)
-        (Q.shows conn.old) (Q.shows conn.new) result }
+    ensures found { Gives (settled_of caller.now) Q.shows conn.old conn.new result }
+    ensures broken { BreaksUnless CallersWithin Q.shows conn.old conn.new result }
 {
     let rows = caller_shown(conn, caller)?;
     let found = from_row::first::<CallerRow>(caller, rows.as_slice())?;
@@ -45,10 +40,8 @@ pub fn caller_rows<Q: Reader>(
 ) -> Result<Listed<CallerRow>, ReadFault>
     requires ready { Q.IsReady conn.old }
     ensures reads { Reads Q.IsReady Q.place Q.below Q.shows conn.old conn.new }
-    ensures found { FindsRows (λ t. filter (is_caller name.now) t.callers)
-        (Q.shows conn.old) (Q.shows conn.new) result }
-    ensures broken { BreaksUnless (λ t. AllByRecursion IsCallerWithin t.callers)
-        (Q.shows conn.old) (Q.shows conn.new) result }
+    ensures found { Gives (callers_of name.now) Q.shows conn.old conn.new result }
+    ensures broken { BreaksUnless CallersWithin Q.shows conn.old conn.new result }
 {
     let rows = caller_shown(conn, name)?;
     from_row::all(alloc, name, rows.as_slice())
@@ -58,9 +51,8 @@ pub fn caller_rows<Q: Reader>(
 fn caller_shown<Q: Reader>(conn: &mut Q, name: &Name) -> Result<Vec<Row>, StoreFault>
     requires ready { Q.IsReady conn.old }
     ensures reads { Reads Q.IsReady Q.place Q.below Q.shows conn.old conn.new }
-    ensures found { FindsSuch (λ t rows. TellsCells caller_cells (λ row. Words name.now ∷ row)
-        (filter (is_caller name.now) t.callers) rows.items)
-        (Q.shows conn.old) (Q.shows conn.new) result }
+    ensures found { Finds (λ t rows. TellsCells caller_cells (λ row. Words name.now ∷ row)
+        (callers_of name.now t) rows.items) Q.shows conn.old conn.new result }
 {
     conn.ask(
         "SELECT settled FROM caller WHERE name = ?1 ORDER BY rowid",
@@ -78,10 +70,8 @@ pub fn kept<Q: Reader>(
 ) -> Result<Option<KeptRow>, ReadFault>
     requires ready { Q.IsReady conn.old }
     ensures reads { Reads Q.IsReady Q.place Q.below Q.shows conn.old conn.new }
-    ensures found { FindsRows (λ t. first (filter (is_kept caller.now number) t.kept))
-        (Q.shows conn.old) (Q.shows conn.new) result }
-    ensures broken { BreaksUnless (λ t. AllByRecursion IsKeptWithin t.kept)
-        (Q.shows conn.old) (Q.shows conn.new) result }
+    ensures found { Gives (first_kept caller.now number) Q.shows conn.old conn.new result }
+    ensures broken { BreaksUnless KeptWithin Q.shows conn.old conn.new result }
 {
     let rows = kept_shown(conn, caller, number)?;
     from_row::first(caller, rows.as_slice())
@@ -91,9 +81,8 @@ pub fn kept<Q: Reader>(
 fn kept_shown<Q: Reader>(conn: &mut Q, caller: &Name, number: u32) -> Result<Vec<Row>, StoreFault>
     requires ready { Q.IsReady conn.old }
     ensures reads { Reads Q.IsReady Q.place Q.below Q.shows conn.old conn.new }
-    ensures found { FindsSuch (λ t rows. TellsCells kept_cells (λ row. Words caller.now ∷ row)
-        (filter (is_kept caller.now number) t.kept) rows.items)
-        (Q.shows conn.old) (Q.shows conn.new) result }
+    ensures found { Finds (λ t rows. TellsCells kept_cells (λ row. Words caller.now ∷ row)
+        (kept_of caller.now number t) rows.items) Q.shows conn.old conn.new result }
 {
     conn.ask(
         "SELECT number, command, status, body FROM kept \

@@ -1,17 +1,13 @@
 //! Whether the rows of a desk's database are those of tables at all.
-ghost use Rattle.std.specs.Prelude.{◌≡◌, ◌∷◌, [], List, OnOk, Err};
-ghost use Rattle.sqlite.specs.Order.{Row as Cells};
-ghost use Rattle.sqlite.specs.State.{Shown};
-ghost use Rattle.canary_tables_schema.specs.Layout.{service_at, run_at, measurement_at, history_at};
-ghost use Rattle.canary_tables_schema.specs.Layout.{revision_at, binding_at, tally_at};
-ghost use Rattle.canary_tables_schema.specs.Stores.{IsUsable};
-ghost use Rattle.canary_tables_schema.specs.Formed.{IsFormed, HasRows, HasWholeTallies};
-ghost use Rattle.canary_tables_schema.specs.Cells.{caller_cells, kept_cells, service_cells, run_cells};
-ghost use Rattle.canary_tables_schema.specs.Cells.{measurement_cells, history_cells};
-ghost use Rattle.canary_tables_schema.specs.Cells.{revision_cells, binding_cells, tally_cells};
-ghost use Rattle.canary_tables_read.specs.TreeRows.{HasCells, HasEarlyRows, HasLateRows, Assures, Denies};
+ghost use Rattle.std.specs.Prelude.{Err};
+ghost use Rattle.canary_tables_read.specs.TreeRows.{HasEarlyRows, HasLateRows, Assures, Denies};
+ghost use Rattle.canary_tables_read.specs.TreeRows.{HasCallers, HasKept, HasServices, HasRuns};
+ghost use Rattle.canary_tables_read.specs.TreeRows.{HasMeasurements, HasLines, HasRevisions};
+ghost use Rattle.canary_tables_read.specs.TreeRows.{HasBindings, HasTallies, HasTalliesIfWhole};
+ghost use Rattle.canary_tables_read.specs.TreeRows.{HasLateRowsIfWhole, AssuresAll, DeniesAll};
 ghost use Rattle.canary_tables_read.specs.Queries.{IsQuery};
 ghost use Rattle.canary_tables_read.specs.Reader.{Reads};
+ghost use Rattle.canary_tables_read.specs.Rows.{ShowsNone, ShowsSome};
 
 use crate::fault::ReadFault;
 use crate::reader::Reader;
@@ -22,11 +18,8 @@ use crate::reader::Reader;
 pub fn check_types<Q: Reader>(conn: &mut Q) -> Result<(), ReadFault>
     requires ready { Q.IsReady conn.old }
     ensures reads { Reads Q.IsReady Q.place Q.below Q.shows conn.old conn.new }
-    ensures typed { IsUsable (Q.shows conn.new) → IsFormed (Q.shows conn.old).now
-        → HasWholeTallies (Q.shows conn.old).now
-        → OnOk result (HasRows (Q.shows conn.old).now) }
-    ensures broken { IsUsable (Q.shows conn.new) → IsFormed (Q.shows conn.old).now
-        → result ≡ Err ReadFault.Broken → ¬ HasRows (Q.shows conn.old).now }
+    ensures typed { AssuresAll Q.shows conn.old conn.new result }
+    ensures broken { DeniesAll Q.shows conn.old conn.new result }
 {
     conn.look();
     early_typed(conn)?;
@@ -38,10 +31,8 @@ pub fn check_types<Q: Reader>(conn: &mut Q) -> Result<(), ReadFault>
 fn early_typed<Q: Reader>(conn: &mut Q) -> Result<(), ReadFault>
     requires ready { Q.IsReady conn.old }
     ensures reads { Reads Q.IsReady Q.place Q.below Q.shows conn.old conn.new }
-    ensures typed { Assures HasEarlyRows
-        (Q.shows conn.old) (Q.shows conn.new) result }
-    ensures broken { Denies HasEarlyRows
-        (Q.shows conn.old) (Q.shows conn.new) result }
+    ensures typed { Assures HasEarlyRows Q.shows conn.old conn.new result }
+    ensures broken { Denies HasEarlyRows Q.shows conn.old conn.new result }
 {
     callers_typed(conn)?;
     kept_typed(conn)?;
@@ -54,10 +45,8 @@ fn early_typed<Q: Reader>(conn: &mut Q) -> Result<(), ReadFault>
 fn late_typed<Q: Reader>(conn: &mut Q) -> Result<(), ReadFault>
     requires ready { Q.IsReady conn.old }
     ensures reads { Reads Q.IsReady Q.place Q.below Q.shows conn.old conn.new }
-    ensures typed { Assures (λ at db. HasWholeTallies db → HasLateRows at db)
-        (Q.shows conn.old) (Q.shows conn.new) result }
-    ensures broken { Denies HasLateRows
-        (Q.shows conn.old) (Q.shows conn.new) result }
+    ensures typed { Assures HasLateRowsIfWhole Q.shows conn.old conn.new result }
+    ensures broken { Denies HasLateRows Q.shows conn.old conn.new result }
 {
     measurements_typed(conn)?;
     history_typed(conn)?;
@@ -70,10 +59,8 @@ fn late_typed<Q: Reader>(conn: &mut Q) -> Result<(), ReadFault>
 fn callers_typed<Q: Reader>(conn: &mut Q) -> Result<(), ReadFault>
     requires ready { Q.IsReady conn.old }
     ensures reads { Reads Q.IsReady Q.place Q.below Q.shows conn.old conn.new }
-    ensures typed { Assures (λ at db. HasCells caller_cells (db.trees 1))
-        (Q.shows conn.old) (Q.shows conn.new) result }
-    ensures broken { Denies (λ at db. HasCells caller_cells (db.trees 1))
-        (Q.shows conn.old) (Q.shows conn.new) result }
+    ensures typed { Assures HasCallers Q.shows conn.old conn.new result }
+    ensures broken { Denies HasCallers Q.shows conn.old conn.new result }
 {
     conn.look();
     none_shown(conn, "SELECT 1 FROM caller WHERE settled < 0 LIMIT 1")
@@ -83,10 +70,8 @@ fn callers_typed<Q: Reader>(conn: &mut Q) -> Result<(), ReadFault>
 fn kept_typed<Q: Reader>(conn: &mut Q) -> Result<(), ReadFault>
     requires ready { Q.IsReady conn.old }
     ensures reads { Reads Q.IsReady Q.place Q.below Q.shows conn.old conn.new }
-    ensures typed { Assures (λ at db. HasCells kept_cells (db.trees 3))
-        (Q.shows conn.old) (Q.shows conn.new) result }
-    ensures broken { Denies (λ at db. HasCells kept_cells (db.trees 3))
-        (Q.shows conn.old) (Q.shows conn.new) result }
+    ensures typed { Assures HasKept Q.shows conn.old conn.new result }
+    ensures broken { Denies HasKept Q.shows conn.old conn.new result }
 {
     conn.look();
     none_shown(
@@ -99,10 +84,8 @@ fn kept_typed<Q: Reader>(conn: &mut Q) -> Result<(), ReadFault>
 fn services_typed<Q: Reader>(conn: &mut Q) -> Result<(), ReadFault>
     requires ready { Q.IsReady conn.old }
     ensures reads { Reads Q.IsReady Q.place Q.below Q.shows conn.old conn.new }
-    ensures typed { Assures (λ at db. HasCells service_cells (db.trees (service_at at)))
-        (Q.shows conn.old) (Q.shows conn.new) result }
-    ensures broken { Denies (λ at db. HasCells service_cells (db.trees (service_at at)))
-        (Q.shows conn.old) (Q.shows conn.new) result }
+    ensures typed { Assures HasServices Q.shows conn.old conn.new result }
+    ensures broken { Denies HasServices Q.shows conn.old conn.new result }
 {
     conn.look();
     none_shown(
@@ -117,10 +100,8 @@ fn services_typed<Q: Reader>(conn: &mut Q) -> Result<(), ReadFault>
 fn runs_typed<Q: Reader>(conn: &mut Q) -> Result<(), ReadFault>
     requires ready { Q.IsReady conn.old }
     ensures reads { Reads Q.IsReady Q.place Q.below Q.shows conn.old conn.new }
-    ensures typed { Assures (λ at db. HasCells run_cells (db.trees (run_at at)))
-        (Q.shows conn.old) (Q.shows conn.new) result }
-    ensures broken { Denies (λ at db. HasCells run_cells (db.trees (run_at at)))
-        (Q.shows conn.old) (Q.shows conn.new) result }
+    ensures typed { Assures HasRuns Q.shows conn.old conn.new result }
+    ensures broken { Denies HasRuns Q.shows conn.old conn.new result }
 {
     conn.look();
     none_shown(
@@ -135,11 +116,8 @@ fn runs_typed<Q: Reader>(conn: &mut Q) -> Result<(), ReadFault>
 fn measurements_typed<Q: Reader>(conn: &mut Q) -> Result<(), ReadFault>
     requires ready { Q.IsReady conn.old }
     ensures reads { Reads Q.IsReady Q.place Q.below Q.shows conn.old conn.new }
-    ensures typed { Assures
-        (λ at db. HasCells measurement_cells (db.trees (measurement_at at)))
-        (Q.shows conn.old) (Q.shows conn.new) result }
-    ensures broken { Denies (λ at db. HasCells measurement_cells (db.trees (measurement_at at)))
-        (Q.shows conn.old) (Q.shows conn.new) result }
+    ensures typed { Assures HasMeasurements Q.shows conn.old conn.new result }
+    ensures broken { Denies HasMeasurements Q.shows conn.old conn.new result }
 {
     conn.look();
     none_shown(
@@ -153,10 +131,8 @@ fn measurements_typed<Q: Reader>(conn: &mut Q) -> Result<(), ReadFault>
 fn history_typed<Q: Reader>(conn: &mut Q) -> Result<(), ReadFault>
     requires ready { Q.IsReady conn.old }
     ensures reads { Reads Q.IsReady Q.place Q.below Q.shows conn.old conn.new }
-    ensures typed { Assures (λ at db. HasCells history_cells (db.trees (history_at at)))
-        (Q.shows conn.old) (Q.shows conn.new) result }
-    ensures broken { Denies (λ at db. HasCells history_cells (db.trees (history_at at)))
-        (Q.shows conn.old) (Q.shows conn.new) result }
+    ensures typed { Assures HasLines Q.shows conn.old conn.new result }
+    ensures broken { Denies HasLines Q.shows conn.old conn.new result }
 {
     conn.look();
     none_shown(conn, "SELECT 1 FROM history WHERE moment < 0 LIMIT 1")
@@ -166,10 +142,8 @@ fn history_typed<Q: Reader>(conn: &mut Q) -> Result<(), ReadFault>
 fn revisions_typed<Q: Reader>(conn: &mut Q) -> Result<(), ReadFault>
     requires ready { Q.IsReady conn.old }
     ensures reads { Reads Q.IsReady Q.place Q.below Q.shows conn.old conn.new }
-    ensures typed { Assures (λ at db. HasCells revision_cells (db.trees (revision_at at)))
-        (Q.shows conn.old) (Q.shows conn.new) result }
-    ensures broken { Denies (λ at db. HasCells revision_cells (db.trees (revision_at at)))
-        (Q.shows conn.old) (Q.shows conn.new) result }
+    ensures typed { Assures HasRevisions Q.shows conn.old conn.new result }
+    ensures broken { Denies HasRevisions Q.shows conn.old conn.new result }
 {
     conn.look();
     none_shown(conn, "SELECT 1 FROM revision WHERE revision < 0 LIMIT 1")
@@ -179,10 +153,8 @@ fn revisions_typed<Q: Reader>(conn: &mut Q) -> Result<(), ReadFault>
 fn bindings_typed<Q: Reader>(conn: &mut Q) -> Result<(), ReadFault>
     requires ready { Q.IsReady conn.old }
     ensures reads { Reads Q.IsReady Q.place Q.below Q.shows conn.old conn.new }
-    ensures typed { Assures (λ at db. HasCells binding_cells (db.trees (binding_at at)))
-        (Q.shows conn.old) (Q.shows conn.new) result }
-    ensures broken { Denies (λ at db. HasCells binding_cells (db.trees (binding_at at)))
-        (Q.shows conn.old) (Q.shows conn.new) result }
+    ensures typed { Assures HasBindings Q.shows conn.old conn.new result }
+    ensures broken { Denies HasBindings Q.shows conn.old conn.new result }
 {
     conn.look();
     none_shown(
@@ -195,11 +167,8 @@ fn bindings_typed<Q: Reader>(conn: &mut Q) -> Result<(), ReadFault>
 fn tallies_typed<Q: Reader>(conn: &mut Q) -> Result<(), ReadFault>
     requires ready { Q.IsReady conn.old }
     ensures reads { Reads Q.IsReady Q.place Q.below Q.shows conn.old conn.new }
-    ensures typed { Assures
-        (λ at db. HasWholeTallies db → HasCells tally_cells (db.trees (tally_at at)))
-        (Q.shows conn.old) (Q.shows conn.new) result }
-    ensures broken { Denies (λ at db. HasCells tally_cells (db.trees (tally_at at)))
-        (Q.shows conn.old) (Q.shows conn.new) result }
+    ensures typed { Assures HasTalliesIfWhole Q.shows conn.old conn.new result }
+    ensures broken { Denies HasTallies Q.shows conn.old conn.new result }
 {
     conn.look();
     none_shown(
@@ -215,11 +184,8 @@ fn none_shown<Q: Reader>(conn: &mut Q, text: &str) -> Result<(), ReadFault>
     requires ready { Q.IsReady conn.old }
     requires query { IsQuery text.now }
     ensures reads { Reads Q.IsReady Q.place Q.below Q.shows conn.old conn.new }
-    ensures none { IsUsable (Q.shows conn.new)
-        → OnOk result (Shown text.now [] (Q.shows conn.old) (Q.shows conn.new) []) }
-    ensures some { IsUsable (Q.shows conn.new) → result ≡ Err ReadFault.Broken
-        → (row : Cells) × (rows : List Cells)
-        × Shown text.now [] (Q.shows conn.old) (Q.shows conn.new) (row ∷ rows) }
+    ensures none { ShowsNone text.now Q.shows conn.old conn.new result }
+    ensures some { ShowsSome text.now Q.shows conn.old conn.new result }
 {
     let rows = conn.ask(text, &[])?;
     if rows.is_empty() {

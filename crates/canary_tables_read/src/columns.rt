@@ -1,13 +1,14 @@
 //! The values in the columns of a row that a query shows. A value that a program cannot hold is
 //! broken.
-ghost use Rattle.std.specs.Prelude.{◌≡◌, ◌≢◌, ◌<◌, ℕ, List, Option, Err, IfOk, IfErr, IfSome, OnOk};
-ghost use Rattle.std.specs.Prelude.{length, IsTrue, IsUtf8};
+ghost use Rattle.std.specs.Prelude.{◌≡◌, ◌≢◌, ◌<◌, Option, Err, IfOk, IfErr, IfSome, OnOk, length};
+ghost use Rattle.std.specs.Prelude.{IsTrue, IsUtf8};
 ghost use Rattle.sqlite.specs.Order.{column};
 ghost use Rattle.sqlite.specs.declared.types.Value.TheVariants.{Text as Words};
 ghost use Rattle.canary_base.specs.Names.{is_label, is_name};
 ghost use Rattle.canary_tables_rows.specs.Limits.{FitsNumber, FitsMoment};
 ghost use Rattle.canary_tables_schema.specs.Cells.{integer, whole_or_null};
 ghost use Rattle.canary_tables_read.specs.Faults.{column_fault};
+ghost use Rattle.canary_tables_read.specs.Breaks.{BreaksAt};
 
 use crate::fault::ReadFault;
 use canary_base::lists::Text;
@@ -19,8 +20,7 @@ use sqlite::{Error, ErrorCode, Row};
 /// That the row has so many columns, or `Broken`.
 pub(crate) fn has_width(row: &Row, width: usize) -> Result<(), ReadFault>
     ensures found { OnOk result (length row.now ≡ width) }
-    ensures broken { IfErr result (λ fault. (fault ≡ ReadFault.Broken)
-        × (length row.now ≢ width)) }
+    ensures broken { IfErr result (λ fault. (fault ≡ ReadFault.Broken) × (length row.now ≢ width)) }
 {
     if row.column_count() == width {
         Ok(())
@@ -43,8 +43,7 @@ fn fault_of(error: Error) -> ReadFault
 pub(crate) fn number_at(row: &Row, at: usize) -> Result<u32, ReadFault>
     requires { at < length row.now }
     ensures found { IfOk result (λ number. column row.now at ≡ integer number) }
-    ensures broken { result ≡ Err ReadFault.Broken
-        → (number : ℕ) → column row.now at ≡ integer number → ¬ FitsNumber number }
+    ensures broken { BreaksAt result row.now at integer FitsNumber }
     ensures unasked { result ≢ Err ReadFault.Storage }
 {
     row.get::<u32>(at).map_err(fault_of)
@@ -54,8 +53,7 @@ pub(crate) fn number_at(row: &Row, at: usize) -> Result<u32, ReadFault>
 pub(crate) fn maybe_number_at(row: &Row, at: usize) -> Result<Option<u32>, ReadFault>
     requires { at < length row.now }
     ensures found { IfOk result (λ number. column row.now at ≡ whole_or_null number) }
-    ensures broken { result ≡ Err ReadFault.Broken → (number : Option ℕ)
-        → column row.now at ≡ whole_or_null number → ¬ IfSome number FitsNumber }
+    ensures broken { BreaksAt result row.now at whole_or_null (λ number. IfSome number FitsNumber) }
     ensures unasked { result ≢ Err ReadFault.Storage }
 {
     row.get::<Option<u32>>(at).map_err(fault_of)
@@ -65,8 +63,7 @@ pub(crate) fn maybe_number_at(row: &Row, at: usize) -> Result<Option<u32>, ReadF
 pub(crate) fn moment_at(row: &Row, at: usize) -> Result<Moment, ReadFault>
     requires { at < length row.now }
     ensures found { IfOk result (λ moment. column row.now at ≡ integer moment) }
-    ensures broken { result ≡ Err ReadFault.Broken
-        → (moment : ℕ) → column row.now at ≡ integer moment → ¬ FitsMoment moment }
+    ensures broken { BreaksAt result row.now at integer FitsMoment }
     ensures unasked { result ≢ Err ReadFault.Storage }
 {
     let seconds = row.get::<u64>(at).map_err(fault_of)?;
@@ -77,8 +74,7 @@ pub(crate) fn moment_at(row: &Row, at: usize) -> Result<Moment, ReadFault>
 pub(crate) fn maybe_moment_at(row: &Row, at: usize) -> Result<Option<Moment>, ReadFault>
     requires { at < length row.now }
     ensures found { IfOk result (λ moment. column row.now at ≡ whole_or_null moment) }
-    ensures broken { result ≡ Err ReadFault.Broken → (moment : Option ℕ)
-        → column row.now at ≡ whole_or_null moment → ¬ IfSome moment FitsMoment }
+    ensures broken { BreaksAt result row.now at whole_or_null (λ moment. IfSome moment FitsMoment) }
     ensures unasked { result ≢ Err ReadFault.Storage }
 {
     let Some(seconds) = row.get::<Option<u64>>(at).map_err(fault_of)? else {
@@ -94,8 +90,7 @@ pub(crate) fn maybe_moment_at(row: &Row, at: usize) -> Result<Option<Moment>, Re
 pub(crate) fn text_at(row: &Row, at: usize) -> Result<Text, ReadFault>
     requires { at < length row.now }
     ensures found { IfOk result (λ text. column row.now at ≡ Words text) }
-    ensures broken { result ≡ Err ReadFault.Broken
-        → (text : List ℕ) → column row.now at ≡ Words text → ¬ IsUtf8 text }
+    ensures broken { BreaksAt result row.now at Words IsUtf8 }
     ensures unasked { result ≢ Err ReadFault.Storage }
 {
     Ok(Text::of(row.get::<String>(at).map_err(fault_of)?))
@@ -105,8 +100,7 @@ pub(crate) fn text_at(row: &Row, at: usize) -> Result<Text, ReadFault>
 pub(crate) fn label_at(row: &Row, at: usize) -> Result<Label, ReadFault>
     requires { at < length row.now }
     ensures found { IfOk result (λ label. column row.now at ≡ Words label) }
-    ensures broken { result ≡ Err ReadFault.Broken
-        → (label : List ℕ) → column row.now at ≡ Words label → ¬ IsTrue (is_label label) }
+    ensures broken { BreaksAt result row.now at Words (λ label. IsTrue (is_label label)) }
     ensures unasked { result ≢ Err ReadFault.Storage }
 {
     let ValueRef::Text(bytes) = row.get_ref(at).map_err(fault_of)? else {
@@ -119,8 +113,7 @@ pub(crate) fn label_at(row: &Row, at: usize) -> Result<Label, ReadFault>
 pub(crate) fn name_at(row: &Row, at: usize) -> Result<Name, ReadFault>
     requires { at < length row.now }
     ensures found { IfOk result (λ name. column row.now at ≡ Words name) }
-    ensures broken { result ≡ Err ReadFault.Broken
-        → (name : List ℕ) → column row.now at ≡ Words name → ¬ IsTrue (is_name name) }
+    ensures broken { BreaksAt result row.now at Words (λ name. IsTrue (is_name name)) }
     ensures unasked { result ≢ Err ReadFault.Storage }
 {
     let ValueRef::Text(bytes) = row.get_ref(at).map_err(fault_of)? else {

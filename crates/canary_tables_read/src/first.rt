@@ -1,14 +1,13 @@
 //! What the tables of the first schema hold that a desk's no longer do: its templates and its
 //! tallies.
-ghost use Rattle.std.specs.Prelude.{◌≡◌, ◌≢◌, List, IfOk, Err, map};
+ghost use Rattle.std.specs.Prelude.{◌≡◌, ◌≢◌, IfOk, Err, map};
 ghost use Rattle.std.specs.List.{AllByRecursion};
 ghost use Rattle.sqlite.specs.Order.{Row as Cells};
-ghost use Rattle.canary_tables_schema.specs.Stores.{IsUsable};
-ghost use Rattle.canary_tables_read.specs.declared.first.TemplateRow.{TemplateRow as OfTemplate};
-ghost use Rattle.canary_tables_read.specs.declared.first.FirstTally.{FirstTally as OfTally};
-ghost use Rattle.canary_tables_read.specs.First.{IsFirst, AreTemplatesIn, AreTalliesIn};
-ghost use Rattle.canary_tables_read.specs.First.{IsTemplateWithin, IsFirstTallyWithin};
+ghost use Rattle.canary_tables_read.specs.First.{AreTemplatesIn, AreTalliesIn, IsTemplateWithin};
+ghost use Rattle.canary_tables_read.specs.First.{IsFirstTallyWithin, FindsFirst, FindsOnly};
+ghost use Rattle.canary_tables_read.specs.First.{BreaksFirst};
 ghost use Rattle.canary_tables_read.specs.Reader.{Reads};
+ghost use Rattle.canary_tables_read.specs.Breaks.{BreaksIfNone};
 
 use crate::columns;
 use crate::fault::ReadFault;
@@ -52,8 +51,7 @@ pub(crate) trait FromFirstRow: Drop {
     /// hold no such row.
     fn read(row: &Row) -> Result<Self, ReadFault>
         ensures found { IfOk result (λ read. cells read ≡ row.now) }
-        ensures broken { result ≡ Err ReadFault.Broken
-            → (read : Self) → cells read ≡ row.now → ¬ Within read }
+        ensures broken { BreaksIfNone result (λ read. cells read ≡ row.now) Within }
         ensures unasked { result ≢ Err ReadFault.Storage };
 }
 
@@ -102,8 +100,7 @@ impl FromFirstRow for FirstTally {
 // hold one of them.
 fn all<R: FromFirstRow>(alloc: Global, rows: &[Row]) -> Result<Listed<R>, ReadFault>
     ensures found { IfOk result (λ all. map R.cells all ≡ rows.now) }
-    ensures broken { result ≡ Err ReadFault.Broken → (all : List R)
-        → map R.cells all ≡ rows.now → ¬ AllByRecursion R.Within all }
+    ensures broken { BreaksIfNone result (λ all. map R.cells all ≡ rows.now) (AllByRecursion R.Within) }
     ensures unasked { result ≢ Err ReadFault.Storage }
 {
     let mut all = Listed::of(Vec::new(alloc));
@@ -119,14 +116,9 @@ fn all<R: FromFirstRow>(alloc: Global, rows: &[Row]) -> Result<Listed<R>, ReadFa
 pub fn templates<Q: Reader>(conn: &mut Q, alloc: Global) -> Result<Listed<TemplateRow>, ReadFault>
     requires ready { Q.IsReady conn.old }
     ensures reads { Reads Q.IsReady Q.place Q.below Q.shows conn.old conn.new }
-    ensures found { IsUsable (Q.shows conn.new) → IsFirst (Q.shows conn.old).now
-        → IfOk result (AreTemplatesIn (Q.shows conn.old).now) }
-    ensures only { IsUsable (Q.shows conn.new) → IsFirst (Q.shows conn.old).now
-        → (all : List OfTemplate) → AreTemplatesIn (Q.shows conn.old).now all
-        → IfOk result (λ found. found ≡ all) }
-    ensures broken { IsUsable (Q.shows conn.new) → IsFirst (Q.shows conn.old).now
-        → result ≡ Err ReadFault.Broken → (all : List OfTemplate)
-        → AreTemplatesIn (Q.shows conn.old).now all → ¬ AllByRecursion IsTemplateWithin all }
+    ensures found { FindsFirst AreTemplatesIn Q.shows conn.old conn.new result }
+    ensures only { FindsOnly AreTemplatesIn Q.shows conn.old conn.new result }
+    ensures broken { BreaksFirst AreTemplatesIn IsTemplateWithin Q.shows conn.old conn.new result }
 {
     let rows = conn.ask("SELECT name, spec FROM template ORDER BY rowid", &[])?;
     all(alloc, rows.as_slice())
@@ -138,14 +130,9 @@ pub fn templates<Q: Reader>(conn: &mut Q, alloc: Global) -> Result<Listed<Templa
 pub fn tallies<Q: Reader>(conn: &mut Q, alloc: Global) -> Result<Listed<FirstTally>, ReadFault>
     requires ready { Q.IsReady conn.old }
     ensures reads { Reads Q.IsReady Q.place Q.below Q.shows conn.old conn.new }
-    ensures found { IsUsable (Q.shows conn.new) → IsFirst (Q.shows conn.old).now
-        → IfOk result (AreTalliesIn (Q.shows conn.old).now) }
-    ensures only { IsUsable (Q.shows conn.new) → IsFirst (Q.shows conn.old).now
-        → (all : List OfTally) → AreTalliesIn (Q.shows conn.old).now all
-        → IfOk result (λ found. found ≡ all) }
-    ensures broken { IsUsable (Q.shows conn.new) → IsFirst (Q.shows conn.old).now
-        → result ≡ Err ReadFault.Broken → (all : List OfTally)
-        → AreTalliesIn (Q.shows conn.old).now all → ¬ AllByRecursion IsFirstTallyWithin all }
+    ensures found { FindsFirst AreTalliesIn Q.shows conn.old conn.new result }
+    ensures only { FindsOnly AreTalliesIn Q.shows conn.old conn.new result }
+    ensures broken { BreaksFirst AreTalliesIn IsFirstTallyWithin Q.shows conn.old conn.new result }
 {
     let rows = conn.ask(
         "SELECT service, run, metric, counted, failed, inconclusive, errors, consecutive, last \

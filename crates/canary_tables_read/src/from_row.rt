@@ -1,14 +1,13 @@
 //! Rows of tables, each read from the columns that a query shows to one who knows its name.
-ghost use Rattle.std.specs.Prelude.{◌≡◌, ◌≢◌, ◌∷◌, ℕ, List, IfOk, Err, length, map, option_map};
+ghost use Rattle.std.specs.Prelude.{ℕ, ◌≡◌, ◌≢◌, ◌∷◌, List, IfOk, Err, length, map, option_map};
 ghost use Rattle.std.specs.Prelude.{slice_get};
 ghost use Rattle.std.specs.List.{AllByRecursion};
 ghost use Rattle.sqlite.specs.Order.{Row as Cells, column};
 ghost use Rattle.sqlite.specs.declared.types.Value.TheVariants.{Text as Words};
-ghost use Rattle.canary_tables_rows.specs.declared.rows.ServiceRow.{ServiceRow as OfService};
-ghost use Rattle.canary_tables_rows.specs.declared.rows.TallyRow.{TallyRow as OfTally};
 ghost use Rattle.canary_tables_rows.specs.Limits.{IsServiceWithin, IsTallyWithin};
 ghost use Rattle.canary_tables_schema.specs.Cells.{integer as number};
 ghost use Rattle.canary_tables_read.specs.Parts.{standing_cells, counts_cells};
+ghost use Rattle.canary_tables_read.specs.Breaks.{BreaksIfNone};
 
 use crate::columns;
 use crate::fault::ReadFault;
@@ -38,8 +37,7 @@ pub(crate) trait FromRow: Drop {
     /// a program can hold no such row.
     fn read(name: &Name, row: &Row) -> Result<Self, ReadFault>
         ensures found { IfOk result (λ read. cells read ≡ whole name.now row.now) }
-        ensures broken { result ≡ Err ReadFault.Broken
-            → (read : Self) → cells read ≡ whole name.now row.now → ¬ Within read }
+        ensures broken { BreaksIfNone result (λ read. cells read ≡ whole name.now row.now) Within }
         ensures unasked { result ≢ Err ReadFault.Storage };
 }
 
@@ -140,9 +138,8 @@ impl FromRow for ServiceRow {
 fn standing(row: &Row) -> Result<ServiceColumns, ReadFault>
     requires { length row.now ≡ 10 }
     ensures found { IfOk result (λ s. row.now ≡ column row.now 0 ∷ standing_cells s) }
-    ensures broken { result ≡ Err ReadFault.Broken → (service : OfService)
-        → row.now ≡ Words service.spec ∷ standing_cells service.standing
-        → ¬ IsServiceWithin service }
+    ensures broken { BreaksIfNone result
+        (λ s. row.now ≡ Words s.spec ∷ standing_cells s.standing) IsServiceWithin }
     ensures unasked { result ≢ Err ReadFault.Storage }
 {
     Ok(ServiceColumns {
@@ -240,9 +237,8 @@ fn counts(row: &Row) -> Result<Tally, ReadFault>
     requires { length row.now ≡ 9 }
     ensures found { IfOk result (λ c. row.now
         ≡ column row.now 0 ∷ column row.now 1 ∷ counts_cells c) }
-    ensures broken { result ≡ Err ReadFault.Broken → (tally : OfTally)
-        → row.now ≡ number tally.run ∷ number tally.metric ∷ counts_cells tally.counts
-        → ¬ IsTallyWithin tally }
+    ensures broken { BreaksIfNone result
+        (λ t. row.now ≡ number t.run ∷ number t.metric ∷ counts_cells t.counts) IsTallyWithin }
     ensures unasked { result ≢ Err ReadFault.Storage }
 {
     laws::consistent();
@@ -322,8 +318,8 @@ impl FromRow for HistoryRow {
 pub(crate) fn first<R: FromRow>(name: &Name, rows: &[Row]) -> Result<Option<R>, ReadFault>
     ensures found { IfOk result (λ found. option_map R.cells found
         ≡ option_map (R.whole name.now) (slice_get rows.now 0)) }
-    ensures broken { result ≡ Err ReadFault.Broken → (all : List R)
-        → map R.cells all ≡ map (R.whole name.now) rows.now → ¬ AllByRecursion R.Within all }
+    ensures broken { BreaksIfNone result (λ all. map R.cells all ≡ map (R.whole name.now) rows.now)
+        (AllByRecursion R.Within) }
     ensures unasked { result ≢ Err ReadFault.Storage }
 {
     match rows.first() {
@@ -340,8 +336,8 @@ pub(crate) fn all<R: FromRow>(
     rows: &[Row],
 ) -> Result<Listed<R>, ReadFault>
     ensures found { IfOk result (λ all. map R.cells all ≡ map (R.whole name.now) rows.now) }
-    ensures broken { result ≡ Err ReadFault.Broken → (all : List R)
-        → map R.cells all ≡ map (R.whole name.now) rows.now → ¬ AllByRecursion R.Within all }
+    ensures broken { BreaksIfNone result (λ all. map R.cells all ≡ map (R.whole name.now) rows.now)
+        (AllByRecursion R.Within) }
     ensures unasked { result ≢ Err ReadFault.Storage }
 {
     let mut all = Listed::of(Vec::new(alloc));

@@ -1,11 +1,9 @@
 //! What happened to a service: its history, and the measurements of its runs.
-ghost use Rattle.std.specs.Prelude.{◌≡◌, ◌≤◌, ◌^◌, pos, false, filter, take, drop, IfOk, IfErr};
-ghost use Rattle.std.specs.List.{AllByRecursion};
-ghost use Rattle.canary_tables_rows.specs.Tables.{is_line_of, is_measurement_of};
-ghost use Rattle.canary_tables_rows.specs.Limits.{IsLineWithin, IsMeasurementWithin};
-ghost use Rattle.canary_tables_read.specs.Finds.{FindsRows};
-ghost use Rattle.canary_tables_read.specs.Breaks.{BreaksUnless};
+ghost use Rattle.std.specs.Prelude.{◌≡◌, ◌≤◌, ◌^◌, pos, IfOk, IfErr, false};
+ghost use Rattle.canary_tables_read.specs.Finds.{Gives};
+ghost use Rattle.canary_tables_read.specs.Breaks.{BreaksUnless, MeasurementsWithin, LinesWithin};
 ghost use Rattle.canary_tables_read.specs.Reader.{Reads};
+ghost use Rattle.canary_tables_read.specs.Chosen.{measurements_of, lines_of, lines_from};
 
 use crate::fault::ReadFault;
 use crate::from_row;
@@ -25,10 +23,8 @@ pub fn history<Q: Reader>(
 ) -> Result<Listed<HistoryRow>, ReadFault>
     requires ready { Q.IsReady conn.old }
     ensures reads { Reads Q.IsReady Q.place Q.below Q.shows conn.old conn.new }
-    ensures found { FindsRows (λ t. filter (is_line_of service.now) t.history)
-        (Q.shows conn.old) (Q.shows conn.new) result }
-    ensures broken { BreaksUnless (λ t. AllByRecursion IsLineWithin t.history)
-        (Q.shows conn.old) (Q.shows conn.new) result }
+    ensures found { Gives (lines_of service.now) Q.shows conn.old conn.new result }
+    ensures broken { BreaksUnless LinesWithin Q.shows conn.old conn.new result }
 {
     let rows = conn.ask(
         "SELECT moment, line FROM history WHERE service = ?1 ORDER BY place",
@@ -60,11 +56,8 @@ pub fn lines<Q: Reader>(
 ) -> Result<Listed<HistoryRow>, ReadFault>
     requires ready { Q.IsReady conn.old }
     ensures reads { Reads Q.IsReady Q.place Q.below Q.shows conn.old conn.new }
-    ensures found { FindsRows
-        (λ t. take most (drop from (filter (is_line_of service.now) t.history)))
-        (Q.shows conn.old) (Q.shows conn.new) result }
-    ensures broken { BreaksUnless (λ t. AllByRecursion IsLineWithin t.history)
-        (Q.shows conn.old) (Q.shows conn.new) result }
+    ensures found { Gives (lines_from service.now from most) Q.shows conn.old conn.new result }
+    ensures broken { BreaksUnless LinesWithin Q.shows conn.old conn.new result }
 {
     let offset = offset_of(from)?;
     let rows = conn.ask(
@@ -83,10 +76,8 @@ pub fn measurement_rows<Q: Reader>(
 ) -> Result<Listed<MeasurementRow>, ReadFault>
     requires ready { Q.IsReady conn.old }
     ensures reads { Reads Q.IsReady Q.place Q.below Q.shows conn.old conn.new }
-    ensures found { FindsRows (λ t. filter (is_measurement_of service.now) t.measurements)
-        (Q.shows conn.old) (Q.shows conn.new) result }
-    ensures broken { BreaksUnless (λ t. AllByRecursion IsMeasurementWithin t.measurements)
-        (Q.shows conn.old) (Q.shows conn.new) result }
+    ensures found { Gives (measurements_of service.now) Q.shows conn.old conn.new result }
+    ensures broken { BreaksUnless MeasurementsWithin Q.shows conn.old conn.new result }
 {
     let rows = conn.ask(
         "SELECT run, metric, ordinal, taken, phase, outcome FROM measurement \

@@ -1,18 +1,17 @@
 //! What a desk asks of a file that it adopts: all callers, the keys of all revisions, the names of
 //! all services, and how many rows the other tables have.
-ghost use Rattle.std.specs.Prelude.{◌≡◌, ◌≢◌, false, ℕ, List, [], None, IfOk, IfSome, Err};
-ghost use Rattle.std.specs.Prelude.{length, map, min, slice_index_or};
-ghost use Rattle.std.specs.List.{AllByRecursion};
-ghost use Rattle.sqlite.specs.Order.{Row as Cells, column};
-ghost use Rattle.sqlite.specs.State.{Shown};
-ghost use Rattle.canary_tables_rows.specs.Limits.{IsCallerWithin, IsRevisionWithin, IsServiceWithin};
+ghost use Rattle.std.specs.Prelude.{ℕ, ◌≡◌, ◌≢◌, [], None, IfSome, Err, false, length, map};
+ghost use Rattle.std.specs.Prelude.{slice_index_or};
+ghost use Rattle.sqlite.specs.Order.{column};
 ghost use Rattle.canary_tables_schema.specs.Cells.{integer};
-ghost use Rattle.canary_tables_schema.specs.Stores.{IsUsable};
 ghost use Rattle.canary_tables_read.specs.Keys.{key_of};
 ghost use Rattle.canary_tables_read.specs.Queries.{IsQuery};
-ghost use Rattle.canary_tables_read.specs.Finds.{FindsRows};
-ghost use Rattle.canary_tables_read.specs.Breaks.{BreaksUnless};
+ghost use Rattle.canary_tables_read.specs.Finds.{Gives, Counts};
+ghost use Rattle.canary_tables_read.specs.Breaks.{BreaksUnless, CallersWithin, RevisionsWithin};
+ghost use Rattle.canary_tables_read.specs.Breaks.{ServicesWithin};
 ghost use Rattle.canary_tables_read.specs.Reader.{Reads};
+ghost use Rattle.canary_tables_read.specs.Chosen.{all_names};
+ghost use Rattle.canary_tables_read.specs.Rows.{ShowsCount};
 
 use crate::fault::ReadFault;
 use crate::held;
@@ -36,10 +35,8 @@ pub struct RevisionKey {
 pub fn callers<Q: Reader>(conn: &mut Q, alloc: Global) -> Result<Listed<CallerRow>, ReadFault>
     requires ready { Q.IsReady conn.old }
     ensures reads { Reads Q.IsReady Q.place Q.below Q.shows conn.old conn.new }
-    ensures found { FindsRows (λ t. t.callers)
-        (Q.shows conn.old) (Q.shows conn.new) result }
-    ensures broken { BreaksUnless (λ t. AllByRecursion IsCallerWithin t.callers)
-        (Q.shows conn.old) (Q.shows conn.new) result }
+    ensures found { Gives (λ t. t.callers) Q.shows conn.old conn.new result }
+    ensures broken { BreaksUnless CallersWithin Q.shows conn.old conn.new result }
 {
     let rows = conn.ask("SELECT name, settled FROM caller ORDER BY rowid", &[])?;
     held::all(alloc, rows.as_slice())
@@ -54,10 +51,8 @@ pub fn revision_keys<Q: Reader>(
 ) -> Result<Listed<RevisionKey>, ReadFault>
     requires ready { Q.IsReady conn.old }
     ensures reads { Reads Q.IsReady Q.place Q.below Q.shows conn.old conn.new }
-    ensures found { FindsRows (λ t. map key_of t.revisions)
-        (Q.shows conn.old) (Q.shows conn.new) result }
-    ensures broken { BreaksUnless (λ t. AllByRecursion IsRevisionWithin t.revisions)
-        (Q.shows conn.old) (Q.shows conn.new) result }
+    ensures found { Gives (λ t. map key_of t.revisions) Q.shows conn.old conn.new result }
+    ensures broken { BreaksUnless RevisionsWithin Q.shows conn.old conn.new result }
 {
     let rows = conn.ask("SELECT name, revision FROM revision ORDER BY rowid", &[])?;
     held::all(alloc, rows.as_slice())
@@ -69,10 +64,8 @@ pub fn revision_keys<Q: Reader>(
 pub fn service_names<Q: Reader>(conn: &mut Q, alloc: Global) -> Result<Listed<Name>, ReadFault>
     requires ready { Q.IsReady conn.old }
     ensures reads { Reads Q.IsReady Q.place Q.below Q.shows conn.old conn.new }
-    ensures found { FindsRows (λ t. map (λ row. row.name) t.services)
-        (Q.shows conn.old) (Q.shows conn.new) result }
-    ensures broken { BreaksUnless (λ t. AllByRecursion IsServiceWithin t.services)
-        (Q.shows conn.old) (Q.shows conn.new) result }
+    ensures found { Gives all_names Q.shows conn.old conn.new result }
+    ensures broken { BreaksUnless ServicesWithin Q.shows conn.old conn.new result }
 {
     let rows = conn.ask("SELECT name FROM service ORDER BY rowid", &[])?;
     held::all(alloc, rows.as_slice())
@@ -83,8 +76,7 @@ pub fn service_names<Q: Reader>(conn: &mut Q, alloc: Global) -> Result<Listed<Na
 pub fn kept_count<Q: Reader>(conn: &mut Q) -> Result<u64, ReadFault>
     requires ready { Q.IsReady conn.old }
     ensures reads { Reads Q.IsReady Q.place Q.below Q.shows conn.old conn.new }
-    ensures found { FindsRows (λ t. min (length t.kept) 9223372036854775807)
-        (Q.shows conn.old) (Q.shows conn.new) result }
+    ensures found { Counts (λ t. length t.kept) Q.shows conn.old conn.new result }
     ensures whole { result ≢ Err ReadFault.Broken }
 {
     count_of(conn, "SELECT count(*) FROM kept")
@@ -95,8 +87,7 @@ pub fn kept_count<Q: Reader>(conn: &mut Q) -> Result<u64, ReadFault>
 pub fn run_count<Q: Reader>(conn: &mut Q) -> Result<u64, ReadFault>
     requires ready { Q.IsReady conn.old }
     ensures reads { Reads Q.IsReady Q.place Q.below Q.shows conn.old conn.new }
-    ensures found { FindsRows (λ t. min (length t.runs) 9223372036854775807)
-        (Q.shows conn.old) (Q.shows conn.new) result }
+    ensures found { Counts (λ t. length t.runs) Q.shows conn.old conn.new result }
     ensures whole { result ≢ Err ReadFault.Broken }
 {
     count_of(conn, "SELECT count(*) FROM run")
@@ -107,8 +98,7 @@ pub fn run_count<Q: Reader>(conn: &mut Q) -> Result<u64, ReadFault>
 pub fn binding_count<Q: Reader>(conn: &mut Q) -> Result<u64, ReadFault>
     requires ready { Q.IsReady conn.old }
     ensures reads { Reads Q.IsReady Q.place Q.below Q.shows conn.old conn.new }
-    ensures found { FindsRows (λ t. min (length t.bindings) 9223372036854775807)
-        (Q.shows conn.old) (Q.shows conn.new) result }
+    ensures found { Counts (λ t. length t.bindings) Q.shows conn.old conn.new result }
     ensures whole { result ≢ Err ReadFault.Broken }
 {
     count_of(conn, "SELECT count(*) FROM binding")
@@ -119,8 +109,7 @@ pub fn binding_count<Q: Reader>(conn: &mut Q) -> Result<u64, ReadFault>
 pub fn tally_count<Q: Reader>(conn: &mut Q) -> Result<u64, ReadFault>
     requires ready { Q.IsReady conn.old }
     ensures reads { Reads Q.IsReady Q.place Q.below Q.shows conn.old conn.new }
-    ensures found { FindsRows (λ t. min (length t.tallies) 9223372036854775807)
-        (Q.shows conn.old) (Q.shows conn.new) result }
+    ensures found { Counts (λ t. length t.tallies) Q.shows conn.old conn.new result }
     ensures whole { result ≢ Err ReadFault.Broken }
 {
     count_of(conn, "SELECT count(*) FROM tally")
@@ -131,8 +120,7 @@ pub fn tally_count<Q: Reader>(conn: &mut Q) -> Result<u64, ReadFault>
 pub fn measurement_count<Q: Reader>(conn: &mut Q) -> Result<u64, ReadFault>
     requires ready { Q.IsReady conn.old }
     ensures reads { Reads Q.IsReady Q.place Q.below Q.shows conn.old conn.new }
-    ensures found { FindsRows (λ t. min (length t.measurements) 9223372036854775807)
-        (Q.shows conn.old) (Q.shows conn.new) result }
+    ensures found { Counts (λ t. length t.measurements) Q.shows conn.old conn.new result }
     ensures whole { result ≢ Err ReadFault.Broken }
 {
     count_of(conn, "SELECT count(*) FROM measurement")
@@ -143,8 +131,7 @@ pub fn measurement_count<Q: Reader>(conn: &mut Q) -> Result<u64, ReadFault>
 pub fn history_count<Q: Reader>(conn: &mut Q) -> Result<u64, ReadFault>
     requires ready { Q.IsReady conn.old }
     ensures reads { Reads Q.IsReady Q.place Q.below Q.shows conn.old conn.new }
-    ensures found { FindsRows (λ t. min (length t.history) 9223372036854775807)
-        (Q.shows conn.old) (Q.shows conn.new) result }
+    ensures found { Counts (λ t. length t.history) Q.shows conn.old conn.new result }
     ensures whole { result ≢ Err ReadFault.Broken }
 {
     count_of(conn, "SELECT count(*) FROM history")
@@ -155,9 +142,7 @@ fn count_of<Q: Reader>(conn: &mut Q, text: &str) -> Result<u64, ReadFault>
     requires ready { Q.IsReady conn.old }
     requires query { IsQuery text.now }
     ensures reads { Reads Q.IsReady Q.place Q.below Q.shows conn.old conn.new }
-    ensures shown { IsUsable (Q.shows conn.new) → IfOk result (λ count. (rows : List Cells)
-        × Shown text.now [] (Q.shows conn.old) (Q.shows conn.new) rows
-        × (column (slice_index_or rows 0 []) 0 ≡ integer count)) }
+    ensures shown { ShowsCount text.now Q.shows conn.old conn.new result }
     ensures whole { result ≢ Err ReadFault.Broken }
 {
     let rows = conn.ask(text, &[])?;

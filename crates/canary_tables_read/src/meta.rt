@@ -1,13 +1,12 @@
 //! Which rows stand in `meta`, by which a database says of which schema it is.
-ghost use Rattle.std.specs.Prelude.{◌≡◌, ◌≢◌, IfOk, Err};
+ghost use Rattle.std.specs.Prelude.{◌≡◌, ◌≢◌, Err};
 ghost use Rattle.canary_tables_schema.specs.Cells.{meta_rows};
 ghost use Rattle.canary_tables_schema.specs.First.{HasFirstMeta};
-ghost use Rattle.canary_tables_schema.specs.Formed.{IsDeskSchema, IsRising};
-ghost use Rattle.canary_tables_schema.specs.Stores.{IsUsable};
-ghost use Rattle.canary_tables_read.specs.First.{IsFirst};
-ghost use Rattle.canary_tables_read.specs.Meta.{Stands, standing as standing_by, IsShown};
+ghost use Rattle.canary_tables_read.specs.Meta.{Stands, standing as standing_by, FindsRisen};
 ghost use Rattle.canary_tables_read.specs.Queries.{IsQuery};
 ghost use Rattle.canary_tables_read.specs.Reader.{Reads};
+ghost use Rattle.canary_tables_read.specs.First.{FindsFirst};
+ghost use Rattle.canary_tables_read.specs.Rows.{ShowsAny};
 
 use crate::fault::ReadFault;
 use crate::reader::Reader;
@@ -28,11 +27,8 @@ pub enum MetaRow {
 pub fn desk_row<Q: Reader>(conn: &mut Q) -> Result<MetaRow, ReadFault>
     requires ready { Q.IsReady conn.old }
     ensures reads { Reads Q.IsReady Q.place Q.below Q.shows conn.old conn.new }
-    ensures found { IsUsable (Q.shows conn.new)
-        → IsDeskSchema (Q.shows conn.old).now.schema
-        → IsRising (Q.shows conn.old).now
-        → IfOk result (Stands 2 ((Q.shows conn.old).now.trees 0 ≡ meta_rows)
-        ((Q.shows conn.old).now.trees 0)) }
+    ensures found { FindsRisen (λ db. Stands 2 (db.trees 0 ≡ meta_rows) (db.trees 0))
+        Q.shows conn.old conn.new result }
     ensures whole { result ≢ Err ReadFault.Broken }
 {
     conn.look();
@@ -49,9 +45,8 @@ pub fn desk_row<Q: Reader>(conn: &mut Q) -> Result<MetaRow, ReadFault>
 pub fn first_row<Q: Reader>(conn: &mut Q) -> Result<MetaRow, ReadFault>
     requires ready { Q.IsReady conn.old }
     ensures reads { Reads Q.IsReady Q.place Q.below Q.shows conn.old conn.new }
-    ensures found { IsUsable (Q.shows conn.new) → IsFirst (Q.shows conn.old).now
-        → IfOk result (Stands 1 (HasFirstMeta ((Q.shows conn.old).now.trees 0))
-        ((Q.shows conn.old).now.trees 0)) }
+    ensures found { FindsFirst (λ db. Stands 1 (HasFirstMeta (db.trees 0)) (db.trees 0))
+        Q.shows conn.old conn.new result }
     ensures whole { result ≢ Err ReadFault.Broken }
 {
     conn.look();
@@ -79,8 +74,7 @@ fn is_shown<Q: Reader>(conn: &mut Q, text: &str) -> Result<bool, ReadFault>
     requires ready { Q.IsReady conn.old }
     requires query { IsQuery text.now }
     ensures reads { Reads Q.IsReady Q.place Q.below Q.shows conn.old conn.new }
-    ensures shown { IsUsable (Q.shows conn.new)
-        → IfOk result (IsShown text.now (Q.shows conn.old) (Q.shows conn.new)) }
+    ensures shown { ShowsAny text.now Q.shows conn.old conn.new result }
     ensures whole { result ≢ Err ReadFault.Broken }
 {
     let rows = conn.ask(text, &[])?;

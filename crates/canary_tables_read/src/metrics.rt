@@ -1,11 +1,8 @@
 //! The measurements of one metric of a run.
-ghost use Rattle.std.specs.Prelude.{◌≡◌, filter};
-ghost use Rattle.std.specs.List.{AllByRecursion};
-ghost use Rattle.canary_tables_rows.specs.Limits.{IsMeasurementWithin};
-ghost use Rattle.canary_tables_read.specs.Breaks.{BreaksUnless};
-ghost use Rattle.canary_tables_read.specs.Finds.{FindsRows};
-ghost use Rattle.canary_tables_read.specs.Metrics.{is_measurement_in};
+ghost use Rattle.canary_tables_read.specs.Breaks.{BreaksUnless, MeasurementsWithin};
+ghost use Rattle.canary_tables_read.specs.Finds.{Gives};
 ghost use Rattle.canary_tables_read.specs.Reader.{Reads};
+ghost use Rattle.canary_tables_read.specs.Chosen.{measured_in};
 
 use crate::fault::ReadFault;
 use crate::from_row;
@@ -28,11 +25,8 @@ pub fn measurements<Q: Reader>(
 ) -> Result<Listed<MeasurementRow>, ReadFault>
     requires ready { Q.IsReady conn.old }
     ensures reads { Reads Q.IsReady Q.place Q.below Q.shows conn.old conn.new }
-    ensures found { FindsRows
-        (λ t. filter (is_measurement_in service.now run metric) t.measurements)
-        (Q.shows conn.old) (Q.shows conn.new) result }
-    ensures broken { BreaksUnless (λ t. AllByRecursion IsMeasurementWithin t.measurements)
-        (Q.shows conn.old) (Q.shows conn.new) result }
+    ensures found { Gives (measured_in service.now run metric) Q.shows conn.old conn.new result }
+    ensures broken { BreaksUnless MeasurementsWithin Q.shows conn.old conn.new result }
 {
     let rows = conn.ask(
         "SELECT run, metric, ordinal, taken, phase, outcome FROM measurement \

@@ -1,14 +1,12 @@
 //! Rows in pages, of which each is of so many keys at most.
-ghost use Rattle.std.specs.Prelude.{◌≡◌, filter};
-ghost use Rattle.std.specs.List.{AllByRecursion};
-ghost use Rattle.canary_tables_rows.specs.Limits.{IsKeptWithin, IsRunWithin, IsBindingWithin};
-ghost use Rattle.canary_tables_rows.specs.Limits.{IsTallyWithin};
-ghost use Rattle.canary_tables_read.specs.Breaks.{BreaksUnless};
-ghost use Rattle.canary_tables_read.specs.Finds.{FindsRows, FindsSuch};
-ghost use Rattle.canary_tables_read.specs.Pages.{is_kept_between, number_of_kept, is_run_between};
-ghost use Rattle.canary_tables_read.specs.Pages.{is_binding_between, is_tally_between};
+ghost use Rattle.canary_tables_read.specs.Breaks.{BreaksUnless, KeptWithin, BindingsWithin};
+ghost use Rattle.canary_tables_read.specs.Breaks.{RunsWithin, TalliesWithin};
+ghost use Rattle.canary_tables_read.specs.Finds.{Gives, Finds};
+ghost use Rattle.canary_tables_read.specs.Pages.{number_of_kept};
 ghost use Rattle.canary_tables_read.specs.Sorts.{Sorts};
 ghost use Rattle.canary_tables_read.specs.Reader.{Reads};
+ghost use Rattle.canary_tables_read.specs.Chosen.{kept_after, bindings_after, runs_after};
+ghost use Rattle.canary_tables_read.specs.Chosen.{tallies_after};
 
 use crate::fault::ReadFault;
 use crate::from_row;
@@ -31,11 +29,9 @@ pub fn kept<Q: Reader>(
 ) -> Result<Listed<KeptRow>, ReadFault>
     requires ready { Q.IsReady conn.old }
     ensures reads { Reads Q.IsReady Q.place Q.below Q.shows conn.old conn.new }
-    ensures found { FindsSuch
-        (λ t. Sorts number_of_kept (filter (is_kept_between caller.now after last) t.kept))
-        (Q.shows conn.old) (Q.shows conn.new) result }
-    ensures broken { BreaksUnless (λ t. AllByRecursion IsKeptWithin t.kept)
-        (Q.shows conn.old) (Q.shows conn.new) result }
+    ensures found { Finds (λ t. Sorts number_of_kept (kept_after caller.now after last t))
+        Q.shows conn.old conn.new result }
+    ensures broken { BreaksUnless KeptWithin Q.shows conn.old conn.new result }
 {
     let rows = conn.ask(
         "SELECT number, command, status, body FROM kept \
@@ -57,11 +53,8 @@ pub fn runs<Q: Reader>(
 ) -> Result<Listed<RunRow>, ReadFault>
     requires ready { Q.IsReady conn.old }
     ensures reads { Reads Q.IsReady Q.place Q.below Q.shows conn.old conn.new }
-    ensures found { FindsRows
-        (λ t. filter (is_run_between service.now after last) t.runs)
-        (Q.shows conn.old) (Q.shows conn.new) result }
-    ensures broken { BreaksUnless (λ t. AllByRecursion IsRunWithin t.runs)
-        (Q.shows conn.old) (Q.shows conn.new) result }
+    ensures found { Gives (runs_after service.now after last) Q.shows conn.old conn.new result }
+    ensures broken { BreaksUnless RunsWithin Q.shows conn.old conn.new result }
 {
     let rows = conn.ask(
         "SELECT number, step, started, closed, outside, verdict FROM run \
@@ -84,11 +77,8 @@ pub fn bindings<Q: Reader>(
 ) -> Result<Listed<BindingRow>, ReadFault>
     requires ready { Q.IsReady conn.old }
     ensures reads { Reads Q.IsReady Q.place Q.below Q.shows conn.old conn.new }
-    ensures found { FindsRows
-        (λ t. filter (is_binding_between service.now after last) t.bindings)
-        (Q.shows conn.old) (Q.shows conn.new) result }
-    ensures broken { BreaksUnless (λ t. AllByRecursion IsBindingWithin t.bindings)
-        (Q.shows conn.old) (Q.shows conn.new) result }
+    ensures found { Gives (bindings_after service.now after last) Q.shows conn.old conn.new result }
+    ensures broken { BreaksUnless BindingsWithin Q.shows conn.old conn.new result }
 {
     let rows = conn.ask(
         "SELECT run, template, revision FROM binding \
@@ -110,11 +100,8 @@ pub fn tallies<Q: Reader>(
 ) -> Result<Listed<TallyRow>, ReadFault>
     requires ready { Q.IsReady conn.old }
     ensures reads { Reads Q.IsReady Q.place Q.below Q.shows conn.old conn.new }
-    ensures found { FindsRows
-        (λ t. filter (is_tally_between service.now after last) t.tallies)
-        (Q.shows conn.old) (Q.shows conn.new) result }
-    ensures broken { BreaksUnless (λ t. AllByRecursion IsTallyWithin t.tallies)
-        (Q.shows conn.old) (Q.shows conn.new) result }
+    ensures found { Gives (tallies_after service.now after last) Q.shows conn.old conn.new result }
+    ensures broken { BreaksUnless TalliesWithin Q.shows conn.old conn.new result }
 {
     let rows = conn.ask(
         "SELECT run, metric, counted, failed, inconclusive, errors, consecutive, passes, last \

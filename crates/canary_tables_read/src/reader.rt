@@ -1,5 +1,5 @@
 //! What reads a desk's tables: a connection outside of a transaction, or a transaction.
-ghost use Rattle.std.specs.Prelude.{◌≡◌, false, ℕ, IfOk, IfErr};
+ghost use Rattle.std.specs.Prelude.{ℕ, ◌≡◌, false, IfOk, IfErr};
 ghost use Rattle.sqlite.specs.State.{State, Shown, HasCleanDisk};
 ghost use Rattle.sqlite.specs.Effect.{IsDatabase};
 ghost use Rattle.sqlite.specs.Values.{bound};

@@ -1,13 +1,10 @@
 //! Runs, and the counts of their metrics.
-ghost use Rattle.std.specs.Prelude.{◌≡◌, false, filter, IfOk};
-ghost use Rattle.std.specs.List.{AllByRecursion};
-ghost use Rattle.canary_tables_rows.specs.Tables.{is_run, is_open_run_of, is_tally_of};
-ghost use Rattle.canary_tables_rows.specs.Limits.{IsRunWithin, IsTallyWithin};
-ghost use Rattle.canary_tables_read.specs.Breaks.{BreaksUnless};
-ghost use Rattle.canary_tables_read.specs.Finds.{FindsRows, FindsSuch, first};
-ghost use Rattle.canary_tables_read.specs.Sorts.{Sorts, IsFront, is_open, is_run_of};
-ghost use Rattle.canary_tables_read.specs.Sorts.{number_of, metric_of};
+ghost use Rattle.std.specs.Prelude.{◌≡◌, filter, IfOk, false};
+ghost use Rattle.canary_tables_read.specs.Breaks.{BreaksUnless, RunsWithin, TalliesWithin};
+ghost use Rattle.canary_tables_read.specs.Finds.{Gives, Finds, first};
+ghost use Rattle.canary_tables_read.specs.Sorts.{Sorts, is_open, number_of, metric_of};
 ghost use Rattle.canary_tables_read.specs.Reader.{Reads};
+ghost use Rattle.canary_tables_read.specs.Chosen.{open_runs_of, tallies_of, run_of, IsFrontOf};
 
 use crate::fault::ReadFault;
 use crate::from_row;
@@ -29,10 +26,8 @@ pub fn run<Q: Reader>(
 ) -> Result<Option<RunRow>, ReadFault>
     requires ready { Q.IsReady conn.old }
     ensures reads { Reads Q.IsReady Q.place Q.below Q.shows conn.old conn.new }
-    ensures found { FindsRows (λ t. first (filter (is_run service.now number) t.runs))
-        (Q.shows conn.old) (Q.shows conn.new) result }
-    ensures broken { BreaksUnless (λ t. AllByRecursion IsRunWithin t.runs)
-        (Q.shows conn.old) (Q.shows conn.new) result }
+    ensures found { Gives (run_of service.now number) Q.shows conn.old conn.new result }
+    ensures broken { BreaksUnless RunsWithin Q.shows conn.old conn.new result }
 {
     let rows = conn.ask(
         "SELECT number, step, started, closed, outside, verdict FROM run \
@@ -51,10 +46,8 @@ pub fn open_runs<Q: Reader>(
 ) -> Result<Listed<RunRow>, ReadFault>
     requires ready { Q.IsReady conn.old }
     ensures reads { Reads Q.IsReady Q.place Q.below Q.shows conn.old conn.new }
-    ensures found { FindsSuch (λ t. Sorts number_of (filter (is_open_run_of service.now) t.runs))
-        (Q.shows conn.old) (Q.shows conn.new) result }
-    ensures broken { BreaksUnless (λ t. AllByRecursion IsRunWithin t.runs)
-        (Q.shows conn.old) (Q.shows conn.new) result }
+    ensures found { Finds (λ t. Sorts number_of (open_runs_of service.now t)) Q.shows conn.old conn.new result }
+    ensures broken { BreaksUnless RunsWithin Q.shows conn.old conn.new result }
 {
     let front = front_runs(conn, alloc, service)?;
     let open = open_among(alloc, front.as_slice())?;
@@ -73,10 +66,8 @@ fn front_runs<Q: Reader>(
 ) -> Result<Listed<RunRow>, ReadFault>
     requires ready { Q.IsReady conn.old }
     ensures reads { Reads Q.IsReady Q.place Q.below Q.shows conn.old conn.new }
-    ensures found { FindsSuch (λ t. IsFront 3 (filter (is_run_of service.now) t.runs))
-        (Q.shows conn.old) (Q.shows conn.new) result }
-    ensures broken { BreaksUnless (λ t. AllByRecursion IsRunWithin t.runs)
-        (Q.shows conn.old) (Q.shows conn.new) result }
+    ensures found { Finds (IsFrontOf service.now) Q.shows conn.old conn.new result }
+    ensures broken { BreaksUnless RunsWithin Q.shows conn.old conn.new result }
 {
     let rows = conn.ask(
         "SELECT number, step, started, closed, outside, verdict FROM run \
@@ -94,10 +85,8 @@ fn all_open_runs<Q: Reader>(
 ) -> Result<Listed<RunRow>, ReadFault>
     requires ready { Q.IsReady conn.old }
     ensures reads { Reads Q.IsReady Q.place Q.below Q.shows conn.old conn.new }
-    ensures found { FindsSuch (λ t. Sorts number_of (filter (is_open_run_of service.now) t.runs))
-        (Q.shows conn.old) (Q.shows conn.new) result }
-    ensures broken { BreaksUnless (λ t. AllByRecursion IsRunWithin t.runs)
-        (Q.shows conn.old) (Q.shows conn.new) result }
+    ensures found { Finds (λ t. Sorts number_of (open_runs_of service.now t)) Q.shows conn.old conn.new result }
+    ensures broken { BreaksUnless RunsWithin Q.shows conn.old conn.new result }
 {
     let rows = conn.ask(
         "SELECT number, step, started, closed, outside, verdict FROM run \
@@ -139,11 +128,9 @@ pub fn tallies<Q: Reader>(
 ) -> Result<Listed<TallyRow>, ReadFault>
     requires ready { Q.IsReady conn.old }
     ensures reads { Reads Q.IsReady Q.place Q.below Q.shows conn.old conn.new }
-    ensures found { FindsSuch
-        (λ t. Sorts metric_of (filter (is_tally_of service.now run) t.tallies))
-        (Q.shows conn.old) (Q.shows conn.new) result }
-    ensures broken { BreaksUnless (λ t. AllByRecursion IsTallyWithin t.tallies)
-        (Q.shows conn.old) (Q.shows conn.new) result }
+    ensures found { Finds (λ t. Sorts metric_of (tallies_of service.now run t))
+        Q.shows conn.old conn.new result }
+    ensures broken { BreaksUnless TalliesWithin Q.shows conn.old conn.new result }
 {
     let rows = conn.ask(
         "SELECT run, metric, counted, failed, inconclusive, errors, consecutive, passes, last \

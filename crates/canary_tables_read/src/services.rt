@@ -1,14 +1,14 @@
 //! Revisions of templates, services, and to which revisions these are bound.
-ghost use Rattle.std.specs.Prelude.{◌≡◌, ◌≢◌, ◌∷◌, false, filter, Err};
-ghost use Rattle.std.specs.List.{list_any, AllByRecursion};
+ghost use Rattle.std.specs.Prelude.{◌≢◌, ◌∷◌, Err, false};
 ghost use Rattle.sqlite.specs.declared.types.Value.TheVariants.{Text as Words};
-ghost use Rattle.canary_tables_rows.specs.Tables.{is_revision, is_revision_of, is_service, is_binding_of};
-ghost use Rattle.canary_tables_rows.specs.Limits.{IsRevisionWithin, IsServiceWithin, IsBindingWithin};
-ghost use Rattle.canary_tables_rows.specs.Newest.{IsNewest};
 ghost use Rattle.canary_tables_schema.specs.Cells.{revision_cells, service_cells};
-ghost use Rattle.canary_tables_read.specs.Finds.{FindsRows, FindsSuch, TellsCells, first};
-ghost use Rattle.canary_tables_read.specs.Breaks.{BreaksUnless};
+ghost use Rattle.canary_tables_read.specs.Finds.{Gives, Finds, TellsCells, first};
+ghost use Rattle.canary_tables_read.specs.Breaks.{BreaksUnless, RevisionsWithin, ServicesWithin};
+ghost use Rattle.canary_tables_read.specs.Breaks.{BindingsWithin};
 ghost use Rattle.canary_tables_read.specs.Reader.{Reads};
+ghost use Rattle.canary_tables_read.specs.Chosen.{revision_of, service_of, bindings_of};
+ghost use Rattle.canary_tables_read.specs.Chosen.{is_attempt_bound, first_revision, first_service};
+ghost use Rattle.canary_tables_read.specs.Chosen.{IsNewestOf};
 
 use crate::fault::ReadFault;
 use crate::from_row;
@@ -26,10 +26,8 @@ use std::alloc::Global;
 pub fn newest<Q: Reader>(conn: &mut Q, name: &Name) -> Result<Option<RevisionRow>, ReadFault>
     requires ready { Q.IsReady conn.old }
     ensures reads { Reads Q.IsReady Q.place Q.below Q.shows conn.old conn.new }
-    ensures found { FindsSuch (λ t. IsNewest (filter (is_revision_of name.now) t.revisions))
-        (Q.shows conn.old) (Q.shows conn.new) result }
-    ensures broken { BreaksUnless (λ t. AllByRecursion IsRevisionWithin t.revisions)
-        (Q.shows conn.old) (Q.shows conn.new) result }
+    ensures found { Finds (IsNewestOf name.now) Q.shows conn.old conn.new result }
+    ensures broken { BreaksUnless RevisionsWithin Q.shows conn.old conn.new result }
 {
     let rows = conn.ask(
         "SELECT revision, spec FROM revision WHERE name = ?1 ORDER BY revision DESC LIMIT 1",
@@ -48,10 +46,8 @@ pub fn revision<Q: Reader>(
 ) -> Result<Option<RevisionRow>, ReadFault>
     requires ready { Q.IsReady conn.old }
     ensures reads { Reads Q.IsReady Q.place Q.below Q.shows conn.old conn.new }
-    ensures found { FindsRows (λ t. first (filter (is_revision name.now number) t.revisions))
-        (Q.shows conn.old) (Q.shows conn.new) result }
-    ensures broken { BreaksUnless (λ t. AllByRecursion IsRevisionWithin t.revisions)
-        (Q.shows conn.old) (Q.shows conn.new) result }
+    ensures found { Gives (first_revision name.now number) Q.shows conn.old conn.new result }
+    ensures broken { BreaksUnless RevisionsWithin Q.shows conn.old conn.new result }
 {
     let rows = revision_shown(conn, name, number)?;
     from_row::first(name, rows.as_slice())
@@ -68,10 +64,8 @@ pub fn revision_rows<Q: Reader>(
 ) -> Result<Listed<RevisionRow>, ReadFault>
     requires ready { Q.IsReady conn.old }
     ensures reads { Reads Q.IsReady Q.place Q.below Q.shows conn.old conn.new }
-    ensures found { FindsRows (λ t. filter (is_revision name.now number) t.revisions)
-        (Q.shows conn.old) (Q.shows conn.new) result }
-    ensures broken { BreaksUnless (λ t. AllByRecursion IsRevisionWithin t.revisions)
-        (Q.shows conn.old) (Q.shows conn.new) result }
+    ensures found { Gives (revision_of name.now number) Q.shows conn.old conn.new result }
+    ensures broken { BreaksUnless RevisionsWithin Q.shows conn.old conn.new result }
 {
     let rows = revision_shown(conn, name, number)?;
     from_row::all(alloc, name, rows.as_slice())
@@ -81,9 +75,8 @@ pub fn revision_rows<Q: Reader>(
 fn revision_shown<Q: Reader>(conn: &mut Q, name: &Name, number: u32) -> Result<Vec<Row>, StoreFault>
     requires ready { Q.IsReady conn.old }
     ensures reads { Reads Q.IsReady Q.place Q.below Q.shows conn.old conn.new }
-    ensures found { FindsSuch (λ t rows. TellsCells revision_cells (λ row. Words name.now ∷ row)
-        (filter (is_revision name.now number) t.revisions) rows.items)
-        (Q.shows conn.old) (Q.shows conn.new) result }
+    ensures found { Finds (λ t rows. TellsCells revision_cells (λ row. Words name.now ∷ row)
+        (revision_of name.now number t) rows.items) Q.shows conn.old conn.new result }
 {
     conn.ask(
         "SELECT revision, spec FROM revision WHERE name = ?1 AND revision = ?2 ORDER BY rowid",
@@ -96,10 +89,8 @@ fn revision_shown<Q: Reader>(conn: &mut Q, name: &Name, number: u32) -> Result<V
 pub fn service<Q: Reader>(conn: &mut Q, name: &Name) -> Result<Option<ServiceRow>, ReadFault>
     requires ready { Q.IsReady conn.old }
     ensures reads { Reads Q.IsReady Q.place Q.below Q.shows conn.old conn.new }
-    ensures found { FindsRows (λ t. first (filter (is_service name.now) t.services))
-        (Q.shows conn.old) (Q.shows conn.new) result }
-    ensures broken { BreaksUnless (λ t. AllByRecursion IsServiceWithin t.services)
-        (Q.shows conn.old) (Q.shows conn.new) result }
+    ensures found { Gives (first_service name.now) Q.shows conn.old conn.new result }
+    ensures broken { BreaksUnless ServicesWithin Q.shows conn.old conn.new result }
 {
     let rows = service_shown(conn, name)?;
     from_row::first(name, rows.as_slice())
@@ -114,10 +105,8 @@ pub fn service_rows<Q: Reader>(
 ) -> Result<Listed<ServiceRow>, ReadFault>
     requires ready { Q.IsReady conn.old }
     ensures reads { Reads Q.IsReady Q.place Q.below Q.shows conn.old conn.new }
-    ensures found { FindsRows (λ t. filter (is_service name.now) t.services)
-        (Q.shows conn.old) (Q.shows conn.new) result }
-    ensures broken { BreaksUnless (λ t. AllByRecursion IsServiceWithin t.services)
-        (Q.shows conn.old) (Q.shows conn.new) result }
+    ensures found { Gives (service_of name.now) Q.shows conn.old conn.new result }
+    ensures broken { BreaksUnless ServicesWithin Q.shows conn.old conn.new result }
 {
     let rows = service_shown(conn, name)?;
     from_row::all(alloc, name, rows.as_slice())
@@ -127,9 +116,8 @@ pub fn service_rows<Q: Reader>(
 fn service_shown<Q: Reader>(conn: &mut Q, name: &Name) -> Result<Vec<Row>, StoreFault>
     requires ready { Q.IsReady conn.old }
     ensures reads { Reads Q.IsReady Q.place Q.below Q.shows conn.old conn.new }
-    ensures found { FindsSuch (λ t rows. TellsCells service_cells (λ row. Words name.now ∷ row)
-        (filter (is_service name.now) t.services) rows.items)
-        (Q.shows conn.old) (Q.shows conn.new) result }
+    ensures found { Finds (λ t rows. TellsCells service_cells (λ row. Words name.now ∷ row)
+        (service_of name.now t) rows.items) Q.shows conn.old conn.new result }
 {
     conn.ask(
         "SELECT spec, stable, version, state, step, entered, hold, background, runs, last \
@@ -149,10 +137,8 @@ pub fn bindings<Q: Reader>(
 ) -> Result<Listed<BindingRow>, ReadFault>
     requires ready { Q.IsReady conn.old }
     ensures reads { Reads Q.IsReady Q.place Q.below Q.shows conn.old conn.new }
-    ensures found { FindsRows (λ t. filter (is_binding_of service.now run) t.bindings)
-        (Q.shows conn.old) (Q.shows conn.new) result }
-    ensures broken { BreaksUnless (λ t. AllByRecursion IsBindingWithin t.bindings)
-        (Q.shows conn.old) (Q.shows conn.new) result }
+    ensures found { Gives (bindings_of service.now run) Q.shows conn.old conn.new result }
+    ensures broken { BreaksUnless BindingsWithin Q.shows conn.old conn.new result }
 {
     let rows = conn.ask(
         "SELECT run, template, revision FROM binding \
@@ -167,8 +153,7 @@ pub fn bindings<Q: Reader>(
 pub fn has_bindings<Q: Reader>(conn: &mut Q, service: &Name) -> Result<bool, ReadFault>
     requires ready { Q.IsReady conn.old }
     ensures reads { Reads Q.IsReady Q.place Q.below Q.shows conn.old conn.new }
-    ensures found { FindsRows (λ t. list_any (is_binding_of service.now 0) t.bindings)
-        (Q.shows conn.old) (Q.shows conn.new) result }
+    ensures found { Gives (is_attempt_bound service.now) Q.shows conn.old conn.new result }
     ensures whole { result ≢ Err ReadFault.Broken }
 {
     let rows = conn.ask(

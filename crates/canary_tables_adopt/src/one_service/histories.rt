@@ -2,7 +2,7 @@
 ghost use Rattle.std.specs.Prelude.{◌≡◌, ◌↔◌, ◌≤◌, false, Err, IsTrue, IfOk, IfErr, OnOk, length};
 ghost use Rattle.std.specs.List.{AllByRecursion};
 ghost use Rattle.canary_tables_read.specs.declared.fault.ReadFault.TheVariants.{Broken};
-ghost use Rattle.canary_tables_read.specs.Finds.{FindsSuch};
+ghost use Rattle.canary_tables_read.specs.Finds.{Finds};
 ghost use Rattle.canary_tables_adopt.specs.Judges.{RefusesUnless};
 ghost use Rattle.canary_tables_adopt.specs.HistoryLines.{IsLineRow, AreLines, IsPageOfLines};
 ghost use Rattle.canary_tables_adopt.specs.HistoryLines.{lines_of, lines_after};
@@ -29,11 +29,9 @@ const PAGE: u32 = 32_768;
 pub(crate) fn lines<Q: Reader>(conn: &mut Q, alloc: Global, name: &Name) -> Result<u64, ReadFault>
     requires ready { Q.IsReady conn.old }
     ensures reads { Reads Q.IsReady Q.place Q.below Q.shows conn.old conn.new }
-    ensures found { FindsSuch (λ t count. AreLines name.now t
-        × (count ≡ length (lines_of name.now t)))
-        (Q.shows conn.old) (Q.shows conn.new) result }
-    ensures broken { RefusesUnless (AreLines name.now)
-        (Q.shows conn.old) (Q.shows conn.new) result }
+    ensures found { Finds (λ t count. AreLines name.now t
+        × (count ≡ length (lines_of name.now t))) Q.shows conn.old conn.new result }
+    ensures broken { RefusesUnless (AreLines name.now) Q.shows conn.old conn.new result }
 {
     let mut count = 0_u64;
     'pages: for _ in 0..u64::MAX {
@@ -55,11 +53,10 @@ fn page_of_lines<Q: Reader>(
 ) -> Result<u64, ReadFault>
     requires ready { Q.IsReady conn.old }
     ensures reads { Reads Q.IsReady Q.place Q.below Q.shows conn.old conn.new }
-    ensures found { FindsSuch (IsPageOfLines name.now 32768 from)
-        (Q.shows conn.old) (Q.shows conn.new) result }
+    ensures found { Finds (IsPageOfLines name.now 32768 from) Q.shows conn.old conn.new result }
     ensures broken { RefusesUnless
         (λ t. AllByRecursion IsLineRow (lines_after name.now 32768 from t))
-        (Q.shows conn.old) (Q.shows conn.new) result }
+        Q.shows conn.old conn.new result }
 {
     let rows = histories::lines(conn, alloc, name, from, PAGE)?;
     are_lines(rows.as_slice())?;

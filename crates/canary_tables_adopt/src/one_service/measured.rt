@@ -4,7 +4,7 @@ ghost use Rattle.canary_once.specs.declared.record.RunRecord.{RunRecord};
 ghost use Rattle.canary_tables_contents.specs.Values.{measurement_of_row};
 ghost use Rattle.canary_tables_contents.specs.Services.{metrics_of_runs};
 ghost use Rattle.canary_tables_read.specs.declared.fault.ReadFault.TheVariants.{Broken, Storage};
-ghost use Rattle.canary_tables_read.specs.Finds.{FindsSuch};
+ghost use Rattle.canary_tables_read.specs.Finds.{Finds};
 ghost use Rattle.canary_tables_read.specs.Places.{row_of};
 ghost use Rattle.canary_tables_adopt.specs.Judges.{RefusesUnless};
 ghost use Rattle.canary_tables_adopt.specs.Measured.{AreCountedTo, AreMeasured, IsPageCounted};
@@ -61,11 +61,10 @@ pub(crate) fn measured<Q: Reader>(
 ) -> Result<u64, ReadFault>
     requires ready { Q.IsReady conn.old }
     ensures reads { Reads Q.IsReady Q.place Q.below Q.shows conn.old conn.new }
-    ensures found { FindsSuch (λ t count. AreMeasured name.now runs.now t
-        × (count ≡ length (measurements_of name.now t)))
-        (Q.shows conn.old) (Q.shows conn.new) result }
+    ensures found { Finds (λ t count. AreMeasured name.now runs.now t
+        × (count ≡ length (measurements_of name.now t))) Q.shows conn.old conn.new result }
     ensures broken { RefusesUnless (AreMeasured name.now runs.now)
-        (Q.shows conn.old) (Q.shows conn.new) result }
+        Q.shows conn.old conn.new result }
 {
     let counts = none_counted(alloc, runs)?;
     let mut so_far = SoFar {
@@ -110,10 +109,10 @@ fn count_page<Q: Reader>(
     requires noted { IsNoted (Q.shows conn.old) name.now so_far }
     ensures reads { Reads Q.IsReady Q.place Q.below Q.shows conn.old conn.new }
     ensures noted { IfOk result (IsNoted (Q.shows conn.new) name.now) }
-    ensures found { FindsSuch (IsPageCounted name.now runs.now 32768 so_far)
-        (Q.shows conn.old) (Q.shows conn.new) result }
+    ensures found { Finds (IsPageCounted name.now runs.now 32768 so_far)
+        Q.shows conn.old conn.new result }
     ensures broken { RefusesUnless (HasSuch (IsPageCounted name.now runs.now 32768 so_far))
-        (Q.shows conn.old) (Q.shows conn.new) result }
+        Q.shows conn.old conn.new result }
     ensures more { IfOk result (λ after. so_far.count ≤ after.count) }
 {
     let SoFar {

@@ -2,7 +2,7 @@
 ghost use Rattle.std.specs.Prelude.{◌≡◌, false, filter, IfOk};
 ghost use Rattle.canary_tables_rows.specs.Limits.{AreWithin};
 ghost use Rattle.canary_tables_read.specs.Breaks.{BreaksUnless};
-ghost use Rattle.canary_tables_read.specs.Finds.{FindsSuch};
+ghost use Rattle.canary_tables_read.specs.Finds.{Finds};
 ghost use Rattle.canary_tables_read.specs.Sorts.{Sorts, metric_of};
 ghost use Rattle.canary_tables_adopt.specs.Pages.{IsPageOf, AreCut, is_numbered, is_bound_at};
 ghost use Rattle.canary_tables_adopt.specs.Pages.{is_tallied_at};
@@ -39,10 +39,8 @@ pub(crate) fn page_between<Q: Reader>(
 ) -> Result<RunPage, ReadFault>
     requires ready { Q.IsReady conn.old }
     ensures reads { Reads Q.IsReady Q.place Q.below Q.shows conn.old conn.new }
-    ensures found { FindsSuch (IsPageOf name.now after last)
-        (Q.shows conn.old) (Q.shows conn.new) result }
-    ensures broken { BreaksUnless AreWithin (Q.shows conn.old) (Q.shows conn.new)
-        result }
+    ensures found { Finds (IsPageOf name.now after last) Q.shows conn.old conn.new result }
+    ensures broken { BreaksUnless AreWithin Q.shows conn.old conn.new result }
 {
     let runs = pages::runs(conn, alloc, name, after, last)?;
     let bindings = pages::bindings(conn, alloc, name, after, last)?;

@@ -97,8 +97,7 @@ fn known_by<Q: Reader>(
     ensures found { FindsWhere (AreRevisions memo.old)
         (λ t found. IsKnownBy rows.now t (option_map get found) × AreRevisions memo.new t)
         (Q.shows conn.old) (Q.shows conn.new) result }
-    ensures broken { BreaksUnless AreWithin (Q.shows conn.old) (Q.shows conn.new)
-        result }
+    ensures broken { BreaksUnless AreWithin Q.shows conn.old conn.new result }
 {
     let mut known = Templates::new(alloc);
     for row in rows {
@@ -124,8 +123,7 @@ fn template_of<Q: Reader>(
     ensures found { FindsWhere (AreRevisions memo.old)
         (λ t found. IsTemplateOf row.now t found × AreRevisions memo.new t)
         (Q.shows conn.old) (Q.shows conn.new) result }
-    ensures broken { BreaksUnless AreWithin (Q.shows conn.old) (Q.shows conn.new)
-        result }
+    ensures broken { BreaksUnless AreWithin Q.shows conn.old conn.new result }
 {
     if let Some(template) = kept_in(alloc, memo, row)? {
         return Ok(Some(template));

@@ -7,7 +7,7 @@ ghost use Rattle.canary_tables_rows.specs.declared.rows.TallyRow.{TallyRow};
 ghost use Rattle.canary_tables_rows.specs.Tables.{Tables, is_tally_of};
 ghost use Rattle.canary_tables_contents.specs.Finding.{record_of_row};
 ghost use Rattle.canary_tables_read.specs.declared.fault.ReadFault.TheVariants.{Broken, Storage};
-ghost use Rattle.canary_tables_read.specs.Finds.{FindsSuch};
+ghost use Rattle.canary_tables_read.specs.Finds.{Finds};
 ghost use Rattle.canary_tables_read.specs.Sorts.{Sorts, metric_of};
 ghost use Rattle.canary_tables_adopt.specs.OneService.{RefusesJudged};
 ghost use Rattle.canary_tables_adopt.specs.OfService.{HasSuch, IsTold, ArePlaced, AreTalliesOf};
@@ -69,8 +69,8 @@ pub(crate) fn runs<Q: Reader>(
 ) -> Result<Listed<RunRecord>, ReadFault>
     requires ready { Q.IsReady conn.old }
     ensures reads { Reads Q.IsReady Q.place Q.below Q.shows conn.old conn.new }
-    ensures found { FindsSuch (AreRunsOf strategy.now name.now count)
-        (Q.shows conn.old) (Q.shows conn.new) result }
+    ensures found { Finds (AreRunsOf strategy.now name.now count)
+        Q.shows conn.old conn.new result }
     ensures broken { RefusesJudged (HasSuch (AreRunsOf strategy.now name.now count))
         (Q.shows conn.old) (Q.shows conn.new) result }
 {

@@ -8,7 +8,7 @@ ghost use Rattle.canary_tables_rows.specs.Tables.{is_service};
 ghost use Rattle.canary_tables_contents.specs.Values.{made_from, stand_of};
 ghost use Rattle.canary_tables_contents.specs.Services.{IsServiceJudged, open_of_record, open_runs_in};
 ghost use Rattle.canary_tables_read.specs.declared.fault.ReadFault.TheVariants.{Broken, Storage};
-ghost use Rattle.canary_tables_read.specs.Finds.{FindsSuch};
+ghost use Rattle.canary_tables_read.specs.Finds.{Finds};
 ghost use Rattle.canary_tables_adopt.specs.OneService.{FindsJudged, RefusesJudged, IsPastJudged};
 ghost use Rattle.canary_tables_adopt.specs.OneService.{totals_of, totals_bound, IsServiceUnder};
 ghost use Rattle.canary_tables_adopt.specs.OneService.{IsServiceFound};
@@ -126,10 +126,9 @@ fn judge_past<Q: Reader>(
 ) -> Result<Totals, ReadFault>
     requires ready { Q.IsReady conn.old }
     ensures reads { Reads Q.IsReady Q.place Q.below Q.shows conn.old conn.new }
-    ensures judged { FindsSuch
+    ensures judged { Finds
         (λ t totals. IsPastJudged t row.now service
-        × (totals ≡ totals_bound t row.now service.bound))
-        (Q.shows conn.old) (Q.shows conn.new) result }
+        × (totals ≡ totals_bound t row.now service.bound)) Q.shows conn.old conn.new result }
     ensures refused { RefusesJudged (λ t. IsPastJudged t row.now service)
         (Q.shows conn.old) (Q.shows conn.new) result }
 {
