@@ -11,7 +11,7 @@ import planting
 import verdicts
 
 # The most bugs that one check tries at once, so that it ends within its limit.
-LOT = 32
+LOT = 24
 
 
 def words_only(functions, laws=()):
