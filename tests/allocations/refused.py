@@ -10,7 +10,7 @@ import subprocess
 import sys
 
 from asking import ask_refused
-from conversation import STILL_AT_B, reply_of
+from conversation import STILL_AT_B, reply_of, without_progress
 from serving import converse_with_desk
 from story_tables import expect_tables
 from story_words import B, Wrong, answer, command, expect, get, messages_of_story, put, query
@@ -88,7 +88,7 @@ class Trial:
         and the first line of standard error."""
         done = subprocess.run([self.program, *words], capture_output=True, timeout=60,
                               stdin=subprocess.DEVNULL, env={**self.refusing(number), **variables})
-        return done.returncode, done.stdout, done.stderr.split(b"\n")[0]
+        return done.returncode, done.stdout, without_progress(done.stderr).split(b"\n")[0]
 
     def converse(self, words, messages, number=0):
         """Tells messages one after another, of which one may be answered 503 and is sent again. The

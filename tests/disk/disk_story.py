@@ -9,7 +9,7 @@ import subprocess
 import sys
 from contextlib import closing, contextmanager
 
-from conversation import limits_writes, reply_of
+from conversation import limits_writes, reply_of, without_progress
 from story_tables import expect_tables
 from story_words import STORY, B, Wrong, answer, command, get, messages_of_story, put, query
 
@@ -91,7 +91,7 @@ class Desk:
         if a call failed as the file was closed."""
         failed, last = self.failed_calls(), self.replies[-1]
         with in_time(self.row, self.process):
-            told = self.process.communicate()[1].decode()
+            told = without_progress(self.process.communicate()[1]).decode()
         is_done = last not in (b"", REFUSED) and self.failed_calls() == failed
         found, wanted = (self.process.returncode, told), (1, "canary: storage\n")
         if found != ((0, "") if is_done else wanted):
@@ -125,12 +125,13 @@ def size(file):
 
 
 def told_by(row, *words, first=None):
-    """The exit status of a program, its standard output and its standard error."""
+    """The exit status of a program, its standard output, and its standard error but for how far it
+    was."""
     try:
         done = subprocess.run(words, capture_output=True, preexec_fn=first, timeout=SECONDS)
     except subprocess.TimeoutExpired:
         fail(f"{row}: {words[1]} does not end within {SECONDS} seconds")
-    return done.returncode, done.stdout.decode(), done.stderr.decode()
+    return done.returncode, done.stdout.decode(), without_progress(done.stderr).decode()
 
 
 def history(program, file, row):

@@ -4,7 +4,7 @@ import signal
 import subprocess
 import sys
 
-from conversation import STILL_AT_B, reply_of
+from conversation import STILL_AT_B, reply_of, without_progress
 from disk_story import copy, fail, in_time, remove
 from failing import calls_in, failing_alone, has_failed, under_strace
 from story_tables import tables_of
@@ -49,8 +49,8 @@ def bytes_of(file):
 
 
 def told_by_opening(row, front, words):
-    """What a program comes to: its exit status, output and standard error. A desk that listens is
-    killed then, and comes to no status."""
+    """What a program comes to: its exit status, output, and standard error but for how far it was.
+    A desk that listens is killed then, and comes to no status."""
     process = subprocess.Popen([*front, *words], stdin=subprocess.DEVNULL, start_new_session=True,
                                stdout=subprocess.PIPE, stderr=subprocess.PIPE)
     with in_time(row, process):
@@ -59,7 +59,7 @@ def told_by_opening(row, front, words):
             process.communicate()
             return None
         output, errors = process.communicate()
-    return process.returncode, output, errors
+    return process.returncode, output, without_progress(errors)
 
 
 class Opening:

@@ -12,7 +12,7 @@ import sys
 import time
 from concurrent.futures import ThreadPoolExecutor
 
-from conversation import STILL_AT_B, reply_of
+from conversation import STILL_AT_B, reply_of, without_progress
 from story_words import Wrong, answer, command, expect, put
 
 # Seconds in which a program that refuses a name has ended; a desk looks once a second.
@@ -79,7 +79,7 @@ class Place:
                                   capture_output=True)
         except subprocess.TimeoutExpired:
             raise Wrong(f"{words}: no end after {SECONDS} seconds") from None
-        return done.returncode, done.stdout, done.stderr
+        return done.returncode, done.stdout, without_progress(done.stderr)
 
 
 def read(path):

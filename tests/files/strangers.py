@@ -6,6 +6,7 @@ import shutil
 import subprocess
 import sys
 
+from conversation import without_progress
 from places import (
     DONE, FILE_FAULT, bytes_of, folder_in, make_desk, make_killed_desk, mode_of, pair, serving,
     told, want_names, want_started, write)
@@ -100,7 +101,8 @@ def try_kinds(program, folder):
         with open(target, "r+b") as output:
             found = subprocess.run([*page, name], cwd=place, stdout=output, timeout=60,
                                    stdin=subprocess.DEVNULL, stderr=subprocess.PIPE, check=False)
-        expect(f"page on a {name}", (found.returncode, found.stderr), (1, b"canary: file\n"))
+        expect(f"page on a {name}", (found.returncode, without_progress(found.stderr)),
+               (1, b"canary: file\n"))
         expect(f"page on a {name}: it", (os.lstat(made).st_ino, os.lstat(made).st_mode),
                (before.st_ino, before.st_mode))
     for name, of in (("link", "target"), ("nowhere", "none")):

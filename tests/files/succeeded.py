@@ -11,7 +11,7 @@ import tempfile
 import time
 from contextlib import closing
 
-from conversation import limits_writes
+from conversation import limits_writes, without_progress
 from places import (
     FILE_FAULT, bytes_of, folder_in, make_desk, mode_of, serving, told, want_names, write)
 from story_words import B, Wrong, answer, command, expect, put, replies
@@ -213,7 +213,8 @@ def try_output(program, folder):
     with open("/dev/full", "wb") as full:
         done = subprocess.run([program, "succeed", "--db", old, new], stdout=full,
                               stderr=subprocess.PIPE, timeout=60, check=False)
-    expect("a full output", (done.returncode, done.stderr), (1, b"canary: write\n"))
+    expect("a full output", (done.returncode, without_progress(done.stderr)),
+           (1, b"canary: write\n"))
     expect("a full output: the new file", [each["name"] for each in stands(program, new)], ["web"])
 
 

@@ -12,6 +12,7 @@ import time
 import records
 import stories
 import textfile
+from conversation import without_progress
 from outline import Broken, outline, tree_of
 
 HERE = os.path.dirname(os.path.abspath(__file__))
@@ -305,7 +306,8 @@ def try_faults(program, folder):
                          (["--db", __file__, out], "storage")):
         done = subprocess.run([program, "page", *words], capture_output=True, timeout=LIMIT,
                               check=False)
-        if done.returncode != 1 or done.stderr != f"canary: {fault}\n".encode() or done.stdout:
+        told = without_progress(done.stderr)
+        if done.returncode != 1 or told != f"canary: {fault}\n".encode() or done.stdout:
             fail(f"page {words}: status {done.returncode}, {done.stderr}")
     with open(out, encoding="utf-8") as kept:
         if kept.read() != "kept" or parts_of(out) or os.path.exists(missing):
