@@ -14,7 +14,7 @@ use Rattle.canary_tables_rows.specs.Tables.{Tables, is_caller, is_kept, is_revis
 use Rattle.canary_tables_read.specs.Finds.{first}
 use Rattle.canary_tables_read.specs.Metrics.{is_measurement_in}
 use Rattle.canary_tables_read.specs.Pages.{is_kept_between, is_run_between, is_binding_between, is_tally_between}
-use Rattle.canary_tables_read.specs.Sorts.{IsFront, is_run_of}
+use Rattle.canary_tables_read.specs.Sorts.{IsFront, Sorts, is_run_of, number_of}
 use Rattle.canary_tables_rows.specs.Newest.{IsNewest}
 
 -- those of a table of which this is so
@@ -99,6 +99,10 @@ lines_from service from most t = take most (drop from (lines_of service t))
 -- the newest revision of a template, if it has one
 abbrev pub IsNewestOf : List ℕ → Tables → Option RevisionRow → Type 0
 IsNewestOf name t found = IsNewest (revisions_of name t) found
+
+-- the open runs of a service, sorted by their numbers
+abbrev pub SortsOpenRunsOf : List ℕ → Tables → List RunRow → Type 0
+SortsOpenRunsOf service t found = Sorts number_of (open_runs_of service t) found
 
 -- the first runs of a service as they are read: three at most
 abbrev pub IsFrontOf : List ℕ → Tables → List RunRow → Type 0

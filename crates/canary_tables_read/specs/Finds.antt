@@ -9,7 +9,7 @@ use Rattle.canary_tables_schema.specs.Stores.{IsUsable, Stores}
 abbrev pub IsSame : State → State → Type 0
 IsSame old new = IsUsable new → IsUsable old × (new.now ≡ old.now)
 
--- what a reader shows as usable afterwards has such a value in the tables, which it finds
+-- if the reader can still be used, it finds such a value in the tables
 abbrev pub Finds : {Q A F : Type 0} → (Tables → A → Type 0) → (Q → State) → Q → Q
     → Result A F → Type 0
 Finds such shows old new result =

@@ -100,7 +100,8 @@ impl FromFirstRow for FirstTally {
 // hold one of them.
 fn all<R: FromFirstRow>(alloc: Global, rows: &[Row]) -> Result<Listed<R>, ReadFault>
     ensures found { IfOk result (λ all. map R.cells all ≡ rows.now) }
-    ensures broken { BreaksIfNone result (λ all. map R.cells all ≡ rows.now) (AllByRecursion R.Within) }
+    ensures broken { BreaksIfNone result (λ all. map R.cells all ≡ rows.now)
+        (AllByRecursion R.Within) }
     ensures unasked { result ≢ Err ReadFault.Storage }
 {
     let mut all = Listed::of(Vec::new(alloc));

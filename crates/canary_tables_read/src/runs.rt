@@ -4,7 +4,7 @@ ghost use Rattle.canary_tables_read.specs.Breaks.{BreaksUnless, RunsWithin, Tall
 ghost use Rattle.canary_tables_read.specs.Finds.{Gives, Finds, first};
 ghost use Rattle.canary_tables_read.specs.Sorts.{Sorts, is_open, number_of, metric_of};
 ghost use Rattle.canary_tables_read.specs.Reader.{Reads};
-ghost use Rattle.canary_tables_read.specs.Chosen.{open_runs_of, tallies_of, run_of, IsFrontOf};
+ghost use Rattle.canary_tables_read.specs.Chosen.{tallies_of, run_of, IsFrontOf, SortsOpenRunsOf};
 
 use crate::fault::ReadFault;
 use crate::from_row;
@@ -46,7 +46,7 @@ pub fn open_runs<Q: Reader>(
 ) -> Result<Listed<RunRow>, ReadFault>
     requires ready { Q.IsReady conn.old }
     ensures reads { Reads Q.IsReady Q.place Q.below Q.shows conn.old conn.new }
-    ensures found { Finds (λ t. Sorts number_of (open_runs_of service.now t)) Q.shows conn.old conn.new result }
+    ensures found { Finds (SortsOpenRunsOf service.now) Q.shows conn.old conn.new result }
     ensures broken { BreaksUnless RunsWithin Q.shows conn.old conn.new result }
 {
     let front = front_runs(conn, alloc, service)?;
@@ -85,7 +85,7 @@ fn all_open_runs<Q: Reader>(
 ) -> Result<Listed<RunRow>, ReadFault>
     requires ready { Q.IsReady conn.old }
     ensures reads { Reads Q.IsReady Q.place Q.below Q.shows conn.old conn.new }
-    ensures found { Finds (λ t. Sorts number_of (open_runs_of service.now t)) Q.shows conn.old conn.new result }
+    ensures found { Finds (SortsOpenRunsOf service.now) Q.shows conn.old conn.new result }
     ensures broken { BreaksUnless RunsWithin Q.shows conn.old conn.new result }
 {
     let rows = conn.ask(

@@ -8,8 +8,8 @@
 //! - of `[TEXT, LINE, STEP..]`: as `LINE:COLUMN` where that part of the document of that line
 //!   stands; a step is a key, or a place of a sequence
 //!
-//! What is not read is a line of `!` and why. The exit status is 1 if memory, the input or the output
-//! fails.
+//! What is not read is a line of `!` and why. The exit status is 1 if memory, the input or the
+//! output fails.
 #![tactic(auto)]
 
 use canary_yaml::fault::YamlFault;
