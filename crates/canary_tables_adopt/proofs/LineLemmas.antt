@@ -11,7 +11,8 @@ use Rattle.canary_tables_rows.specs.Tables.{Tables, is_line_of}
 use Rattle.canary_tables_schema.specs.Stores.{IsUsable, Stores}
 use Rattle.canary_tables_contents.specs.Values.{history_row, line_of_row}
 use Rattle.canary_tables_read.specs.Finds.{IsSame}
-use Rattle.canary_tables_adopt.specs.HistoryLines.{IsLineRow, AreLines, IsPageOfLines, lines_of, lines_after}
+use Rattle.canary_tables_read.specs.Chosen.{lines_of}
+use Rattle.canary_tables_adopt.specs.HistoryLines.{IsLineRow, AreLines, IsPageOfLines, lines_after}
 use Rattle.canary_tables_adopt.specs.OfService.{IsHistoryOf, line_words}
 use Rattle.canary_tables_adopt.proofs.Each.{all_more}
 use Rattle.canary_tables_adopt.proofs.HistoryLemmas.{history_told, lines_read}

@@ -17,7 +17,8 @@ use Rattle.canary_tables_contents.specs.Counting.{IsNext, AreCounted, none_count
 use Rattle.canary_tables_contents.specs.Services.{metrics_of_runs}
 use Rattle.canary_tables_contents.specs.Recounted.{AreTallied}
 use Rattle.canary_tables_read.specs.Finds.{IsSame}
-use Rattle.canary_tables_adopt.specs.Measured.{AreCountedTo, AreMeasured, IsSoFar, IsPageCounted, measurements_of, page_after}
+use Rattle.canary_tables_read.specs.Chosen.{measurements_of}
+use Rattle.canary_tables_adopt.specs.Measured.{AreCountedTo, AreMeasured, IsSoFar, IsPageCounted, page_after}
 use Rattle.canary_tables_adopt.specs.OfService.{AreRunsOf, AreMeasurementsOf}
 use Rattle.canary_tables_adopt.specs.OneService.{IsPastJudged}
 use Rattle.canary_tables_adopt.specs.declared.one_service.measured.SoFar.{SoFar}

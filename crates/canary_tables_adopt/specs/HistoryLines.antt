@@ -1,10 +1,11 @@
 -- Lines of a service's history, read of rows.
-use Rattle.std.specs.Prelude.{◌≡◌, ℕ, List, length, filter, take, drop, Some}
+use Rattle.std.specs.Prelude.{◌≡◌, ℕ, List, length, take, drop, Some}
 use Rattle.std.specs.List.{AllByRecursion}
 use Rattle.canary_plan.specs.declared.line.Line.{Line}
 use Rattle.canary_tables_rows.specs.declared.rows.HistoryRow.{HistoryRow}
-use Rattle.canary_tables_rows.specs.Tables.{Tables, is_line_of}
+use Rattle.canary_tables_rows.specs.Tables.{Tables}
 use Rattle.canary_tables_contents.specs.Values.{line_of_row}
+use Rattle.canary_tables_read.specs.Chosen.{lines_of}
 use Rattle.canary_tables_adopt.specs.OfService.{line_words}
 
 -- the row is read as a line, which has the row's words
@@ -12,9 +13,6 @@ pub record IsLineRow (row : HistoryRow) : Type 0 where
   pub line : Line
   pub read : line_of_row row ≡ Some line
   pub words : line_words line ≡ row.line
-
-abbrev pub lines_of : List ℕ → Tables → List HistoryRow
-lines_of name t = filter (is_line_of name) t.history
 
 -- each row of the service's history is a line's
 abbrev pub AreLines : List ℕ → Tables → Type 0

@@ -1,14 +1,15 @@
 -- Measurements of a service, read of rows and counted one after another.
-use Rattle.std.specs.Prelude.{◌≡◌, ◌≤◌, ◌+◌, ℕ, List, [], ◌∷◌, length, map, filter, take, drop, Some, IfSome}
+use Rattle.std.specs.Prelude.{◌≡◌, ◌≤◌, ◌+◌, ℕ, List, [], ◌∷◌, length, map, take, drop, Some, IfSome}
 use Rattle.canary_metric.specs.Metrics.{MetricValue}
 use Rattle.canary_metric.specs.Counts.{Counts}
 use Rattle.canary_release.specs.declared.effect.Recorded.{Recorded}
 use Rattle.canary_once.specs.declared.record.RunRecord.{RunRecord}
 use Rattle.canary_tables_rows.specs.declared.rows.MeasurementRow.{MeasurementRow}
-use Rattle.canary_tables_rows.specs.Tables.{Tables, is_measurement_of}
+use Rattle.canary_tables_rows.specs.Tables.{Tables}
 use Rattle.canary_tables_contents.specs.Values.{measurement_of_row}
 use Rattle.canary_tables_contents.specs.Counting.{IsNext, none_counted, counted_at}
 use Rattle.canary_tables_contents.specs.Services.{metrics_of_runs}
+use Rattle.canary_tables_read.specs.Chosen.{measurements_of}
 use Rattle.canary_tables_read.specs.Places.{IsMark}
 use Rattle.canary_tables_schema.specs.Stores.{IsUsable, Stores}
 use Rattle.sqlite.specs.State.{State}
@@ -22,9 +23,6 @@ AreCountedTo runs first [] last = first ≡ last
 AreCountedTo runs first (row ∷ rows) last =
     (x : Recorded) × (measurement_of_row row ≡ Some x) × IsNext runs first x
     × AreCountedTo runs (counted_at x first) rows last
-
-abbrev pub measurements_of : List ℕ → Tables → List MeasurementRow
-measurements_of name t = filter (is_measurement_of name) t.measurements
 
 -- the service's measurements come one after another, and to the tallies of the runs
 abbrev pub AreMeasured : List ℕ → List RunRecord → Tables → Type 0

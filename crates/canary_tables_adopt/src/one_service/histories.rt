@@ -5,7 +5,8 @@ ghost use Rattle.canary_tables_read.specs.declared.fault.ReadFault.TheVariants.{
 ghost use Rattle.canary_tables_read.specs.Finds.{Finds};
 ghost use Rattle.canary_tables_adopt.specs.Judges.{RefusesUnless};
 ghost use Rattle.canary_tables_adopt.specs.HistoryLines.{IsLineRow, AreLines, IsPageOfLines};
-ghost use Rattle.canary_tables_adopt.specs.HistoryLines.{lines_of, lines_after};
+ghost use Rattle.canary_tables_read.specs.Chosen.{lines_of};
+ghost use Rattle.canary_tables_adopt.specs.HistoryLines.{lines_after};
 ghost use Rattle.canary_tables_read.specs.Reader.{Reads};
 
 use crate::totals::sum;

@@ -8,7 +8,8 @@ ghost use Rattle.canary_tables_read.specs.Finds.{Finds};
 ghost use Rattle.canary_tables_read.specs.Places.{row_of};
 ghost use Rattle.canary_tables_adopt.specs.Judges.{RefusesUnless};
 ghost use Rattle.canary_tables_adopt.specs.Measured.{AreCountedTo, AreMeasured, IsPageCounted};
-ghost use Rattle.canary_tables_adopt.specs.Measured.{IsNoted, measurements_of};
+ghost use Rattle.canary_tables_read.specs.Chosen.{measurements_of};
+ghost use Rattle.canary_tables_adopt.specs.Measured.{IsNoted};
 ghost use Rattle.canary_tables_adopt.specs.OfService.{HasSuch, IsTold};
 ghost use Rattle.canary_tables_read.specs.Reader.{Reads};
 
