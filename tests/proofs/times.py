@@ -1,8 +1,9 @@
-"""Where the time of proofs goes, by crate: times.py ROOT [--told FOLDER] COMMAND.. runs a command
-and looks, each second, at the checks of the prover below it. What they took is in
-tests/proofs/out/times, of which `tests/proofs/prove --times` prints a table. The files of FOLDER
-tell others of the command: `process` has its number, `lines` has what it has printed on standard
-output so far, and `status` comes once it has ended."""
+"""Where the time of proofs goes, by crate: times.py ROOT [--keep] [--told FOLDER] COMMAND.. runs a
+command and looks, each second, at the checks of the prover below it. What they took is in
+tests/proofs/out/times, of which `tests/proofs/prove --times` prints a table. With --keep what these
+checks made is then kept for `rt check` (kept.py). The files of FOLDER tell others of the command:
+`process` has its number, `lines` has what it has printed on standard output so far, and `status`
+comes once it has ended."""
 import collections
 import contextlib
 import os
@@ -13,6 +14,7 @@ import threading
 import time
 
 import kit
+from kept import Keeper
 
 FILE = "tests/proofs/out/times"
 TICKS = os.sysconf("SC_CLK_TCK")
@@ -45,8 +47,8 @@ def check_of(number):
 class Watch:
     """Looks at the processes below one."""
 
-    def __init__(self, above):
-        self.above, self.begun = above, time.monotonic()
+    def __init__(self, above, keeper=None):
+        self.above, self.begun, self.keeper = above, time.monotonic(), keeper
         self.seen, self.known = {}, {}
 
     def look(self):
@@ -59,6 +61,8 @@ class Watch:
                 key = number, start
                 first = self.seen[key].first if key in self.seen else now
                 self.seen[key] = Seen(*found, first, now, seconds)
+                if self.keeper and found[1] == PROOF:
+                    self.keeper.look(number, found[0])
 
     def found(self, number, stats):
         """Whose check the process is a part of, if it is below the one that is watched."""
@@ -90,12 +94,14 @@ class Watch:
 
 
 @contextlib.contextmanager
-def watched(above, file):
-    """Watches the processes below one, until the block ends, and writes what it saw."""
-    watch, ended = Watch(above), threading.Event()
+def watched(above, file, keeper=None):
+    """Watches the processes below one, until the block ends, and writes what it saw. A keeper looks
+    at each check of a proof, each time."""
+    watch, ended = Watch(above, keeper), threading.Event()
 
     def go_on():
-        while not ended.wait(1):
+        # What a check makes in its last moments is lost to a keeper that looks seldom.
+        while not ended.wait(0.3 if keeper else 1):
             watch.look()
 
     thread = threading.Thread(target=go_on, daemon=True)
@@ -180,15 +186,19 @@ def ended(ran, folder):
 def main():
     """Runs a command under a watch. A signal that would end this ends the command."""
     root, *words = sys.argv[1:]
-    folder = None
+    folder = keeper = None
+    if words[0] == "--keep":
+        keeper, words = Keeper(), words[1:]
     if words[0] == "--told":
         _, folder, *words = words
     out = subprocess.PIPE if folder else None
     with subprocess.Popen(words, stdin=subprocess.DEVNULL, stdout=out) as ran:
         for it in (signal.SIGTERM, signal.SIGINT, signal.SIGHUP):
             signal.signal(it, lambda number, _: ran.send_signal(number))
-        with watched(ran.pid, f"{root}/{FILE}"):
+        with watched(ran.pid, f"{root}/{FILE}", keeper):
             status = ended(ran, folder)
+    if keeper:
+        keeper.hand_over(root)
     return status if status >= 0 else 128 - status
 
 
