@@ -12,6 +12,8 @@ import kit
 # Where a check with this number, that keeps nothing itself, has the modules that it has checked.
 MADE = "rattle-logic-built-locked-{}-0"
 ENDING = ".oantt"
+# The crate of an empty library.
+PROBE = "probe"
 
 
 def name_of_kept():
@@ -20,11 +22,11 @@ def name_of_kept():
     with tempfile.TemporaryDirectory() as folder:
         with open(f"{folder}/crates.txt", "w", encoding="utf-8"):
             pass
-        subprocess.run(["rt", "new", "crates/probe", "start_lib"], cwd=folder, check=True,
+        probe = f"{folder}/crates/{PROBE}"
+        subprocess.run(["rt", "new", probe, "start_lib"], cwd=folder, check=True,
                        stdout=subprocess.DEVNULL)
         with open(f"{folder}/crates.txt", "w", encoding="utf-8") as crates:
-            crates.write("probe:\n")
-        probe = f"{folder}/crates/probe"
+            crates.write(f"{PROBE}:\n")
         subprocess.run(["rt", "check"], cwd=probe, check=True, stdout=subprocess.DEVNULL)
         return os.listdir(f"{probe}/out/incremental")[0]
 
