@@ -32,7 +32,7 @@ NAME = r"[^\W\d][\w'-]*"
 HEAD = re.compile(rf"(?:(?:abbrev|unfoldable|record|data) )*pub (?:record |data )?({NAME})"
                   rf"|(?:abbrev|unfoldable|record|data) ({NAME})")
 USE = re.compile(r"(?:ghost )?use Rattle\.(\w+)\.specs\.([\w.]+)\.\{(.*)\}")
-ROW = re.compile(r"\| (canary_\w+) \| (\w+) \| (\d+) of (\d+) \| (.*) \|$")
+ROW = re.compile(r"\| (canary_\w+) \| ([\w/]+) \| (\d+) of (\d+) \| (.*) \|$")
 VIEW_ROW = re.compile(r"\| (canary_\w+) \| ((?:`\w+`(?:, )?)+) \|")
 MODEL = re.compile(r"^impl(?:<.*?>)? Model for (\w+)", re.M)
 # The crates whose types the main lists name.
@@ -54,6 +54,8 @@ class Module:
 
     def __init__(self, crate, path):
         self.key = (crate, path.stem)
+        # the file below specs/, as the page names it
+        self.place = path.relative_to(ROOT / "crates" / crate / "specs").with_suffix("").as_posix()
         self.bodies = {}   # the name of a definition -> its text
         self.owners = {}   # a constructor -> the name of its `data`
         self.used = {}     # a name -> the module that has it, and its name there
@@ -283,8 +285,11 @@ def differences(modules):
     for rows, definitions in zip(lists, lists_of(modules)):
         counts, above = count(definitions), {}
         below = {(d[0], c[0]) for d in definitions for c in cites(modules, d) & definitions}
-        for line, key, numbers, _ in rows:
+        for line, (crate, place), numbers, _ in rows:
+            key = (crate, place.rpartition("/")[2])
             name = " ".join(key)
+            if key in modules and modules[key].place != place:
+                yield line, f"{name} is the file {modules[key].place}"
             right = (counts.get(key, 0), len(modules[key].bodies) if key in modules else 0)
             if numbers != right:
                 yield line, f"{name}: the clauses reach {right[0]} of {right[1]} definitions"
@@ -304,14 +309,15 @@ def print_lists(modules):
         lists = page_lists(read_lines(PAGE))
     except OSError:
         lists = []
-    texts = {key: text for rows in lists for _, key, _, text in rows}
+    texts = {(crate, place.rpartition("/")[2]): text
+             for rows in lists for _, (crate, place), _, text in rows}
     order = list(texts)
     for definitions in lists_of(modules):
         counts = count(definitions)
         print(f"{len(definitions)} definitions in {len(counts)} files:\n")
         for key in sorted(counts, key=lambda k: (order.index(k) if k in order else len(order), k)):
-            whole = len(modules[key].bodies)
-            print(f"| {key[0]} | {key[1]} | {counts[key]} of {whole} | {texts.get(key, '?')} |")
+            whole, place = len(modules[key].bodies), modules[key].place
+            print(f"| {key[0]} | {place} | {counts[key]} of {whole} | {texts.get(key, '?')} |")
         print()
 
 
