@@ -38,7 +38,7 @@ def script_of(lines, port, provider):
     script = []
     for line in lines:
         line = line.replace("127.0.0.1:8080", f"127.0.0.1:{port}")
-        line = line.replace("127.0.0.1:9090", f"127.0.0.1:{provider}")
+        line = line.replace("127.0.0.1:9095", f"127.0.0.1:{provider}")
         if line.startswith("examples/argo/prometheus "):
             script += [line, WAIT_FOR_PORT.format(provider)]
         elif line.endswith(" &"):
