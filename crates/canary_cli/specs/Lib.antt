@@ -1,2 +1,3 @@
-pub mod Performed
 pub mod Opened
+pub mod Performed
+pub mod Watching

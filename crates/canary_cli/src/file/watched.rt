@@ -1,6 +1,7 @@
 //! A book in a file that somebody may take away or replace.
 ghost use Rattle.std.specs.Prelude.{◌≡◌, ◌⊎◌, Err};
 ghost use Rattle.canary_once.specs.declared.book.BookFault.TheVariants as book_fault;
+ghost use Rattle.canary_cli.specs.Watching.{IsOver};
 
 use crate::file::seat::Seat;
 use canary_base::lists::Listed;
@@ -125,3 +126,9 @@ impl<P: Files, B: Book + Drop> Placed for Watched<'_, P, B> {
         !self.is_lost
     }
 }
+
+/// However a watched book came about, it contains what the book contains that it watches, and its
+/// store is honest, and memory alone, exactly where that of the other is.
+pub(crate) fn watched_books<'a, P: Files, B: Book + Drop>(watched: &Watched<'a, P, B>)
+    ensures { IsOver (B.state watched.now.book) (⟦<Watched<'a, P, B> as Book>⟧.state watched.now) }
+{}
