@@ -2,6 +2,9 @@
 use Rattle.std.proofs.Common.{◌≡◌, ◌⊎◌, inl, inr, refl}
 use Rattle.std.specs.Prelude.{Result, Ok, Err, IfOk}
 use Rattle.sqlite.specs.Held.{Held, state}
+use Rattle.sqlite.specs.Steps.{over_memory}
+use Rattle.sqlite.proofs.Callers.{memory_is_clean}
+use Rattle.sqlite_trees.specs.declared.memory.MemStore.{MemStore}
 use Rattle.sqlite.specs.State.{State}
 use Rattle.sqlite_trees.specs.declared.store.Store.{Ghosts}
 use Rattle.canary_once.specs.Contents.{no_contents}
@@ -18,7 +21,7 @@ use Rattle.canary_tables.specs.declared.fault.TableFault.TheVariants as fault
 use Rattle.canary_tables.specs.Faults.{fault_of_store}
 use Rattle.canary_tables.specs.Adopts.{IsAdopted, TellsTables, LeavesRows, IsLeftBy, IsOutside}
 use Rattle.canary_tables.specs.Desk.{book_state, contents_in}
-use Rattle.canary_tables_laws.specs.TableBooks.{IsIntact, AreOfTheirRows, ContainsNothing, ContainsWhatWas, ShowsTables, HasItsTables, IsAsItWas, MayLoseConnection, StandsInNone}
+use Rattle.canary_tables_laws.specs.TableBooks.{IsIntact, AreOfTheirRows, AreHonestMemory, ContainsNothing, ContainsWhatWas, ShowsTables, HasItsTables, IsAsItWas, MayLoseConnection, StandsInNone}
 
 usable : (s : State) → IsIntact s → IsUsable s
 usable s i = record { clean = i.0; is_open = i.1 }
@@ -35,6 +38,13 @@ of_their_rows g h =
       memory = λ all k. intact (state g k) (all k);
       contents = refl;
     }
+
+memory_intact : (h : Held MemStore) → IsIntact (state over_memory h)
+memory_intact h = (memory_is_clean h, tt)
+
+pub in_memory : AreHonestMemory (book_state over_memory)
+in_memory h =
+    let rows = of_their_rows over_memory h in (rows.in_memory memory_intact, rows.honest (memory_intact h))
 
 pub made : {S E : Type 0} (g : Ghosts S) (old : State) (r : Result (Held S) E) → IfOk r (λ _. old.now.schema ≡ no_schema)
     → IfOk r (λ b. IsUsable (state g b) → contents_in (state g b) ≡ no_contents)

@@ -4,7 +4,7 @@ use Rattle.sqlite.specs.Effect.{Database}
 use Rattle.sqlite.specs.Held.{Held, state}
 use Rattle.sqlite.specs.State.{State, HasCleanDisk}
 use Rattle.sqlite_trees.specs.declared.store.Store.{Ghosts}
-use Rattle.canary_once.specs.BookCalls.{BookState}
+use Rattle.canary_once.specs.BookCalls.{BookState, IsHonestMemory}
 use Rattle.canary_once.specs.Contents.{Contents, no_contents}
 use Rattle.canary_once.specs.Sound.{AreContents}
 use Rattle.canary_tables_rows.specs.Limits.{AreWithin}
@@ -43,6 +43,10 @@ pub record IsOfItsRows {S : Type 0} (g : Ghosts S) (h : Held S) (b : BookState) 
 -- so each book over such a store
 abbrev pub AreOfTheirRows : {S : Type 0} → Ghosts S → (Held S → BookState) → Type 0
 AreOfTheirRows {S} g state_of = (h : Held S) → IsOfItsRows g h (state_of h)
+
+-- however such a book came about, its store is honest, and memory alone
+abbrev pub AreHonestMemory : {B : Type 0} → (B → BookState) → Type 0
+AreHonestMemory {B} state_of = (b : B) → IsHonestMemory (state_of b)
 
 -- the database is a desk's, and holds just the rows of what the book contains, those of tallies and
 -- of bindings with them; all of it is read back from them

@@ -1,0 +1,5 @@
+use Rattle.canary_tables_laws.proofs.TableBooks.{in_memory}
+use Rattle.canary_tables_laws.proofs.laws.memory_tables.Goals as goal
+
+pub returns : goal.returns
+returns g c = in_memory
