@@ -1,5 +1,5 @@
 //! Opening the file at a path as a database of SQLite.
-ghost use Rattle.std.specs.Prelude.{codes, ◌≡◌, ◌==◌, IsTrue, IfOk, IfErr};
+ghost use Rattle.std.specs.Prelude.{codes, ◌≡◌, ◌==◌, IsTrue, IfOk, IfErr, IsErrAnd, Ok};
 ghost use Rattle.std.specs.List.{starts_with};
 ghost use Rattle.sqlite.specs.Files.{file_state, IsOpened};
 ghost use Rattle.sqlite.specs.Held.{IsNew};
@@ -7,12 +7,12 @@ ghost use Rattle.sqlite.specs.Opening.{is_open_error};
 ghost use Rattle.sqlite.specs.State.{HasCleanDisk};
 ghost use Rattle.sqlite_std_file.specs.File.{file_is_usable};
 
-use crate::fault::{CANNOT_OPEN, NO_MEMORY, error_alone};
+use crate::fault::{CANNOT_OPEN, NO_MEMORY};
 use crate::make::make;
 use crate::options::options;
 use crate::pages::{is_blank, page_size};
 use sqlite::{
-    Connection, Error, ErrorCode, File, FileFrom, FileStore, Files, Options, Start, Unknown,
+    Alter, Connection, Error, ErrorCode, File, FileFrom, FileStore, Files, Options, Start, Unknown,
 };
 use sqlite_disk::Disk;
 use sqlite_std_file::OpenError;
@@ -79,18 +79,24 @@ fn connection_by<D: Disk + Drop>(
     ensures guarded { IfOk result
         (λ c. HasCleanDisk (file_state c) → (file_state c).IsShielded) }
 {
-    match Connection::open_files(rt.alloc(), files, options).map_err(error_alone) {
-        Ok(conn) => Ok(clocked(rt, conn)),
-        Err(error) => Err(error),
-    }
+    with_clock(rt, Connection::open_files(rt.alloc(), files, options))
 }
 
-// The connection with a clock, which changes nothing else.
-fn clocked<S: Alter>(rt: &HostRuntime, mut conn: Connection<S>) -> Connection<S>
-    ensures { result ≡ conn }
+// The connection, if it was opened, with a clock, which changes nothing else.
+fn with_clock<S: Alter + Drop, L: Drop>(
+    rt: &HostRuntime,
+    opened: Result<Connection<S>, (Error, L)>,
+) -> Result<Connection<S>, Error>
+    ensures ok { IfOk result (λ conn. opened ≡ Ok conn) }
+    ensures err { IfErr result (λ e. IsErrAnd opened (λ failed. failed.0 ≡ e)) }
 {
-    conn.set_clock(rt);
-    conn
+    match opened {
+        Ok(mut conn) => {
+            conn.set_clock(rt);
+            Ok(conn)
+        }
+        Err((error, _)) => Err(error),
+    }
 }
 
 // The file at a path and its log, which nobody else opens as a database meanwhile. If they have no

@@ -8,7 +8,7 @@ ghost use Rattle.sqlite_store.specs.Unopened.{AreUsable};
 ghost use Rattle.sqlite_trees.specs.View.{IsClean};
 
 use crate::connect::{open_pair, seed};
-use crate::fault::{error_alone, error_of};
+use crate::fault::error_of;
 use crate::listing::list;
 use crate::make::unopened;
 use crate::options::options;
@@ -94,9 +94,9 @@ fn opened<D: Disk + Drop>(unopened: Unopened<D>) -> Result<Option<FileStore<D>>,
     ensures guarded { IfOk result (λ found. IfSome found
         (λ store. IsTrue (view store).is_clean → is_shielded store)) }
 {
-    match unopened.open_numbered().map_err(error_alone) {
+    match unopened.open_numbered() {
         Ok(store) => Ok(Some(store)),
-        Err(error) => unless_refused(error),
+        Err((error, _)) => unless_refused(error),
     }
 }
 
