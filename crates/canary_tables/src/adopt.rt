@@ -140,7 +140,7 @@ impl<S: Alter + Drop> TableBook<S> {
     // tables are known to rise, and whether each row of tally has all its cells.
     pub(crate) fn adopt_opened<G: JudgingProgress>(
         alloc: Global,
-        conn: Connection<S>,
+        mut conn: Connection<S>,
         is_whole: bool,
         progress: &mut G,
     ) -> Result<TableBook<S>, (TableFault, Connection<S>)>
@@ -163,7 +163,6 @@ impl<S: Alter + Drop> TableBook<S> {
         if !is_desk(conn.schema()) {
             return Err((TableFault::Storage, conn));
         }
-        let mut conn = conn;
         match validate_tables(&mut conn, alloc, is_whole, progress) {
             Ok(()) => Ok(TableBook {
                 alloc,

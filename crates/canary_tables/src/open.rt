@@ -1,6 +1,10 @@
 //! A book over a file.
+ghost use Rattle.std.specs.Prelude.{◌≡◌, ◌↔◌, false, IsTrue};
+ghost use Rattle.sqlite.specs.Held.{state};
 ghost use Rattle.sqlite.specs.Steps.{IsFresh};
 ghost use Rattle.sqlite_trees.specs.View.{IsClean};
+ghost use Rattle.canary_tables_schema.specs.Formed.{IsRising, HasWholeTallies};
+ghost use Rattle.canary_tables_schema.specs.Stores.{IsUsable};
 
 use crate::book::TableBook;
 use crate::fault::TableFault;
@@ -10,7 +14,7 @@ use canary_tables_file::store::open_store;
 use canary_tables_schema::fault::fault_of;
 use canary_tables_schema::recognize::is_empty;
 use canary_tables_schema::reopen::open_desk;
-use sqlite::{Alter, Error, ErrorCode, File, FileStore};
+use sqlite::{Alter, Connection, Error, ErrorCode, File, FileStore};
 
 impl TableBook<FileStore<File>> {
     /// Opens the file of SQLite at a path as a book, or makes it (`connect` of canary_tables_file).
@@ -60,9 +64,25 @@ fn adopt_store<S: Alter + Drop, G: JudgingProgress>(
 ) -> Result<Option<TableBook<S>>, TableFault>
     requires { IsClean (S.Store.view store) → IsFresh (S.Store.view store) }
 {
-    let Some((mut conn, is_whole)) = open_desk(rt.alloc(), store)? else {
-        return Ok(None);
-    };
+    match open_desk(rt.alloc(), store) {
+        Ok(Some((conn, is_whole))) => adopt_connection(rt, conn, is_whole, progress),
+        Ok(None) => Ok(None),
+        Err(fault) => Err(fault.into()),
+    }
+}
+
+// Gives a connection a clock, and makes the book of its database, which has a desk's tables.
+fn adopt_connection<S: Alter + Drop, G: JudgingProgress>(
+    rt: &HostRuntime,
+    mut conn: Connection<S>,
+    is_whole: bool,
+    progress: &mut G,
+) -> Result<Option<TableBook<S>>, TableFault>
+    requires autocommit { conn.in_transaction ≡ false }
+    requires numbered { IsUsable (state S.Store conn) → IsRising (state S.Store conn).now }
+    requires whole { IsUsable (state S.Store conn)
+        → (IsTrue is_whole ↔ HasWholeTallies (state S.Store conn).now) }
+{
     conn.set_clock(rt);
     match TableBook::adopt_opened(rt.alloc(), conn, is_whole, progress) {
         Ok(book) => Ok(Some(book)),
