@@ -260,9 +260,9 @@ pub last_line_query : IsQuery (codes "SELECT place FROM history ORDER BY place D
 unfolding everything
 last_line_query = tt
 
-pub numbered_line_query : IsQuery (codes "SELECT place FROM history WHERE service = ?1 ORDER BY place LIMIT 1 OFFSET ?2")
+pub sample_query : IsQuery (codes "SELECT place FROM history WHERE service IS ?1 AND place > ?2 AND place <= ?3 ORDER BY place LIMIT 1 OFFSET 10")
 unfolding everything
-numbered_line_query = tt
+sample_query = tt
 
 abbrev pub lines_text : List ℕ
 lines_text = codes "SELECT moment, line FROM history WHERE service = ?1 ORDER BY place LIMIT ?3 OFFSET ?2"

@@ -18,9 +18,8 @@ use sqlite::types::ValueRef;
 use sqlite::{Row, params};
 use std::alloc::Global;
 
-// A line that the index leads to costs about so many of other services that are passed over in the
-// order of the table.
-const PASSED_BY_INDEX: i64 = 4;
+// So many lines of the table are looked at in each of four places.
+const SAMPLE: i64 = 32;
 
 /// The lines of the service's history, in their order. `Memory` where there is not enough,
 /// `Storage` where the database fails, `Broken` where a line is none that a program can hold.
@@ -53,16 +52,52 @@ fn history_shown<Q: Reader>(conn: &mut Q, service: &Name) -> Result<Vec<Row>, St
     }
 }
 
-// Whether one in `PASSED_BY_INDEX` lines of the table is the service's.
+// Whether a third of the table's lines or more are likely to be the service's: they are of each
+// sample. A line costs the index as much as some three lines that are passed over.
 fn has_large_part<Q: Reader>(conn: &mut Q, service: &Name) -> Result<bool, StoreFault>
     requires ready { Q.IsReady conn.old }
     ensures reads { Reads Q.IsReady Q.place Q.below Q.shows conn.old conn.new }
 {
-    let lines = last_place(conn)?;
-    has_line(conn, service, lines / PASSED_BY_INDEX)
+    let eighth = last_place(conn)? / 8;
+    let (third, fifth) = (eighth.saturating_mul(3), eighth.saturating_mul(5));
+    if are_dense(conn, service, eighth, third)? {
+        are_dense(conn, service, fifth, eighth.saturating_mul(7))
+    } else {
+        Ok(false)
+    }
 }
 
-// The place of the last line of the table, of which there are as many up to it; 0 if it has none.
+// Whether both samples are, behind these places.
+fn are_dense<Q: Reader>(
+    conn: &mut Q,
+    service: &Name,
+    first: i64,
+    second: i64,
+) -> Result<bool, StoreFault>
+    requires ready { Q.IsReady conn.old }
+    ensures reads { Reads Q.IsReady Q.place Q.below Q.shows conn.old conn.new }
+{
+    if is_dense(conn, service, first)? {
+        is_dense(conn, service, second)
+    } else {
+        Ok(false)
+    }
+}
+
+// Whether a third of the sample behind a place are the service's lines.
+fn is_dense<Q: Reader>(conn: &mut Q, service: &Name, place: i64) -> Result<bool, StoreFault>
+    requires ready { Q.IsReady conn.old }
+    ensures reads { Reads Q.IsReady Q.place Q.below Q.shows conn.old conn.new }
+{
+    let rows = conn.ask(
+        "SELECT place FROM history WHERE service IS ?1 AND place > ?2 AND place <= ?3 \
+         ORDER BY place LIMIT 1 OFFSET 10",
+        params![service.as_str(), place, place.saturating_add(SAMPLE)],
+    )?;
+    Ok(!rows.is_empty())
+}
+
+// The place of the last line of the table; 0 if it has none.
 fn last_place<Q: Reader>(conn: &mut Q) -> Result<i64, StoreFault>
     requires ready { Q.IsReady conn.old }
     ensures reads { Reads Q.IsReady Q.place Q.below Q.shows conn.old conn.new }
@@ -80,18 +115,6 @@ fn place_of(row: &Row) -> i64 {
         Ok(ValueRef::Int(place)) => place,
         _ => 0,
     }
-}
-
-// Whether the service has a line of that number, counted from 0. The index alone is gone over.
-fn has_line<Q: Reader>(conn: &mut Q, service: &Name, number: i64) -> Result<bool, StoreFault>
-    requires ready { Q.IsReady conn.old }
-    ensures reads { Reads Q.IsReady Q.place Q.below Q.shows conn.old conn.new }
-{
-    let rows = conn.ask(
-        "SELECT place FROM history WHERE service = ?1 ORDER BY place LIMIT 1 OFFSET ?2",
-        params![service.as_str(), number],
-    )?;
-    Ok(!rows.is_empty())
 }
 
 // Goes over the lines of all services. `IS` keeps the planner from the index on the service.
