@@ -91,10 +91,7 @@ pub fn convert(alloc: Global, sources: &[Source]) -> Result<Converted, Memory>
 {
     let mut work = Conversion::new(alloc);
     convert_sources(&mut work, sources);
-    if work.is_refused() {
-        return Err(Memory);
-    }
-    Ok(outcome_of(work))
+    Ok(outcome_of(work.unless_refused()?))
 }
 
 // Converts the documents of these sources, or reports that there are more than 1,000.

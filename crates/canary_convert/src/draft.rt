@@ -7,7 +7,7 @@ use canary_base::error::Memory;
 use serde_json::Value;
 use std::alloc::Global;
 
-/// A text that is being written. Once memory was refused, nothing more is put.
+/// A text that is being written. Once memory was refused, it is of no use, and its end says so.
 #[derive(Drop)]
 pub(crate) struct Draft {
     pub(crate) alloc: Global,

@@ -1,6 +1,8 @@
 //! What was made and found so far.
 //!
 //! It remembers that memory was refused, so that what converts has no exits for that.
+ghost use Rattle.std.specs.Prelude.{◌≡◌, true, false, IfOk, string_bytes};
+
 use crate::documents::ManifestObject;
 use crate::draft::Draft;
 use crate::finding::{Finding, Findings};
@@ -123,9 +125,14 @@ impl Conversion {
 
     // ---- memory
 
-    /// Whether memory was refused. What was made and found is of no use then.
-    pub(crate) fn is_refused(&self) -> bool {
-        self.is_refused
+    /// Itself, or `Memory` if that was refused. What was made and found is of no use then.
+    pub(crate) fn unless_refused(self) -> Result<Conversion, Memory>
+        ensures { IfOk result (λ _. self.is_refused ≡ false) }
+    {
+        if self.is_refused {
+            return Err(Memory);
+        }
+        Ok(self)
     }
 
     /// Remembers that memory was refused.
@@ -141,7 +148,10 @@ impl Conversion {
     }
 
     /// What was written; an empty text if memory was refused, which is remembered.
-    pub(crate) fn end(&mut self, draft: Draft) -> String {
+    pub(crate) fn end(&mut self, draft: Draft) -> String
+        ensures { self.new.is_refused ≡ false → (draft.is_refused ≡ false)
+            × (string_bytes result ≡ string_bytes draft.text) }
+    {
         match draft.end() {
             Ok(text) => text,
             Err(_) => self.no_text(),
@@ -149,7 +159,9 @@ impl Conversion {
     }
 
     /// A copy of this text; an empty one if memory was refused, which is remembered.
-    pub(crate) fn copy(&mut self, text: &str) -> String {
+    pub(crate) fn copy(&mut self, text: &str) -> String
+        ensures { self.new.is_refused ≡ false → string_bytes result ≡ text.now }
+    {
         match String::from_str(self.alloc, text) {
             Ok(text) => text,
             Err(_) => self.no_text(),
@@ -157,7 +169,9 @@ impl Conversion {
     }
 
     // An empty text, since memory was refused.
-    fn no_text(&mut self) -> String {
+    fn no_text(&mut self) -> String
+        ensures { self.new.is_refused ≡ true }
+    {
         self.is_refused = true;
         String::new(self.alloc)
     }
