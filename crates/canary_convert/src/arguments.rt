@@ -1,13 +1,12 @@
 //! The values of a template's arguments.
 use crate::documents::ManifestObject;
+use crate::draft::Draft;
 use crate::filling::{has_place, has_place_of};
-use crate::json::{list_at, member, push_key, push_value, text_at};
+use crate::json::{list_at, member, push_key, text_at};
 use crate::manifest_place::ManifestPlace;
 use crate::work::Conversion;
-use canary_base::error::Memory;
 use canary_base::names::Label;
 use serde_json::Value;
-use std::alloc::Global;
 
 /// A template, as an analysis of a Rollout uses it.
 #[derive(Clone, Copy)]
@@ -171,39 +170,28 @@ const NAME: &str = "expected 1 to 63 bytes of A-Z a-z 0-9 . _ -";
 const SOURCE: &str = "expected fieldRef with a fieldPath, podTemplateHashValue with Latest or \
     Stable, or secretKeyRef with a name and a key";
 
-/// Adds what is wrong in a list of arguments at that place, or `Memory`.
+/// Adds what is wrong in a list of arguments at that place.
 pub(crate) fn tell_arguments(
-    alloc: Global,
     work: &mut Conversion,
     place: ManifestPlace,
     inner: &'static str,
     arguments: &Vec<Value>,
-) -> Result<(), Memory> {
+) {
     for (index, argument) in arguments.iter().enumerate() {
-        tell_argument(alloc, work, place.inner(inner, index), argument)?;
+        tell_argument(work, place.inner(inner, index), argument);
     }
-    Ok(())
 }
 
 // Adds that an argument has an invalid name, a list or an object as its value, or no such source.
-fn tell_argument(
-    alloc: Global,
-    work: &mut Conversion,
-    place: ManifestPlace,
-    argument: &Value,
-) -> Result<(), Memory> {
+fn tell_argument(work: &mut Conversion, place: ManifestPlace, argument: &Value) {
     if Label::read(text_at(argument, "name").as_bytes()).is_none() {
-        work.tell(alloc, place.end("name"), &[NAME])?;
+        work.tell(place.end("name"), &[NAME]);
     }
-    match member(argument, "value") {
-        Some(value) if !is_plain(value) => {
-            work.tell(alloc, place.end("value"), &["expected a text"])?;
-        }
-        _ => {}
+    if !member(argument, "value").is_none_or(is_plain) {
+        work.tell(place.end("value"), &["expected a text"]);
     }
-    match member(argument, "valueFrom") {
-        Some(source) if !is_source(source) => work.tell(alloc, place.end("valueFrom"), &[SOURCE]),
-        _ => Ok(()),
+    if !member(argument, "valueFrom").is_none_or(is_source) {
+        work.tell(place.end("valueFrom"), &[SOURCE]);
     }
 }
 
@@ -221,36 +209,22 @@ fn is_source(source: &Value) -> bool {
 
 /// Appends the arguments that are known only as the agent measures, and of which the provider has a
 /// place: the members of an object.
-pub(crate) fn push_late(
-    alloc: Global,
-    case: &Case,
-    provider: &str,
-    out: &mut String,
-) -> Result<(), Memory> {
+pub(crate) fn push_late(case: &Case, provider: &str, out: &mut Draft) {
     let Some(arguments) = case.template.list("args") else {
-        return Ok(());
+        return;
     };
     for argument in arguments {
         let name = text_at(argument, "name");
         if has_place_of(provider, name) {
-            push_if_late(alloc, given_to(case, name), name, out)?;
+            push_if_late(given_to(case, name), name, out);
         }
     }
-    Ok(())
 }
 
 // Appends the argument as a member, if it is late, with its source as the value.
-fn push_if_late(
-    alloc: Global,
-    given: ArgumentValue,
-    name: &str,
-    out: &mut String,
-) -> Result<(), Memory> {
-    match given {
-        ArgumentValue::Late(source) => {
-            push_key(out, name)?;
-            push_value(alloc, out, source)
-        }
-        _ => Ok(()),
+fn push_if_late(given: ArgumentValue, name: &str, out: &mut Draft) {
+    if let ArgumentValue::Late(source) = given {
+        push_key(out, name);
+        out.put_value(source);
     }
 }

@@ -90,46 +90,45 @@ pub fn convert(alloc: Global, sources: &[Source]) -> Result<Converted, Memory>
     ensures { IfOk result IsAllOrNothing }
 {
     let mut work = Conversion::new(alloc);
-    convert_sources(alloc, &mut work, sources)?;
-    Ok(outcome_of(alloc, work))
+    convert_sources(&mut work, sources);
+    Ok(outcome_of(work.unless_refused()?))
 }
 
 // Converts the documents of these sources, or reports that there are more than 1,000.
-fn convert_sources(alloc: Global, work: &mut Conversion, sources: &[Source]) -> Result<(), Memory> {
-    let documents = documents_of(alloc, sources)?;
-    if documents.len() > MAX_DOCUMENTS {
-        return work.tell(alloc, ManifestPlace::of(0, None), &[DOCUMENTS]);
+fn convert_sources(work: &mut Conversion, sources: &[Source]) {
+    match documents_of(work.alloc, sources) {
+        Ok(documents) if documents.len() > MAX_DOCUMENTS => {
+            work.tell(ManifestPlace::of(0, None), &[DOCUMENTS]);
+        }
+        Ok(documents) => convert_documents(work, documents.as_slice()),
+        Err(_) => work.refuse(),
     }
-    convert_documents(alloc, work, documents.as_slice())
 }
 
 // Checks each document, converts the Rollouts, and then the templates that no Rollout names.
-fn convert_documents(
-    alloc: Global,
-    work: &mut Conversion,
-    documents: &[ManifestObject],
-) -> Result<(), Memory> {
+fn convert_documents(work: &mut Conversion, documents: &[ManifestObject]) {
     for (index, document) in documents.iter().enumerate() {
-        look_at(alloc, work, documents, index, document)?;
+        look_at(work, documents, index, document);
     }
     for document in documents {
         if document.kind() == "Rollout" {
-            convert_rollout(alloc, work, documents, document)?;
+            convert_rollout(work, documents, document);
         }
     }
     for (index, document) in documents.iter().enumerate() {
         if document.kind() == "AnalysisTemplate" && !work.is_used(index) {
-            convert_unused(alloc, work, document)?;
+            convert_unused(work, document);
         }
     }
-    work.close(alloc)
+    work.close();
 }
 
 // What was made, or else what was found.
-fn outcome_of(alloc: Global, work: Conversion) -> Converted
+fn outcome_of(work: Conversion) -> Converted
     ensures { IsAllOrNothing result }
 {
     let Conversion {
+        alloc,
         findings,
         notes,
         templates,
@@ -161,33 +160,56 @@ fn outcome_of(alloc: Global, work: Conversion) -> Converted
     }
 }
 
-// Adds what is wrong with a document, but for what it uses; or `Memory`.
+// Adds what is wrong with a document, but for what it uses.
 fn look_at(
-    alloc: Global,
     work: &mut Conversion,
     documents: &[ManifestObject],
     index: usize,
     document: &ManifestObject,
-) -> Result<(), Memory> {
-    let kind = document.kind();
+) {
     let place = document.place();
+    match look_of(document) {
+        Look::Nothing => {}
+        Look::NoKind => work.tell(place.at("kind"), &[KINDS]),
+        Look::Refused(instead) => work.tell(place, &[instead]),
+        Look::Ignored => work.note(place, &[document.kind(), " ", document.name(), IGNORED]),
+        Look::Rollout => look_at_name(work, documents, index, document),
+        Look::Template => {
+            look_at_name(work, documents, index, document);
+            tell_template(work, document);
+        }
+    }
+}
+
+// What is looked at in a document.
+#[derive(Clone, Copy)]
+enum Look {
+    Nothing,
+    NoKind,
+    // What to write in place of a kind.
+    Refused(&'static str),
+    Ignored,
+    Rollout,
+    Template,
+}
+
+// What is looked at in this document, by its kind.
+fn look_of(document: &ManifestObject) -> Look {
+    let kind = document.kind();
     if document.value.is_null() {
-        return Ok(());
+        Look::Nothing
+    } else if kind.is_empty() {
+        Look::NoKind
+    } else if kind == "Rollout" {
+        Look::Rollout
+    } else if kind == "AnalysisTemplate" {
+        Look::Template
+    } else {
+        match instead_of(kind) {
+            Some(instead) => Look::Refused(instead),
+            None => Look::Ignored,
+        }
     }
-    if kind.is_empty() {
-        return work.tell(alloc, place.at("kind"), &[KINDS]);
-    }
-    if let Some(instead) = instead_of(kind) {
-        return work.tell(alloc, place, &[instead]);
-    }
-    if kind != "AnalysisTemplate" && kind != "Rollout" {
-        return work.note(alloc, place, &[kind, " ", document.name(), IGNORED]);
-    }
-    look_at_name(alloc, work, documents, index, document)?;
-    if kind == "Rollout" {
-        return Ok(());
-    }
-    tell_template(alloc, work, document)
 }
 
 // What to write in place of a document of that kind, if the kind is refused.
@@ -202,35 +224,29 @@ fn instead_of(kind: &str) -> Option<&'static str> {
 
 // Adds that a document has an invalid name, or that of another one of its kind before it.
 fn look_at_name(
-    alloc: Global,
     work: &mut Conversion,
     documents: &[ManifestObject],
     index: usize,
     document: &ManifestObject,
-) -> Result<(), Memory> {
+) {
     let (kind, name) = (document.kind(), document.name());
     let place = document.place().at("metadata.name");
     if Name::read(name.as_bytes()).is_none() {
-        return work.tell(alloc, place, &[NAME]);
+        work.tell(place, &[NAME]);
+    } else if index_of(documents, kind, name) != Some(index) {
+        work.tell(place, &[kind, " ", name, TWICE]);
     }
-    if index_of(documents, kind, name) != Some(index) {
-        return work.tell(alloc, place, &[kind, " ", name, TWICE]);
-    }
-    Ok(())
 }
 
 // Converts a template that no Rollout names.
-fn convert_unused(
-    alloc: Global,
-    work: &mut Conversion,
-    document: &ManifestObject,
-) -> Result<(), Memory> {
+fn convert_unused(work: &mut Conversion, document: &ManifestObject) {
     let case = Case {
         template: *document,
         used_by: None,
     };
     if is_ready(&case) {
-        return convert_template(alloc, work, &case);
+        convert_template(work, &case);
+    } else {
+        work.note(document.place(), &[UNUSED]);
     }
-    work.note(alloc, document.place(), &[UNUSED])
 }

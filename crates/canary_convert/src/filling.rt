@@ -2,12 +2,11 @@
 //!
 //! A place in a text of JSON stands within a text, since two brackets in a row open nowhere else.
 use crate::arguments::{ArgumentValue, Case, given_to};
-use crate::json::{push_escaped, push_value};
+use crate::draft::Draft;
+use crate::json::push_escaped;
 use crate::manifest_place::ManifestPlace;
 use crate::work::Conversion;
-use canary_base::error::Memory;
 use serde_json::Value;
-use std::alloc::Global;
 
 /// In what text places are filled in.
 #[derive(Clone, Copy)]
@@ -56,102 +55,92 @@ fn place_in(piece: &str) -> Option<(&str, &str)> {
 /// Appends the text with its places filled in. If one cannot be, it reports that,
 /// and returns false.
 pub(crate) fn push_filled(
-    alloc: Global,
     work: &mut Conversion,
     case: &Case,
     place: ManifestPlace,
     mode: Mode,
     text: &str,
-    out: &mut String,
-) -> Result<bool, Memory> {
+    out: &mut Draft,
+) -> bool {
     let mut is_filled = true;
     let mut held = None;
     for piece in text.split("}}") {
         if let Some(held) = held {
-            let is_this = push_piece(alloc, work, case, place, mode, held, out)?;
+            let is_this = push_piece(work, case, place, mode, held, out);
             is_filled = is_filled && is_this;
         }
         held = Some(piece);
     }
-    out.push_str(held.unwrap_or(""))?;
-    Ok(is_filled)
+    out.put(held.unwrap_or(""));
+    is_filled
 }
 
 // The same of a piece, and the two closing brackets behind it.
 fn push_piece(
-    alloc: Global,
     work: &mut Conversion,
     case: &Case,
     place: ManifestPlace,
     mode: Mode,
     piece: &str,
-    out: &mut String,
-) -> Result<bool, Memory> {
+    out: &mut Draft,
+) -> bool {
     match place_in(piece) {
         Some((before, name)) => {
-            out.push_str(before)?;
-            push_argument(alloc, work, case, place, mode, name, out)
+            out.put(before);
+            push_argument(work, case, place, mode, name, out)
         }
         None => {
-            out.push_str(piece)?;
-            out.push_str("}}")?;
-            Ok(true)
+            out.put(piece);
+            out.put("}}");
+            true
         }
     }
 }
 
 // Appends what an argument is given.
 fn push_argument(
-    alloc: Global,
     work: &mut Conversion,
     case: &Case,
     place: ManifestPlace,
     mode: Mode,
     name: &str,
-    out: &mut String,
-) -> Result<bool, Memory> {
+    out: &mut Draft,
+) -> bool {
     match given_to(case, name) {
         ArgumentValue::Value(value) => {
-            push_given(alloc, mode, value, out)?;
-            Ok(true)
+            push_given(mode, value, out);
+            true
         }
         ArgumentValue::Late(_) if matches!(mode, Mode::Late) => {
-            push_place(name, out)?;
-            Ok(true)
+            push_place(name, out);
+            true
         }
         lacking => {
-            tell_lack(alloc, work, place, name, lacking.lack())?;
-            Ok(false)
+            tell_lack(work, place, name, lacking.lack());
+            false
         }
     }
 }
 
 // Adds what an argument lacks, at the text that has a place of it.
-fn tell_lack(
-    alloc: Global,
-    work: &mut Conversion,
-    place: ManifestPlace,
-    name: &str,
-    lack: &str,
-) -> Result<(), Memory> {
-    work.tell(alloc, place, &["{{args.", name, "}} ", lack])
+fn tell_lack(work: &mut Conversion, place: ManifestPlace, name: &str, lack: &str) {
+    work.tell(place, &["{{args.", name, "}} ", lack]);
 }
 
 // Appends a value: a text as it is in `Plain`, else escaped without quotes; any other as JSON.
-fn push_given(alloc: Global, mode: Mode, value: &Value, out: &mut String) -> Result<(), Memory> {
+fn push_given(mode: Mode, value: &Value, out: &mut Draft) {
     match value.as_str() {
-        Some(text) if matches!(mode, Mode::Plain) => Ok(out.push_str(text)?),
-        Some(text) => push_escaped(alloc, out, text),
-        None => push_value(alloc, out, value),
+        Some(text) if matches!(mode, Mode::Plain) => out.put(text),
+        Some(text) => push_escaped(out, text),
+        None => out.put_value(value),
     }
 }
 
 // Appends a place of that argument again, for the agent to fill in.
-fn push_place(name: &str, out: &mut String) -> Result<(), Memory> {
-    out.push_str("{{args.")?;
-    out.push_str(name)?;
-    out.push_str("}}")?;
-    Ok(())
+fn push_place(name: &str, out: &mut Draft) {
+    out.put("{{args.");
+    out.put(name);
+    out.put("}}");
 }
 
 /// Whether each place of the text can be filled in, but for those of arguments that the template

@@ -1,5 +1,4 @@
 //! What is found in manifests, and what is noted of them.
-use crate::manifest_place::ManifestPlace;
 use canary_base::error::Memory;
 use std::alloc::Global;
 
@@ -36,27 +35,9 @@ impl Findings {
         }
     }
 
-    /// Adds what is found at a place, and at that byte of a condition, in parts that follow one
-    /// another; or `Memory`.
-    pub(crate) fn tell(
-        &mut self,
-        alloc: Global,
-        place: ManifestPlace,
-        at: Option<usize>,
-        parts: &[&str],
-    ) -> Result<(), Memory> {
-        let mut finding = Finding {
-            source: place.source,
-            path: String::new(alloc),
-            text: String::new(alloc),
-            at,
-        };
-        finding.write(place, parts)?;
-        self.add(finding)
-    }
-
-    // Adds a finding, unless the same is there already; from the 101st on it is counted only.
-    fn add(&mut self, finding: Finding) -> Result<(), Memory> {
+    /// Adds a finding, unless the same is there already; or `Memory`. From the 101st on it is
+    /// counted only.
+    pub(crate) fn add(&mut self, finding: Finding) -> Result<(), Memory> {
         if self.has(&finding) {
             return Ok(());
         }
@@ -80,31 +61,10 @@ impl Findings {
 }
 
 impl Finding {
-    // Fills in its path and its text, of parts that follow one another.
-    fn write(&mut self, place: ManifestPlace, parts: &[&str]) -> Result<(), Memory> {
-        place.write(&mut self.path)?;
-        for part in parts {
-            push_plain(&mut self.text, part)?;
-        }
-        Ok(())
-    }
-
     // Whether both say the same of one place; the byte does not count.
     fn is_same(&self, other: &Finding) -> bool {
         self.source == other.source
             && self.path.as_str() == other.path.as_str()
             && self.text.as_str() == other.text.as_str()
     }
-}
-
-// Appends a text, with its control characters as their codes.
-fn push_plain(out: &mut String, text: &str) -> Result<(), Memory> {
-    for letter in text.chars() {
-        if letter.is_control() {
-            write!(out, "\\u{:04x}", letter as u32)?;
-        } else {
-            out.push(letter)?;
-        }
-    }
-    Ok(())
 }

@@ -1,7 +1,9 @@
 //! Members of values, and JSON as text.
-ghost use Rattle.std.specs.Prelude.{◌≡◌, ◌∷◌, ◌++◌, [], List, ℕ, IfOk, IfSome, string_bytes};
+ghost use Rattle.std.specs.Prelude.{◌≡◌, ◌∷◌, ◌++◌, [], List, ℕ, false, IfOk, IfSome};
+ghost use Rattle.std.specs.Prelude.{string_bytes};
 ghost use Rattle.canary_convert.specs.Making.{IsQuoted, IsEscaped};
 
+use crate::draft::Draft;
 use canary_base::error::Memory;
 use serde_json::Value;
 use std::alloc::Global;
@@ -37,27 +39,18 @@ pub(crate) fn list_in(value: &Value) -> Option<&Vec<Value>> {
 }
 
 /// Appends a comma, unless what follows is the first member or item.
-pub(crate) fn push_comma(out: &mut String) -> Result<(), Memory> {
+pub(crate) fn push_comma(out: &mut Draft) {
     if !out.as_str().ends_with("{") && !out.as_str().ends_with("[") {
-        out.push_str(",")?;
+        out.put(",");
     }
-    Ok(())
 }
 
 /// Appends the key of a member, which has no bytes that are escaped.
-pub(crate) fn push_key(out: &mut String, key: &str) -> Result<(), Memory> {
-    push_comma(out)?;
-    out.push_str("\"")?;
-    out.push_str(key)?;
-    out.push_str("\":")?;
-    Ok(())
-}
-
-/// Appends a value.
-pub(crate) fn push_value(alloc: Global, out: &mut String, value: &Value) -> Result<(), Memory> {
-    let text = value.to_string(alloc)?;
-    out.push_str(text.as_str())?;
-    Ok(())
+pub(crate) fn push_key(out: &mut Draft, key: &str) {
+    push_comma(out);
+    out.put("\"");
+    out.put(key);
+    out.put("\":");
 }
 
 /// The text, quoted and escaped.
@@ -69,30 +62,32 @@ pub(crate) fn quoted(alloc: Global, text: &str) -> Result<String, Memory>
 }
 
 /// Appends a text, quoted and escaped.
-pub(crate) fn push_text(alloc: Global, out: &mut String, text: &str) -> Result<(), Memory> {
-    let quoted = quoted(alloc, text)?;
-    out.push_str(quoted.as_str())?;
-    Ok(())
+pub(crate) fn push_text(out: &mut Draft, text: &str) {
+    out.put_made(quoted(out.alloc, text));
 }
 
 /// Appends a text, escaped, without quotes. So it never ends the text of JSON that it stands in.
-pub(crate) fn push_escaped(alloc: Global, out: &mut String, text: &str) -> Result<(), Memory>
-    ensures { IfOk result (λ _. (inner : List ℕ) × IsEscaped text.now inner
-        × (string_bytes out.new ≡ string_bytes out.old ++ inner)) }
+pub(crate) fn push_escaped(out: &mut Draft, text: &str)
+    ensures { out.new.is_refused ≡ false → (out.old.is_refused ≡ false)
+        × ((inner : List ℕ) × IsEscaped text.now inner
+        × (string_bytes out.new.text ≡ string_bytes out.old.text ++ inner)) }
 {
-    let quoted = quoted(alloc, text)?;
-    push_unquoted(out, quoted.as_str())
+    match quoted(out.alloc, text) {
+        Ok(quoted) => push_unquoted(out, quoted.as_str()),
+        Err(_) => out.refuse(),
+    }
 }
 
 // Appends what stands between quotes.
-fn push_unquoted(out: &mut String, quoted: &str) -> Result<(), Memory>
-    ensures { IfOk result (λ _. (inner : List ℕ) × (quoted.now ≡ 34 ∷ inner ++ 34 ∷ [])
-        × (string_bytes out.new ≡ string_bytes out.old ++ inner)) }
+fn push_unquoted(out: &mut Draft, quoted: &str)
+    ensures { out.new.is_refused ≡ false → (out.old.is_refused ≡ false)
+        × ((inner : List ℕ) × (quoted.now ≡ 34 ∷ inner ++ 34 ∷ [])
+        × (string_bytes out.new.text ≡ string_bytes out.old.text ++ inner)) }
 {
     match unquoted(quoted) {
-        Some(inner) => Ok(out.push_str(inner)?),
+        Some(inner) => out.put(inner),
         // a text of JSON is always quoted
-        None => Err(Memory),
+        None => out.refuse(),
     }
 }
 
@@ -105,40 +100,31 @@ fn unquoted(quoted: &str) -> Option<&str>
 }
 
 /// Appends the member of that key, if there is one.
-pub(crate) fn push_member(
-    alloc: Global,
-    out: &mut String,
-    value: &Value,
-    key: &str,
-) -> Result<(), Memory> {
-    match member(value, key) {
-        Some(member) => {
-            push_key(out, key)?;
-            push_value(alloc, out, member)
-        }
-        None => Ok(()),
+pub(crate) fn push_member(out: &mut Draft, value: &Value, key: &str) {
+    if let Some(member) = member(value, key) {
+        push_key(out, key);
+        out.put_value(member);
     }
 }
 
 /// Appends all members of an object but those of these keys.
-pub(crate) fn push_others(
-    alloc: Global,
-    out: &mut String,
-    value: &Value,
-    left_out: &[&str],
-) -> Result<(), Memory> {
+pub(crate) fn push_others(out: &mut Draft, value: &Value, left_out: &[&str]) {
     let Some(members) = value.as_object() else {
-        return Ok(());
+        return;
     };
     for (key, member) in members.iter() {
         if !is_any_of(left_out, key.as_str()) {
-            push_comma(out)?;
-            push_text(alloc, out, key.as_str())?;
-            out.push_str(":")?;
-            push_value(alloc, out, member)?;
+            push_entry(out, key.as_str(), member);
         }
     }
-    Ok(())
+}
+
+// Appends a member, of any key.
+fn push_entry(out: &mut Draft, key: &str, member: &Value) {
+    push_comma(out);
+    push_text(out, key);
+    out.put(":");
+    out.put_value(member);
 }
 
 /// Whether it is one of these.
@@ -152,20 +138,13 @@ pub(crate) fn is_any_of(known: &[&str], key: &str) -> bool {
 }
 
 /// Appends how a manifest begins, up to the members of its `spec`.
-pub(crate) fn push_head(
-    alloc: Global,
-    out: &mut String,
-    manifest: &Value,
-    kind: &str,
-    name: &str,
-) -> Result<(), Memory> {
-    out.push_str("{")?;
-    push_member(alloc, out, manifest, "apiVersion")?;
-    push_key(out, "kind")?;
-    push_text(alloc, out, kind)?;
-    push_key(out, "metadata")?;
-    out.push_str("{\"name\":")?;
-    push_text(alloc, out, name)?;
-    out.push_str("},\"spec\":{")?;
-    Ok(())
+pub(crate) fn push_head(out: &mut Draft, manifest: &Value, kind: &str, name: &str) {
+    out.put("{");
+    push_member(out, manifest, "apiVersion");
+    push_key(out, "kind");
+    push_text(out, kind);
+    push_key(out, "metadata");
+    out.put("{\"name\":");
+    push_text(out, name);
+    out.put("},\"spec\":{");
 }

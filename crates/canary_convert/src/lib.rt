@@ -11,6 +11,7 @@
 mod arguments;
 pub mod conversion;
 mod documents;
+mod draft;
 mod filling;
 pub mod finding;
 mod json;

@@ -1,5 +1,6 @@
 //! Where something stands.
-use canary_base::error::Memory;
+use crate::draft::Draft;
+use std::alloc::Global;
 
 /// Where something stands: in which source, at which item of a list of documents, and under which
 /// keys.
@@ -68,27 +69,33 @@ impl ManifestPlace {
         ManifestPlace { end, ..self }
     }
 
-    /// Appends the keys and indices that lead there.
-    pub(crate) fn write(self, out: &mut String) -> Result<(), Memory> {
-        if let Some(item) = self.item {
-            write!(out, "items[{item}]")?;
-            out.push_str(if self.list.is_empty() { "" } else { "." })?;
-        }
-        out.push_str(self.list)?;
-        push_index(out, self.index)?;
-        out.push_str(self.part)?;
-        out.push_str(self.inner)?;
-        push_index(out, self.inner_index)?;
-        out.push_str(if self.end.is_empty() { "" } else { "." })?;
-        out.push_str(self.end)?;
-        Ok(())
+    /// The keys and indices that lead there.
+    pub(crate) fn path(self, alloc: Global) -> Draft {
+        let mut out = Draft::new(alloc);
+        put_item(&mut out, self.item, self.list);
+        out.put_index(self.index);
+        out.put(self.part);
+        out.put(self.inner);
+        out.put_index(self.inner_index);
+        put_end(&mut out, self.end);
+        out
     }
 }
 
-// Appends an index in square brackets, if there is one.
-fn push_index(out: &mut String, index: Option<usize>) -> Result<(), Memory> {
-    if let Some(index) = index {
-        write!(out, "[{index}]")?;
+// Appends an item of a list of documents, if there is one, and the keys that follow it.
+fn put_item(out: &mut Draft, item: Option<usize>, list: &str) {
+    if item.is_some() {
+        out.put("items");
+        out.put_index(item);
+        out.put(if list.is_empty() { "" } else { "." });
     }
-    Ok(())
+    out.put(list);
+}
+
+// Appends a point and that key, if there is one.
+fn put_end(out: &mut Draft, end: &str) {
+    if !end.is_empty() {
+        out.put(".");
+        out.put(end);
+    }
 }

@@ -3,6 +3,7 @@ ghost use Rattle.std.specs.Prelude.{IfOk, string_bytes};
 ghost use Rattle.canary_convert.specs.Making.{IsQuotedTranslation};
 
 use crate::arguments::{Case, push_late};
+use crate::draft::Draft;
 use crate::filling::{Mode, has_place, is_given, push_filled};
 use crate::json::{member, push_comma, push_key, push_text, quoted, text_at};
 use crate::manifest_place::ManifestPlace;
@@ -10,7 +11,6 @@ use crate::work::{Conversion, Planned};
 use canary_argo::fault::{SyntaxFinding, TranslationFault};
 use canary_argo::form::{Form, Needs, Shape};
 use canary_argo::translation::translate;
-use canary_base::error::Memory;
 use canary_base::names::Label;
 use serde_json::Value;
 use std::alloc::Global;
@@ -87,26 +87,30 @@ const SUFFIXED: &str = "a name that ends as that of a translated metric: write a
 
 // The key of the provider, empty if there is none. If it is not asked, that is
 // reported.
-fn kind_of<'a>(
-    alloc: Global,
-    work: &mut Conversion,
-    spot: &TemplateMetric<'a>,
-) -> Result<Option<&'a str>, Memory> {
+fn kind_of<'a>(work: &mut Conversion, spot: &TemplateMetric<'a>) -> Option<&'a str> {
     let Some(provider) = member(spot.metric, "provider") else {
-        return Ok(Some(""));
+        return Some("");
     };
     let kind = only_key(provider);
-    let fault = if kind.is_empty() {
+    let fault = fault_of_kind(kind, spot.metric);
+    if fault.is_empty() {
+        return Some(kind);
+    }
+    work.tell(spot.place.end("provider"), &[fault]);
+    None
+}
+
+// Why a provider of that kind is not asked; empty if it is.
+fn fault_of_kind(kind: &str, metric: &Value) -> &'static str {
+    if kind.is_empty() {
         PROVIDER
     } else if kind == "kayenta" {
         KAYENTA
-    } else if kind == "job" && has_condition(spot.metric) {
+    } else if kind == "job" && has_condition(metric) {
         JOB
     } else {
-        return Ok(Some(kind));
-    };
-    work.tell(alloc, spot.place.end("provider"), &[fault])?;
-    Ok(None)
+        ""
+    }
 }
 
 // The key of the only member that is not null; empty if there are none or several.
@@ -132,35 +136,27 @@ fn has_condition(metric: &Value) -> bool {
 }
 
 // The name, with its places filled in. If it is invalid, that is reported.
-fn name_of(
-    alloc: Global,
-    work: &mut Conversion,
-    spot: &TemplateMetric,
-) -> Result<Option<Label>, Memory> {
-    let mut name = String::new(alloc);
-    if !push_plain(alloc, work, spot, "name", &mut name)? {
-        return Ok(None);
+fn name_of(work: &mut Conversion, spot: &TemplateMetric) -> Option<Label> {
+    let mut name = Draft::new(work.alloc);
+    if push_plain(work, spot, "name", &mut name) {
+        read_name(work, spot, name.as_str())
+    } else {
+        None
     }
-    read_name(alloc, work, spot, name.as_str())
 }
 
 // The label of that name. If it is invalid, or ends as a translated one, that is reported.
-fn read_name(
-    alloc: Global,
-    work: &mut Conversion,
-    spot: &TemplateMetric,
-    name: &str,
-) -> Result<Option<Label>, Memory> {
+fn read_name(work: &mut Conversion, spot: &TemplateMetric, name: &str) -> Option<Label> {
     let label = Label::read(name.as_bytes());
     let fault = if label.is_none() {
         LABEL
     } else if is_suffixed(name) {
         SUFFIXED
     } else {
-        return Ok(label);
+        return label;
     };
-    work.tell(alloc, spot.place.end("name"), &[fault])?;
-    Ok(None)
+    work.tell(spot.place.end("name"), &[fault]);
+    None
 }
 
 // Without the letter for what is reported beside decimals.
@@ -205,136 +201,107 @@ fn are_digits(text: &str) -> bool {
 // Appends the text under that key, with its places filled in. If it is no text, or a place cannot
 // be filled in, that is reported, and false returned.
 fn push_plain(
-    alloc: Global,
     work: &mut Conversion,
     spot: &TemplateMetric,
     key: &'static str,
-    out: &mut String,
-) -> Result<bool, Memory> {
+    out: &mut Draft,
+) -> bool {
     let place = spot.place.end(key);
     match member(spot.metric, key) {
         Some(member) if !member.is_string() => {
-            work.tell(alloc, place, &["expected a text"])?;
-            Ok(false)
+            work.tell(place, &["expected a text"]);
+            false
         }
         _ => {
             let text = text_at(spot.metric, key);
-            push_filled(alloc, work, &spot.case, place, Mode::Plain, text, out)
+            push_filled(work, &spot.case, place, Mode::Plain, text, out)
         }
     }
 }
 
 /// How the metric is called at the desk. If it has no valid name there, that is
 /// reported.
-pub(crate) fn call(
-    alloc: Global,
-    work: &mut Conversion,
-    spot: &TemplateMetric,
-) -> Result<Option<Called>, Memory> {
-    let Some(kind) = kind_of(alloc, work, spot)? else {
-        return Ok(None);
-    };
-    let Some(name) = name_of(alloc, work, spot)? else {
-        return Ok(None);
-    };
+pub(crate) fn call(work: &mut Conversion, spot: &TemplateMetric) -> Option<Called> {
+    let kind = kind_of(work, spot)?;
+    let name = name_of(work, spot)?;
     if kind.is_empty() || kind == "job" {
-        return Ok(Some(Called {
+        return Some(Called {
             name,
             label: name,
             form: None,
-        }));
+        });
     }
-    match form_of(alloc, work, spot, kind)? {
-        Some(form) => labelled(alloc, work, spot, name, form),
-        None => Ok(None),
-    }
+    let form = form_of(work, spot, kind)?;
+    labelled(work, spot, name, form)
 }
 
 // The name with the suffix of its form. If both together are too long, that is reported.
 fn labelled(
-    alloc: Global,
     work: &mut Conversion,
     spot: &TemplateMetric,
     name: Label,
     form: Form,
-) -> Result<Option<Called>, Memory> {
-    let mut text = String::from_str(alloc, name.as_str())?;
-    form.suffix(&mut text)?;
-    let Some(label) = Label::read(text.as_bytes()) else {
-        let place = spot.place.end("name");
-        let parts = &[
-            text.as_str(),
-            " is longer than 63 bytes: write a shorter name",
-        ];
-        work.tell(alloc, place, parts)?;
-        return Ok(None);
-    };
-    Ok(Some(Called {
+) -> Option<Called> {
+    let text = suffixed(work, name, form);
+    let label = read_long(work, spot, text.as_str())?;
+    Some(Called {
         name,
         label,
         form: Some(form),
-    }))
+    })
+}
+
+// The name with the suffix of this form behind it.
+fn suffixed(work: &mut Conversion, name: Label, form: Form) -> String {
+    let mut text = work.copy(name.as_str());
+    if form.suffix(&mut text).is_err() {
+        work.refuse();
+    }
+    text
+}
+
+// The label of that name with its suffix. If it is too long, that is reported.
+fn read_long(work: &mut Conversion, spot: &TemplateMetric, text: &str) -> Option<Label> {
+    let label = Label::read(text.as_bytes());
+    if label.is_none() {
+        let parts = &[text, " is longer than 63 bytes: write a shorter name"];
+        work.tell(spot.place.end("name"), parts);
+    }
+    label
 }
 
 // ---- conditions
 
-// The conditions of a metric, with their places filled in; empty if there are none.
-#[derive(Drop)]
-struct ConditionTexts {
-    success: String,
-    failure: String,
-}
-
 // The form in which the values are reported. If a condition is not translated, that is
 // reported.
-fn form_of(
-    alloc: Global,
-    work: &mut Conversion,
-    spot: &TemplateMetric,
-    kind: &str,
-) -> Result<Option<Form>, Memory> {
-    let mut conditions = ConditionTexts {
-        success: String::new(alloc),
-        failure: String::new(alloc),
-    };
-    if !fill_conditions(alloc, work, spot, &mut conditions)? {
-        return Ok(None);
+fn form_of(work: &mut Conversion, spot: &TemplateMetric, kind: &str) -> Option<Form> {
+    let mut success = Draft::new(work.alloc);
+    let mut failure = Draft::new(work.alloc);
+    let has_success = push_plain(work, spot, SUCCESS, &mut success);
+    let has_failure = push_plain(work, spot, FAILURE, &mut failure);
+    if has_success && has_failure {
+        form_of_conditions(work, spot, kind, success.as_str(), failure.as_str())
+    } else {
+        None
     }
-    form_of_conditions(alloc, work, spot, kind, &conditions)
-}
-
-// Fills in both conditions; false if one cannot be filled in, which is reported.
-fn fill_conditions(
-    alloc: Global,
-    work: &mut Conversion,
-    spot: &TemplateMetric,
-    conditions: &mut ConditionTexts,
-) -> Result<bool, Memory> {
-    let success = push_plain(alloc, work, spot, SUCCESS, &mut conditions.success)?;
-    let failure = push_plain(alloc, work, spot, FAILURE, &mut conditions.failure)?;
-    Ok(success && failure)
 }
 
 // The form that both conditions together need; without any, that of the provider's kind.
 fn form_of_conditions(
-    alloc: Global,
     work: &mut Conversion,
     spot: &TemplateMetric,
     kind: &str,
-    conditions: &ConditionTexts,
-) -> Result<Option<Form>, Memory> {
-    let none = Needs::none();
-    let success = conditions.success.as_str();
-    let failure = conditions.failure.as_str();
+    success: &str,
+    failure: &str,
+) -> Option<Form> {
     if success.is_empty() && failure.is_empty() {
-        return Ok(Some(unconditional_form(kind)));
+        return Some(unconditional_form(kind));
     }
-    let first = with_condition(alloc, work, spot, SUCCESS, none, success)?;
-    let both = with_condition(alloc, work, spot, FAILURE, first.unwrap_or(none), failure)?;
-    match (first, both) {
-        (Some(_), Some(needs)) => form_of_needs(alloc, work, spot, needs),
-        _ => Ok(None),
-    }
+    let none = Needs::none();
+    let first = with_condition(work, spot, SUCCESS, none, success);
+    let both = with_condition(work, spot, FAILURE, first.unwrap_or(none), failure);
+    first?;
+    form_of_needs(work, spot, both?)
 }
 
 // The form of a metric without a condition: Prometheus answers a list.
@@ -347,170 +314,145 @@ fn unconditional_form(kind: &str) -> Form {
 }
 
 // The form that fits these needs. If there is no such form, that is reported.
-fn form_of_needs(
-    alloc: Global,
-    work: &mut Conversion,
-    spot: &TemplateMetric,
-    needs: Needs,
-) -> Result<Option<Form>, Memory> {
+fn form_of_needs(work: &mut Conversion, spot: &TemplateMetric, needs: Needs) -> Option<Form> {
     match needs.form() {
-        Ok(form) => Ok(Some(form)),
+        Ok(form) => Some(form),
         Err(why) => {
-            work.tell(alloc, spot.place, &[why.text()])?;
-            Ok(None)
+            work.tell(spot.place, &[why.text()]);
+            None
         }
     }
 }
 
 // The needs, with those of this condition, unless it is empty. A fault of it is reported.
 fn with_condition(
-    alloc: Global,
     work: &mut Conversion,
     spot: &TemplateMetric,
     key: &'static str,
     needs: Needs,
     text: &str,
-) -> Result<Option<Needs>, Memory> {
+) -> Option<Needs> {
     if text.is_empty() {
-        return Ok(Some(needs));
+        return Some(needs);
     }
-    match needs.with_condition(alloc, text) {
-        Ok(needs) => Ok(Some(needs)),
+    match needs.with_condition(work.alloc, text) {
+        Ok(needs) => Some(needs),
         Err(fault) => {
-            tell_fault(alloc, work, spot, key, text, fault)?;
-            Ok(None)
+            tell_fault(work, spot, key, text, fault);
+            None
         }
     }
 }
 
 // Adds why a condition is not translated. If places of it were filled in, it is shown.
 fn tell_fault(
-    alloc: Global,
     work: &mut Conversion,
     spot: &TemplateMetric,
     key: &'static str,
     text: &str,
     fault: TranslationFault,
-) -> Result<(), Memory> {
+) {
     let place = spot.place.end(key);
     match fault {
-        TranslationFault::Memory => Err(Memory),
+        TranslationFault::Memory => work.refuse(),
         TranslationFault::Refused(SyntaxFinding { why, at }) if text == text_at(spot.metric, key) =>
-            { work.findings.tell(alloc, place, Some(at), &[why.text()]) }
-        TranslationFault::Refused(SyntaxFinding { why, .. }) => tell_filled(
-            alloc,
-            work,
-            place,
-            why.text(),
-            text,
-        ),
+            { work.tell_at(place, Some(at), &[why.text()]) }
+        TranslationFault::Refused(SyntaxFinding { why, .. }) => {
+            tell_filled(work, place, why.text(), text);
+        }
     }
 }
 
 // Adds why a condition is not translated, with its text, which the manifest does not show so.
-fn tell_filled(
-    alloc: Global,
-    work: &mut Conversion,
-    place: ManifestPlace,
-    why: &str,
-    text: &str,
-) -> Result<(), Memory> {
-    work.tell(alloc, place, &[why, " (filled in: ", text, ")"])
+fn tell_filled(work: &mut Conversion, place: ManifestPlace, why: &str, text: &str) {
+    work.tell(place, &[why, " (filled in: ", text, ")"]);
 }
 
 // ---- the desk's metric
 
 /// Appends the metric as the desk reads it, and reports what is wrong with it.
-pub(crate) fn push_metric(
-    alloc: Global,
-    work: &mut Conversion,
-    spot: &TemplateMetric,
-    out: &mut String,
-) -> Result<(), Memory> {
-    let Some(called) = call(alloc, work, spot)? else {
-        return Ok(());
-    };
-    push_comma(out)?;
-    out.push_str("{\"name\":")?;
-    push_text(alloc, out, called.label.as_str())?;
-    push_conditions(alloc, work, spot, called, out)?;
-    for key in &DESK[3..] {
-        push_desk_member(alloc, work, spot, *key, out)?;
+pub(crate) fn push_metric(work: &mut Conversion, spot: &TemplateMetric, out: &mut Draft) {
+    if let Some(called) = call(work, spot) {
+        push_called(work, spot, called, out);
     }
-    out.push_str("}")?;
-    Ok(())
+}
+
+// Appends the metric under that name.
+fn push_called(work: &mut Conversion, spot: &TemplateMetric, called: Called, out: &mut Draft) {
+    push_comma(out);
+    out.put("{\"name\":");
+    push_text(out, called.label.as_str());
+    push_conditions(work, spot, called, out);
+    for key in &DESK[3..] {
+        push_desk_member(work, spot, *key, out);
+    }
+    out.put("}");
 }
 
 // Appends the conditions: translated; for a job, that its result is 1; or else the desk's own.
-fn push_conditions(
-    alloc: Global,
-    work: &mut Conversion,
-    spot: &TemplateMetric,
-    called: Called,
-    out: &mut String,
-) -> Result<(), Memory> {
+fn push_conditions(work: &mut Conversion, spot: &TemplateMetric, called: Called, out: &mut Draft) {
     match called.form {
         Some(form) => {
-            push_translated(alloc, work, spot, SUCCESS, form, out)?;
-            push_translated(alloc, work, spot, FAILURE, form, out)
+            push_translated(work, spot, SUCCESS, form, out);
+            push_translated(work, spot, FAILURE, form, out);
         }
         None if member(spot.metric, "provider").is_some() => {
-            push_key(out, SUCCESS)?;
-            push_text(alloc, out, "result == 1")
+            push_key(out, SUCCESS);
+            push_text(out, "result == 1");
         }
         None => {
-            push_desk_member(alloc, work, spot, SUCCESS, out)?;
-            push_desk_member(alloc, work, spot, FAILURE, out)
+            push_desk_member(work, spot, SUCCESS, out);
+            push_desk_member(work, spot, FAILURE, out);
         }
     }
 }
 
 // Appends the condition under that key, translated.
 fn push_translated(
-    alloc: Global,
     work: &mut Conversion,
     spot: &TemplateMetric,
     key: &'static str,
     form: Form,
-    out: &mut String,
-) -> Result<(), Memory> {
-    let mut text = String::new(alloc);
-    push_plain(alloc, work, spot, key, &mut text)?;
-    push_translation(alloc, work, spot, key, form, text.as_str(), out)
+    out: &mut Draft,
+) {
+    let mut text = Draft::new(work.alloc);
+    push_plain(work, spot, key, &mut text);
+    if !text.as_str().is_empty() {
+        push_translation(work, spot, key, form, text.as_str(), out);
+    }
 }
 
-// Appends the translation of a condition, unless it is empty, and notes if NaN fails by it.
+// Appends the translation of a condition, and notes if NaN fails by it.
 fn push_translation(
-    alloc: Global,
     work: &mut Conversion,
     spot: &TemplateMetric,
     key: &'static str,
     form: Form,
     text: &str,
-    out: &mut String,
-) -> Result<(), Memory> {
-    if text.is_empty() {
-        return Ok(());
-    }
-    let fails_nan = !form.has_nan() && compares_decimals(alloc, text)?;
-    match quoted_translation(alloc, text, form) {
+    out: &mut Draft,
+) {
+    let fails_nan = !form.has_nan() && compares_decimals(work, text);
+    match quoted_translation(work.alloc, text, form) {
         Ok(condition) => {
             if fails_nan {
                 work.see_nan(spot.place);
             }
-            push_key(out, key)?;
-            Ok(out.push_str(condition.as_str())?)
+            push_key(out, key);
+            out.put(condition.as_str());
         }
-        Err(fault) => tell_fault(alloc, work, spot, key, text, fault),
+        Err(fault) => tell_fault(work, spot, key, text, fault),
     }
 }
 
 // Whether a condition compares a decimal.
-fn compares_decimals(alloc: Global, text: &str) -> Result<bool, Memory> {
-    match Needs::none().with_condition(alloc, text) {
-        Ok(needs) => Ok(needs.compares_decimals()),
-        Err(TranslationFault::Memory) => Err(Memory),
-        Err(TranslationFault::Refused(_)) => Ok(false),
+fn compares_decimals(work: &mut Conversion, text: &str) -> bool {
+    match Needs::none().with_condition(work.alloc, text) {
+        Ok(needs) => needs.compares_decimals(),
+        Err(TranslationFault::Memory) => {
+            work.refuse();
+            false
+        }
+        Err(TranslationFault::Refused(_)) => false,
     }
 }
 
@@ -524,78 +466,79 @@ fn quoted_translation(alloc: Global, text: &str, form: Form) -> Result<String, T
 
 // Appends the member of that key, with its places filled in.
 fn push_desk_member(
-    alloc: Global,
     work: &mut Conversion,
     spot: &TemplateMetric,
     key: &'static str,
-    out: &mut String,
-) -> Result<(), Memory> {
-    let Some(member) = member(spot.metric, key) else {
-        return Ok(());
-    };
-    push_key(out, key)?;
-    push_filled_value(alloc, work, spot, key, Mode::Json, member, out)
+    out: &mut Draft,
+) {
+    if let Some(member) = member(spot.metric, key) {
+        push_key(out, key);
+        push_filled_value(work, spot, key, Mode::Json, member, out);
+    }
 }
 
 // Appends a value, with its places filled in.
 fn push_filled_value(
-    alloc: Global,
     work: &mut Conversion,
     spot: &TemplateMetric,
     key: &'static str,
     mode: Mode,
     value: &Value,
-    out: &mut String,
-) -> Result<(), Memory> {
-    let text = value.to_string(alloc)?;
-    let place = spot.place.end(key);
-    push_filled(alloc, work, &spot.case, place, mode, text.as_str(), out)?;
-    Ok(())
+    out: &mut Draft,
+) {
+    let mut text = Draft::new(work.alloc);
+    text.put_value(value);
+    let text = work.end(text);
+    push_filled(
+        work,
+        &spot.case,
+        spot.place.end(key),
+        mode,
+        text.as_str(),
+        out,
+    );
 }
 
 // ---- the agent's plan
 
 /// Adds how an agent measures the metric, if it has a provider.
-pub(crate) fn plan_metric(
-    alloc: Global,
-    work: &mut Conversion,
-    spot: &TemplateMetric,
-    template: &str,
-) -> Result<(), Memory> {
+pub(crate) fn plan_metric(work: &mut Conversion, spot: &TemplateMetric, template: &str) {
     let Some(provider) = member(spot.metric, "provider") else {
-        return Ok(());
+        return;
     };
-    let Some(called) = call(alloc, work, spot)? else {
-        return Ok(());
-    };
-    let mut planned = Planned::new(alloc);
-    planned.template.push_str(template)?;
-    write_planned(alloc, work, spot, called, provider, &mut planned)?;
-    work.plan(alloc, spot.place, planned)
+    if let Some(called) = call(work, spot) {
+        let planned = planned_of(work, spot, called, provider, template);
+        work.plan(spot.place, planned);
+    }
 }
 
-// Fills in all of a plan but the template: its names, its provider, and what is late.
-fn write_planned(
-    alloc: Global,
+// How the metric of that name is measured.
+fn planned_of(
     work: &mut Conversion,
     spot: &TemplateMetric,
     called: Called,
     provider: &Value,
-    planned: &mut Planned,
-) -> Result<(), Memory> {
-    planned.service.push_str(spot.case.service())?;
-    planned.label.push_str(called.label.as_str())?;
-    planned.metric.push_str(called.name.as_str())?;
-    planned.kind.push_str(only_key(provider))?;
-    let out = &mut planned.provider;
-    push_filled_value(alloc, work, spot, "provider", Mode::Late, provider, out)?;
-    planned.late.push_str("{")?;
-    push_late(
-        alloc,
-        &spot.case,
-        planned.provider.as_str(),
-        &mut planned.late,
-    )?;
-    planned.late.push_str("}")?;
-    Ok(())
+    template: &str,
+) -> Planned {
+    let mut filled = Draft::new(work.alloc);
+    push_filled_value(work, spot, "provider", Mode::Late, provider, &mut filled);
+    let late = late_of(work, &spot.case, filled.as_str());
+    Planned {
+        service: work.copy(spot.case.service()),
+        label: work.copy(called.label.as_str()),
+        template: work.copy(template),
+        metric: work.copy(called.name.as_str()),
+        kind: work.copy(only_key(provider)),
+        provider: work.end(filled),
+        late,
+    }
+}
+
+// What of this provider is known only as the agent measures, as an object.
+fn late_of(work: &mut Conversion, case: &Case, provider: &str) -> String {
+    let mut late = Draft::new(work.alloc);
+    late.put("{");
+    push_late(case, provider, &mut late);
+    late.put("}");
+    work.end(late)
 }

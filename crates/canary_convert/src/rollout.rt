@@ -1,15 +1,14 @@
 //! A Rollout.
 use crate::arguments::{Case, tell_arguments};
 use crate::documents::{ManifestObject, index_of};
+use crate::draft::Draft;
 use crate::json::{
     list_at, member, push_comma, push_head, push_key, push_member, push_others, text_at,
 };
 use crate::manifest_place::ManifestPlace;
 use crate::template::{convert_template, push_made_name};
-use crate::work::{Conversion, Made};
-use canary_base::error::Memory;
+use crate::work::Conversion;
 use serde_json::Value;
-use std::alloc::Global;
 
 const STEPS: &str = "spec.strategy.canary.steps";
 
@@ -40,83 +39,60 @@ struct Use<'a> {
     analysis: &'a Value,
 }
 
-/// Adds the desk's Rollout, with the templates that it uses; or `Memory`.
+/// Adds the desk's Rollout, with the templates that it uses.
 pub(crate) fn convert_rollout(
-    alloc: Global,
     work: &mut Conversion,
     documents: &[ManifestObject],
     rollout: &ManifestObject,
-) -> Result<(), Memory> {
+) {
     let site = RolloutContext {
         documents,
         rollout: *rollout,
     };
-    let mut made = Made::new(alloc, rollout.source);
-    rollout.place().write(&mut made.path)?;
-    made.name.push_str(rollout.name())?;
-    push_rollout(alloc, work, &site, &mut made.json)?;
-    work.services.push(made)?;
-    Ok(())
+    let mut out = Draft::new(work.alloc);
+    push_rollout(work, &site, &mut out);
+    let made = work.made(rollout, rollout.name(), out);
+    work.add_service(made);
 }
 
 // Appends the desk's Rollout in JSON; `paused` stays, for the check of the manifest to look at.
-fn push_rollout(
-    alloc: Global,
-    work: &mut Conversion,
-    site: &RolloutContext,
-    out: &mut String,
-) -> Result<(), Memory> {
+fn push_rollout(work: &mut Conversion, site: &RolloutContext, out: &mut Draft) {
     let manifest = site.rollout.value;
-    push_head(alloc, out, manifest, "Rollout", site.rollout.name())?;
+    push_head(out, manifest, "Rollout", site.rollout.name());
     let place = site.rollout.place().at("spec");
-    if let Some(spec) = work.object_at(alloc, place, manifest, "spec")? {
-        push_member(alloc, out, spec, "paused")?;
-        push_strategy(alloc, work, site, spec, out)?;
+    if let Some(spec) = work.object_at(place, manifest, "spec") {
+        push_member(out, spec, "paused");
+        push_strategy(work, site, spec, out);
     }
-    out.push_str("}}")?;
-    Ok(())
+    out.put("}}");
 }
 
 // Appends the strategy, with its canary if it has one; `blueGreen` stays, for that check, too.
-fn push_strategy(
-    alloc: Global,
-    work: &mut Conversion,
-    site: &RolloutContext,
-    spec: &Value,
-    out: &mut String,
-) -> Result<(), Memory> {
+fn push_strategy(work: &mut Conversion, site: &RolloutContext, spec: &Value, out: &mut Draft) {
     let place = site.rollout.place().at("spec.strategy");
-    let Some(strategy) = work.object_at(alloc, place, spec, "strategy")? else {
-        return Ok(());
+    let Some(strategy) = work.object_at(place, spec, "strategy") else {
+        return;
     };
-    push_key(out, "strategy")?;
-    out.push_str("{")?;
-    push_member(alloc, out, strategy, "blueGreen")?;
+    push_key(out, "strategy");
+    out.put("{");
+    push_member(out, strategy, "blueGreen");
     let place = place.at("spec.strategy.canary");
-    if let Some(canary) = work.object_at(alloc, place, strategy, "canary")? {
-        push_key(out, "canary")?;
-        push_canary(alloc, work, site, canary, out)?;
+    if let Some(canary) = work.object_at(place, strategy, "canary") {
+        push_key(out, "canary");
+        push_canary(work, site, canary, out);
     }
-    out.push_str("}")?;
-    Ok(())
+    out.put("}");
 }
 
 // Appends the steps and the analysis beside them; the desk reads no other member of a canary.
-fn push_canary(
-    alloc: Global,
-    work: &mut Conversion,
-    site: &RolloutContext,
-    canary: &Value,
-    out: &mut String,
-) -> Result<(), Memory> {
+fn push_canary(work: &mut Conversion, site: &RolloutContext, canary: &Value, out: &mut Draft) {
     let place = site.rollout.place();
-    out.push_str("{")?;
-    if let Some(steps) = work.list_at(alloc, place.at(STEPS), canary, "steps")? {
-        push_key(out, "steps")?;
-        push_steps(alloc, work, site, steps, out)?;
+    out.put("{");
+    if let Some(steps) = work.list_at(place.at(STEPS), canary, "steps") {
+        push_key(out, "steps");
+        push_steps(work, site, steps, out);
     }
-    if let Some(analysis) = work.object_at(alloc, place.at(ANALYSIS), canary, "analysis")? {
-        push_key(out, "analysis")?;
+    if let Some(analysis) = work.object_at(place.at(ANALYSIS), canary, "analysis") {
         let used = Use {
             site: *site,
             place,
@@ -124,46 +100,36 @@ fn push_canary(
             arguments: "spec.strategy.canary.analysis.args",
             analysis,
         };
-        push_analysis(alloc, work, &used, out)?;
+        push_analysis(work, &used, out);
     }
-    out.push_str("}")?;
-    Ok(())
+    out.put("}");
 }
 
 // Appends the list of steps, each at its index.
-fn push_steps(
-    alloc: Global,
-    work: &mut Conversion,
-    site: &RolloutContext,
-    steps: &Vec<Value>,
-    out: &mut String,
-) -> Result<(), Memory> {
-    out.push_str("[")?;
+fn push_steps(work: &mut Conversion, site: &RolloutContext, steps: &Vec<Value>, out: &mut Draft) {
+    out.put("[");
     for (index, step) in steps.iter().enumerate() {
         let place = site.rollout.place().item(STEPS, index);
-        push_step(alloc, work, site, place, step, out)?;
+        push_step(work, site, place, step, out);
     }
-    out.push_str("]")?;
-    Ok(())
+    out.put("]");
 }
 
 // Appends a step as it is, but for its analysis. If it is no object, that is reported.
 fn push_step(
-    alloc: Global,
     work: &mut Conversion,
     site: &RolloutContext,
     place: ManifestPlace,
     step: &Value,
-    out: &mut String,
-) -> Result<(), Memory> {
+    out: &mut Draft,
+) {
     if !step.is_object() {
-        return work.tell(alloc, place, &["expected an object"]);
+        return work.tell(place, &["expected an object"]);
     }
-    push_comma(out)?;
-    out.push_str("{")?;
-    push_others(alloc, out, step, &["analysis"])?;
-    if let Some(analysis) = work.object_at(alloc, place.end("analysis"), step, "analysis")? {
-        push_key(out, "analysis")?;
+    push_comma(out);
+    out.put("{");
+    push_others(out, step, &["analysis"]);
+    if let Some(analysis) = work.object_at(place.end("analysis"), step, "analysis") {
         let used = Use {
             site: *site,
             place,
@@ -171,86 +137,72 @@ fn push_step(
             arguments: ".analysis.args",
             analysis,
         };
-        push_analysis(alloc, work, &used, out)?;
+        push_analysis(work, &used, out);
     }
-    out.push_str("}")?;
-    Ok(())
+    out.put("}");
 }
 
 // Appends an analysis of the desk's templates, without arguments: those are filled in there.
-fn push_analysis(
-    alloc: Global,
-    work: &mut Conversion,
-    used: &Use,
-    out: &mut String,
-) -> Result<(), Memory> {
-    let place = used.place;
-    let arguments = work.list_at(alloc, place.part(used.arguments), used.analysis, "args")?;
-    if let Some(arguments) = arguments {
-        tell_arguments(alloc, work, place, used.arguments, arguments)?;
-    }
-    out.push_str("{")?;
-    push_others(alloc, out, used.analysis, &["args", "templates"])?;
-    push_key(out, "templates")?;
-    out.push_str("[")?;
+fn push_analysis(work: &mut Conversion, used: &Use, out: &mut Draft) {
+    tell_arguments_of(work, used);
+    push_key(out, "analysis");
+    out.put("{");
+    push_others(out, used.analysis, &["args", "templates"]);
+    push_key(out, "templates");
+    out.put("[");
     match list_at(used.analysis, "templates") {
-        Some(templates) => push_templates(alloc, work, used, templates, out)?,
-        None => work.tell(alloc, place.part(used.templates), &[TEMPLATES])?,
+        Some(templates) => push_templates(work, used, templates, out),
+        None => work.tell(used.place.part(used.templates), &[TEMPLATES]),
     }
-    out.push_str("]}")?;
-    Ok(())
+    out.put("]}");
+}
+
+// Adds what is wrong in the arguments of an analysis.
+fn tell_arguments_of(work: &mut Conversion, used: &Use) {
+    let place = used.place;
+    let arguments = work.list_at(place.part(used.arguments), used.analysis, "args");
+    if let Some(arguments) = arguments {
+        tell_arguments(work, place, used.arguments, arguments);
+    }
 }
 
 // Appends each item whose template is among the documents, and adds the desk's template for it.
-fn push_templates(
-    alloc: Global,
-    work: &mut Conversion,
-    used: &Use,
-    templates: &Vec<Value>,
-    out: &mut String,
-) -> Result<(), Memory> {
+fn push_templates(work: &mut Conversion, used: &Use, templates: &Vec<Value>, out: &mut Draft) {
     for (index, named) in templates.iter().enumerate() {
         let place = used.place.inner(used.templates, index);
-        match template_of(alloc, work, used, place, named)? {
-            Some(template) => push_used(alloc, work, used, template, named, out)?,
-            None => {}
+        if let Some(template) = template_of(work, used, place, named) {
+            push_used(work, used, template, named, out);
         }
     }
-    Ok(())
 }
 
 // The template that an item of an analysis names. If there is none, that is reported.
 fn template_of<'a>(
-    alloc: Global,
     work: &mut Conversion,
     used: &Use<'a>,
     place: ManifestPlace,
     named: &Value,
-) -> Result<Option<ManifestObject<'a>>, Memory> {
-    let name = text_at(named, "templateName");
+) -> Option<ManifestObject<'a>> {
     if is_of_the_cluster(named) {
-        work.tell(alloc, place.end("clusterScope"), &[CLUSTER])?;
-        return Ok(None);
+        work.tell(place.end("clusterScope"), &[CLUSTER]);
+        return None;
     }
+    let name = text_at(named, "templateName");
     let place = place.end("templateName");
     if name.is_empty() {
-        work.tell(alloc, place, &[NO_NAME])?;
-        return Ok(None);
+        work.tell(place, &[NO_NAME]);
+        return None;
     }
-    match index_of(used.site.documents, "AnalysisTemplate", name) {
-        Some(index) => {
-            work.set_used(index)?;
-            Ok(used.site.documents.get(index).copied())
-        }
-        None => {
-            work.tell(
-                alloc,
-                place,
-                &["AnalysisTemplate ", name, " is in none of the files"],
-            )?;
-            Ok(None)
-        }
-    }
+    let found = index_of(used.site.documents, "AnalysisTemplate", name);
+    let Some(index) = found else {
+        work.tell(
+            place,
+            &["AnalysisTemplate ", name, " is in none of the files"],
+        );
+        return None;
+    };
+    work.set_used(index);
+    used.site.documents.get(index).copied()
 }
 
 // Whether an item of an analysis names a template of the cluster: its `clusterScope` is true.
@@ -263,24 +215,22 @@ fn is_of_the_cluster(named: &Value) -> bool {
 
 // Appends the item, with the name of the desk's template; and adds that template.
 fn push_used(
-    alloc: Global,
     work: &mut Conversion,
     used: &Use,
     template: ManifestObject,
     named: &Value,
-    out: &mut String,
-) -> Result<(), Memory> {
+    out: &mut Draft,
+) {
     let case = Case {
         template,
         used_by: Some((used.site.rollout, used.analysis)),
     };
-    convert_template(alloc, work, &case)?;
-    push_comma(out)?;
-    out.push_str("{")?;
-    push_others(alloc, out, named, &["templateName"])?;
-    push_key(out, "templateName")?;
-    out.push_str("\"")?;
-    push_made_name(&case, out)?;
-    out.push_str("\"}")?;
-    Ok(())
+    convert_template(work, &case);
+    push_comma(out);
+    out.put("{");
+    push_others(out, named, &["templateName"]);
+    push_key(out, "templateName");
+    out.put("\"");
+    push_made_name(&case, out);
+    out.put("\"}");
 }

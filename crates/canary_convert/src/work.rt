@@ -1,4 +1,10 @@
 //! What was made and found so far.
+//!
+//! It remembers that memory was refused, so that what converts has no exits for that.
+ghost use Rattle.std.specs.Prelude.{◌≡◌, true, false, IfOk, string_bytes};
+
+use crate::documents::ManifestObject;
+use crate::draft::Draft;
 use crate::finding::{Finding, Findings};
 use crate::json::{list_in, member};
 use crate::manifest_place::ManifestPlace;
@@ -42,6 +48,7 @@ pub struct Planned {
 /// What was made and found so far.
 #[derive(Drop)]
 pub(crate) struct Conversion {
+    pub(crate) alloc: Global,
     pub(crate) findings: Findings,
     pub(crate) notes: Findings,
     pub(crate) templates: Vec<Made>,
@@ -51,6 +58,7 @@ pub(crate) struct Conversion {
     used: Vec<usize>,
     // The first metric whose conditions do not ask for NaN.
     nan: Option<ManifestPlace>,
+    is_refused: bool,
 }
 
 const NAN: &str =
@@ -64,11 +72,11 @@ const TWO_METRICS: &str = " is asked in two ways in Rollout ";
 
 const TWO_NAMES: &str = ": give the metrics two names";
 
-// The text of the manifest of that name.
-fn named<'a>(made: &'a [Made], name: &str) -> Option<&'a str> {
+// Whether the manifest of that name is this text; none if there is none.
+fn made_as(made: &[Made], name: &str, json: &str) -> Option<bool> {
     for known in made {
         if known.name.as_str() == name {
-            return Some(known.json.as_str());
+            return Some(known.json.as_str() == json);
         }
     }
     None
@@ -84,32 +92,7 @@ fn planned_as(plan: &[Planned], planned: &Planned) -> Option<bool> {
     None
 }
 
-impl Made {
-    /// Nothing, of that source.
-    pub(crate) fn new(alloc: Global, source: u32) -> Made {
-        Made {
-            source,
-            path: String::new(alloc),
-            name: String::new(alloc),
-            json: String::new(alloc),
-        }
-    }
-}
-
 impl Planned {
-    /// Nothing.
-    pub(crate) fn new(alloc: Global) -> Planned {
-        Planned {
-            service: String::new(alloc),
-            label: String::new(alloc),
-            template: String::new(alloc),
-            metric: String::new(alloc),
-            kind: String::new(alloc),
-            provider: String::new(alloc),
-            late: String::new(alloc),
-        }
-    }
-
     // Whether both are of one service, and have one label there.
     fn is_of(&self, other: &Planned) -> bool {
         self.service.as_str() == other.service.as_str()
@@ -128,6 +111,7 @@ impl Conversion {
     /// Nothing.
     pub(crate) fn new(alloc: Global) -> Conversion {
         Conversion {
+            alloc,
             findings: Findings::new(alloc),
             notes: Findings::new(alloc),
             templates: Vec::new(alloc),
@@ -135,27 +119,96 @@ impl Conversion {
             plan: Vec::new(alloc),
             used: Vec::new(alloc),
             nan: None,
+            is_refused: false,
         }
     }
 
-    /// Adds a finding, in parts that follow one another; or `Memory`.
-    pub(crate) fn tell(
-        &mut self,
-        alloc: Global,
-        place: ManifestPlace,
-        parts: &[&str],
-    ) -> Result<(), Memory> {
-        self.findings.tell(alloc, place, None, parts)
+    // ---- memory
+
+    /// Itself, or `Memory` if that was refused. What was made and found is of no use then.
+    pub(crate) fn unless_refused(self) -> Result<Conversion, Memory>
+        ensures { IfOk result (λ _. self.is_refused ≡ false) }
+    {
+        if self.is_refused {
+            return Err(Memory);
+        }
+        Ok(self)
     }
 
-    /// Adds a note, in parts that follow one another; or `Memory`.
-    pub(crate) fn note(
-        &mut self,
-        alloc: Global,
-        place: ManifestPlace,
-        parts: &[&str],
-    ) -> Result<(), Memory> {
-        self.notes.tell(alloc, place, None, parts)
+    /// Remembers that memory was refused.
+    pub(crate) fn refuse(&mut self) {
+        self.is_refused = true;
+    }
+
+    // Remembers that memory was refused, if this says so.
+    fn remember(&mut self, done: Result<(), Memory>) {
+        if done.is_err() {
+            self.is_refused = true;
+        }
+    }
+
+    /// What was written; an empty text if memory was refused, which is remembered.
+    pub(crate) fn end(&mut self, draft: Draft) -> String
+        ensures { self.new.is_refused ≡ false → (draft.is_refused ≡ false)
+            × (string_bytes result ≡ string_bytes draft.text) }
+    {
+        match draft.end() {
+            Ok(text) => text,
+            Err(_) => self.no_text(),
+        }
+    }
+
+    /// A copy of this text; an empty one if memory was refused, which is remembered.
+    pub(crate) fn copy(&mut self, text: &str) -> String
+        ensures { self.new.is_refused ≡ false → string_bytes result ≡ text.now }
+    {
+        match String::from_str(self.alloc, text) {
+            Ok(text) => text,
+            Err(_) => self.no_text(),
+        }
+    }
+
+    // An empty text, since memory was refused.
+    fn no_text(&mut self) -> String
+        ensures { self.new.is_refused ≡ true }
+    {
+        self.is_refused = true;
+        String::new(self.alloc)
+    }
+
+    // ---- what is found
+
+    /// Adds a finding, in parts that follow one another.
+    pub(crate) fn tell(&mut self, place: ManifestPlace, parts: &[&str]) {
+        self.tell_at(place, None, parts);
+    }
+
+    /// The same of that byte of a condition.
+    pub(crate) fn tell_at(&mut self, place: ManifestPlace, at: Option<usize>, parts: &[&str]) {
+        let finding = self.finding(place, at, parts);
+        let added = self.findings.add(finding);
+        self.remember(added);
+    }
+
+    /// Adds a note, in parts that follow one another.
+    pub(crate) fn note(&mut self, place: ManifestPlace, parts: &[&str]) {
+        let finding = self.finding(place, None, parts);
+        let added = self.notes.add(finding);
+        self.remember(added);
+    }
+
+    // A finding at a place, in parts that follow one another.
+    fn finding(&mut self, place: ManifestPlace, at: Option<usize>, parts: &[&str]) -> Finding {
+        let mut text = Draft::new(self.alloc);
+        for part in parts {
+            text.put_plain(part);
+        }
+        Finding {
+            source: place.source,
+            path: self.end(place.path(self.alloc)),
+            text: self.end(text),
+            at,
+        }
     }
 
     /// Says that the conditions there do not ask for NaN.
@@ -165,50 +218,80 @@ impl Conversion {
         }
     }
 
-    /// Adds what is said once, or `Memory`.
-    pub(crate) fn close(&mut self, alloc: Global) -> Result<(), Memory> {
+    /// Adds what is said once.
+    pub(crate) fn close(&mut self) {
         if let Some(place) = self.nan {
-            self.note(alloc, place, &[NAN])?;
-        }
-        Ok(())
-    }
-
-    /// Adds a template, or `Memory`. If there is another one of its name, it reports that.
-    pub(crate) fn add_template(
-        &mut self,
-        alloc: Global,
-        place: ManifestPlace,
-        made: Made,
-    ) -> Result<(), Memory> {
-        match named(self.templates.as_slice(), made.name.as_str()) {
-            Some(known) if known == made.json.as_str() => Ok(()),
-            Some(_) => self.tell(alloc, place, &[made.name.as_str(), TWO_TEMPLATES]),
-            None => Ok(self.templates.push(made)?),
+            self.note(place, &[NAN]);
         }
     }
 
-    /// Adds how a metric is measured, or `Memory`. If another metric of its service has its label,
-    /// and is measured otherwise, it reports that.
-    pub(crate) fn plan(
-        &mut self,
-        alloc: Global,
-        place: ManifestPlace,
-        planned: Planned,
-    ) -> Result<(), Memory> {
+    // ---- what is made
+
+    /// The manifest of that name that is made of a document.
+    pub(crate) fn made(&mut self, document: &ManifestObject, name: &str, json: Draft) -> Made {
+        Made {
+            source: document.source,
+            path: self.end(document.place().path(self.alloc)),
+            name: self.copy(name),
+            json: self.end(json),
+        }
+    }
+
+    /// Adds a service.
+    pub(crate) fn add_service(&mut self, made: Made) {
+        if self.services.push(made).is_err() {
+            self.is_refused = true;
+        }
+    }
+
+    /// Adds a template. If there is another one of its name, it reports that.
+    pub(crate) fn add_template(&mut self, place: ManifestPlace, made: Made) {
+        match made_as(
+            self.templates.as_slice(),
+            made.name.as_str(),
+            made.json.as_str(),
+        ) {
+            None => self.push_template(made),
+            Some(true) => {}
+            Some(false) => self.tell(place, &[made.name.as_str(), TWO_TEMPLATES]),
+        }
+    }
+
+    // Adds a template of a new name.
+    fn push_template(&mut self, made: Made) {
+        if self.templates.push(made).is_err() {
+            self.is_refused = true;
+        }
+    }
+
+    /// Adds how a metric is measured. If another metric of its service has its label, and is
+    /// measured otherwise, it reports that.
+    pub(crate) fn plan(&mut self, place: ManifestPlace, planned: Planned) {
         match planned_as(self.plan.as_slice(), &planned) {
-            None => Ok(self.plan.push(planned)?),
-            Some(true) => Ok(()),
-            Some(false) => {
-                let (label, service) = (planned.label.as_str(), planned.service.as_str());
-                self.tell(alloc, place, &[label, TWO_METRICS, service, TWO_NAMES])
-            }
+            None => self.push_planned(planned),
+            Some(true) => {}
+            Some(false) => self.tell_two(place, &planned),
         }
     }
 
-    /// Notes that a Rollout names the template of that document, or `Memory`.
-    pub(crate) fn set_used(&mut self, index: usize) -> Result<(), Memory> {
-        self.used.push(index)?;
-        Ok(())
+    // Adds how a metric is measured.
+    fn push_planned(&mut self, planned: Planned) {
+        if self.plan.push(planned).is_err() {
+            self.is_refused = true;
+        }
+    }
+
+    // Adds that a metric is asked in two ways.
+    fn tell_two(&mut self, place: ManifestPlace, planned: &Planned) {
+        let (label, service) = (planned.label.as_str(), planned.service.as_str());
+        self.tell(place, &[label, TWO_METRICS, service, TWO_NAMES]);
+    }
+
+    /// Notes that a Rollout names the template of that document.
+    pub(crate) fn set_used(&mut self, index: usize) {
+        if self.used.push(index).is_err() {
+            self.is_refused = true;
+        }
     }
 
     /// Whether a Rollout names the template of that document.
@@ -221,39 +304,34 @@ impl Conversion {
         false
     }
 
+    // ---- what is read
+
     /// The object under that key. If there is something else, it reports that.
     pub(crate) fn object_at<'a>(
         &mut self,
-        alloc: Global,
         place: ManifestPlace,
         value: &'a Value,
         key: &str,
-    ) -> Result<Option<&'a Value>, Memory> {
-        match member(value, key) {
-            Some(object) if object.is_object() => Ok(Some(object)),
-            Some(_) => {
-                self.tell(alloc, place, &["expected an object"])?;
-                Ok(None)
-            }
-            None => Ok(None),
+    ) -> Option<&'a Value> {
+        let found = member(value, key)?;
+        if found.is_object() {
+            return Some(found);
         }
+        self.tell(place, &["expected an object"]);
+        None
     }
 
     /// The list under that key, of at most 64 items. If there is something else, it reports that.
     pub(crate) fn list_at<'a>(
         &mut self,
-        alloc: Global,
         place: ManifestPlace,
         value: &'a Value,
         key: &str,
-    ) -> Result<Option<&'a Vec<Value>>, Memory> {
-        let Some(member) = member(value, key) else {
-            return Ok(None);
-        };
-        let found = list_in(member);
+    ) -> Option<&'a Vec<Value>> {
+        let found = list_in(member(value, key)?);
         if found.is_none() {
-            self.tell(alloc, place, &["expected a list, of 64 items at most"])?;
+            self.tell(place, &["expected a list, of 64 items at most"]);
         }
-        Ok(found)
+        found
     }
 }
