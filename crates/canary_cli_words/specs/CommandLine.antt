@@ -17,6 +17,7 @@ use Rattle.clap.specs.declared.error.kind.ErrorKind.{ErrorKind}
 use Rattle.clap.specs.declared.error.kind.ErrorKind.TheVariants.{DisplayHelp, DisplayVersion}
 use Rattle.canary_cli_words.specs.declared.commands.ArgumentSpec.{ArgumentSpec}
 use Rattle.canary_cli_words.specs.declared.commands.ArgumentSpec.TheVariants as part
+use Rattle.canary_cli_words.specs.declared.commands.CommandSpec.{CommandSpec}
 use Rattle.canary_cli_words.specs.declared.words.ClientCall.TheVariants.{Do, Get, Watch, Send, Due, Agent}
 use Rattle.canary_cli_words.specs.declared.words.AskedCommand.{AskedCommand}
 use Rattle.canary_cli_words.specs.declared.words.AskedDesk.{AskedDesk}
@@ -98,6 +99,15 @@ rule_for (part.MoreWords name _ _) = more_words name.now
 abbrev pub with_parts : App → List ArgumentSpec → App
 with_parts a [] = a
 with_parts a (p ∷ ps) = with_parts (with_rule a (rule_for p)) ps
+
+-- the command of a row in the code's tables of commands
+abbrev pub command_for : CommandSpec → App
+command_for c = with_parts (new_app c.name.now) c.parts.now
+
+-- with the commands of these rows, in turn
+abbrev pub with_commands : App → List CommandSpec → App
+with_commands a [] = a
+with_commands a (c ∷ cs) = with_commands (with_subcommand a (command_for c).top) cs
 
 -- `--db FILE`, which has to be given
 abbrev pub db_option : Rule
@@ -249,18 +259,40 @@ abbrev pub agent_command : App
 agent_command = with_rule (with_agent_limits (with_agent_manner (new_app (codes "agent"))))
     (text_words (codes "file"))
 
--- with the commands that ask a desk
-abbrev pub with_client_commands : App → App
-with_client_commands a = with_subcommand (with_subcommand (with_subcommand (with_subcommand
-    (with_subcommand (with_subcommand a do_command.top) get_command.top) watch_command.top)
-    send_command.top) due_command.top) agent_command.top
+-- with the commands that answer requests
+abbrev pub with_serving_commands : App → App
+with_serving_commands a = with_subcommand (with_subcommand a pipe_command.top) serve_command.top
 
--- with the commands that work on the file of a desk's records
-abbrev pub with_records_commands : App → App
-with_records_commands a = with_subcommand (with_subcommand (with_subcommand (with_subcommand
-    (with_subcommand (with_subcommand (with_subcommand (with_subcommand a import_command.top)
-    history_command.top) export_command.top) status_command.top) page_command.top)
-    backup_command.top) migrate_command.top) succeed_command.top
+-- with those for measurements and what happened
+abbrev pub with_history_commands : App → App
+with_history_commands a = with_subcommand (with_subcommand (with_subcommand a import_command.top)
+    history_command.top) export_command.top
+
+-- with those that say how services stand
+abbrev pub with_status_commands : App → App
+with_status_commands a = with_subcommand (with_subcommand a status_command.top) page_command.top
+
+-- with those that copy the records
+abbrev pub with_copy_commands : App → App
+with_copy_commands a = with_subcommand (with_subcommand (with_subcommand a backup_command.top)
+    migrate_command.top) succeed_command.top
+
+-- with those that read manifests
+abbrev pub with_manifest_commands : App → App
+with_manifest_commands a = with_subcommand (with_subcommand a check_command.top) argo_command.top
+
+-- with those that ask a desk once
+abbrev pub with_asking_commands : App → App
+with_asking_commands a = with_subcommand (with_subcommand a do_command.top) get_command.top
+
+-- with those that send rows, and that wait
+abbrev pub with_waiting_commands : App → App
+with_waiting_commands a = with_subcommand (with_subcommand (with_subcommand a watch_command.top)
+    send_command.top) due_command.top
+
+-- with that of the agent
+abbrev pub with_agent_command : App → App
+with_agent_command a = with_subcommand a agent_command.top
 
 -- the desk without its commands, behind no name of the program; `--version` is taken too
 abbrev pub bare_desk : App
@@ -272,9 +304,9 @@ bare_desk = on_top (λ s. record s {
 
 -- one of the commands
 abbrev pub desk_command : App
-desk_command = with_client_commands (with_subcommand (with_subcommand (with_records_commands
-    (with_subcommand (with_subcommand bare_desk pipe_command.top) serve_command.top))
-    check_command.top) argo_command.top)
+desk_command = with_agent_command (with_waiting_commands (with_asking_commands
+    (with_manifest_commands (with_copy_commands (with_status_commands (with_history_commands
+    (with_serving_commands bare_desk)))))))
 
 -- what clap finds in the words behind the program's name: the kind of the first mistake, or of a
 -- request for help or for the version, and nothing where the desk takes them

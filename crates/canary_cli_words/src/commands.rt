@@ -1,17 +1,14 @@
 //! The commands that the desk takes, with their options.
 ghost use Rattle.std.specs.Prelude.{◌≡◌, IfOk, false, true};
-ghost use Rattle.clap.specs.Words.{App, app_of, new_app, rule_of, with_subcommand};
-ghost use Rattle.canary_cli_words.specs.CommandLine.{bare_desk, desk_command, with_records_commands};
-ghost use Rattle.canary_cli_words.specs.CommandLine.{pipe_command, serve_command, import_command};
-ghost use Rattle.canary_cli_words.specs.CommandLine.{history_command, export_command, status_command};
-ghost use Rattle.canary_cli_words.specs.CommandLine.{page_command, backup_command, migrate_command};
-ghost use Rattle.canary_cli_words.specs.CommandLine.{succeed_command};
-ghost use Rattle.canary_cli_words.specs.CommandLine.{check_command, flag, moment_option, number_option};
+ghost use Rattle.clap.specs.Words.{App, app_of, rule_of, with_subcommand};
+ghost use Rattle.canary_cli_words.specs.CommandLine.{bare_desk, command_for, desk_command, flag};
+ghost use Rattle.canary_cli_words.specs.CommandLine.{moment_option, more_words, number_option, rule_for};
 ghost use Rattle.canary_cli_words.specs.CommandLine.{text_option, text_words, with_numbers, with_value};
-ghost use Rattle.canary_cli_words.specs.CommandLine.{with_client_commands, do_command, get_command};
-ghost use Rattle.canary_cli_words.specs.CommandLine.{watch_command, send_command, due_command};
-ghost use Rattle.canary_cli_words.specs.CommandLine.{with_desk_options, rule_for, with_parts};
-ghost use Rattle.canary_cli_words.specs.CommandLine.{agent_command, argo_command, more_words};
+ghost use Rattle.canary_cli_words.specs.CommandLine.{with_agent_command, with_asking_commands};
+ghost use Rattle.canary_cli_words.specs.CommandLine.{with_commands, with_copy_commands, with_parts};
+ghost use Rattle.canary_cli_words.specs.CommandLine.{with_history_commands, with_manifest_commands};
+ghost use Rattle.canary_cli_words.specs.CommandLine.{with_serving_commands, with_status_commands};
+ghost use Rattle.canary_cli_words.specs.CommandLine.{with_waiting_commands};
 
 use crate::{client_help, help};
 use canary_base::moments::MAX_MOMENT;
@@ -78,6 +75,16 @@ enum ArgumentSpec {
     MoreWords(&'static str, &'static str, &'static str),
 }
 
+// A command: its name, what it is about, its help, its usage if clap is not to make it, and its
+// options and words.
+struct CommandSpec {
+    name: &'static str,
+    about: &'static str,
+    help: &'static str,
+    usage: Option<&'static str>,
+    parts: &'static [ArgumentSpec],
+}
+
 // `--cache BYTES`.
 const CACHE: ArgumentSpec = ArgumentSpec::Number("cache", "BYTES", MAX_CACHE, help::CACHE_HELP);
 
@@ -87,6 +94,9 @@ const DESK: ArgumentSpec = ArgumentSpec::Optional(
     "HOST:PORT",
     client_help::DESK_OPTION_HELP,
 );
+
+// `--tries N`.
+const TRIES: ArgumentSpec = ArgumentSpec::Number("tries", "N", MAX_TRIES, client_help::TRIES_HELP);
 
 // `--watch SECONDS`.
 const WATCH: ArgumentSpec = ArgumentSpec::Number(
@@ -100,13 +110,14 @@ const WATCH: ArgumentSpec = ArgumentSpec::Number(
 pub(crate) fn desk_command<'a>(alloc: Global) -> Result<Command<'a>, AllocError>
     ensures { IfOk result (λ c. app_of c ≡ desk_command) }
 {
-    let desk = bare_desk(alloc);
-    let desk = with_command(desk, pipe_command(alloc));
-    let desk = with_command(desk, serve_command(alloc));
-    let desk = with_records_commands(alloc, desk);
-    let desk = with_command(desk, check_command(alloc));
-    let desk = with_command(desk, argo_command(alloc));
-    with_client_commands(alloc, desk)
+    let desk = with_serving_commands(alloc, bare_desk(alloc));
+    let desk = with_history_commands(alloc, desk);
+    let desk = with_status_commands(alloc, desk);
+    let desk = with_copy_commands(alloc, desk);
+    let desk = with_manifest_commands(alloc, desk);
+    let desk = with_asking_commands(alloc, desk);
+    let desk = with_waiting_commands(alloc, desk);
+    with_agent_command(alloc, desk)
 }
 
 // The desk's command without its commands.
@@ -124,376 +135,425 @@ fn bare_desk<'a>(alloc: Global) -> Result<Command<'a>, AllocError>
     )
 }
 
-// The desk's command with those that work on the file of its records.
-fn with_records_commands<'a>(
+// The desk's command with those that answer requests: `pipe` and `serve`.
+fn with_serving_commands<'a>(
     alloc: Global,
     desk: Result<Command<'a>, AllocError>,
 ) -> Result<Command<'a>, AllocError>
     ensures { (above : App) → IfOk desk.entry (λ c. app_of c ≡ above)
-        → IfOk result (λ c. app_of c ≡ with_records_commands above) }
+        → IfOk result (λ c. app_of c ≡ with_serving_commands above) }
 {
-    let desk = with_command(desk, import_command(alloc));
-    let desk = with_command(desk, history_command(alloc));
-    let desk = with_command(desk, export_command(alloc));
-    let desk = with_command(desk, status_command(alloc));
-    let desk = with_command(desk, page_command(alloc));
-    let desk = with_command(desk, backup_command(alloc));
-    let desk = with_command(desk, migrate_command(alloc));
-    with_command(desk, succeed_command(alloc))
+    static COMMANDS: [CommandSpec; 2] = [
+        CommandSpec {
+            name: "pipe",
+            about: help::PIPE_ABOUT,
+            help: help::PIPE_HELP,
+            usage: Some(help::PIPE_USAGE),
+            parts: &[
+                ArgumentSpec::Moment("at", help::AT_HELP),
+                ArgumentSpec::Moment("step", help::STEP_HELP),
+                ArgumentSpec::Optional("db", "FILE", help::DB_OR_MEMORY_HELP),
+                CACHE,
+            ],
+        },
+        CommandSpec {
+            name: "serve",
+            about: help::SERVE_ABOUT,
+            help: help::SERVE_HELP,
+            usage: None,
+            parts: &[
+                ArgumentSpec::Needed("listen", "ADDRESS", help::LISTEN_HELP),
+                ArgumentSpec::Optional("db", "FILE", help::DB_OR_MEMORY_HELP),
+                CACHE,
+                ArgumentSpec::Number("connections", "N", MAX_CONNECTIONS, help::CONNECTIONS_HELP),
+                ArgumentSpec::Number(
+                    "read-timeout",
+                    "SECONDS",
+                    MAX_SECONDS,
+                    help::READ_TIMEOUT_HELP,
+                ),
+                ArgumentSpec::Number(
+                    "idle-timeout",
+                    "SECONDS",
+                    MAX_SECONDS,
+                    help::IDLE_TIMEOUT_HELP,
+                ),
+                ArgumentSpec::Number("max-clients", "N", MAX_CLIENTS, help::MAX_CLIENTS_HELP),
+                ArgumentSpec::Number("max-unsent", "BYTES", MAX_UNSENT, help::MAX_UNSENT_HELP),
+                ArgumentSpec::Number(
+                    "max-unsent-total",
+                    "BYTES",
+                    MAX_UNSENT_TOTAL,
+                    help::MAX_UNSENT_TOTAL_HELP,
+                ),
+            ],
+        },
+    ];
+    with_commands(alloc, desk, &COMMANDS)
 }
 
-// The desk's command with those that ask a desk.
-fn with_client_commands<'a>(
+// The desk's command with those for measurements and what happened: `import`, `history` and
+// `export`.
+fn with_history_commands<'a>(
     alloc: Global,
     desk: Result<Command<'a>, AllocError>,
 ) -> Result<Command<'a>, AllocError>
     ensures { (above : App) → IfOk desk.entry (λ c. app_of c ≡ above)
-        → IfOk result (λ c. app_of c ≡ with_client_commands above) }
+        → IfOk result (λ c. app_of c ≡ with_history_commands above) }
 {
-    let desk = with_command(desk, do_command(alloc));
-    let desk = with_command(desk, get_command(alloc));
-    let desk = with_command(desk, watch_command(alloc));
-    let desk = with_command(desk, send_command(alloc));
-    let desk = with_command(desk, due_command(alloc));
-    with_command(desk, agent_command(alloc))
+    static COMMANDS: [CommandSpec; 3] = [
+        CommandSpec {
+            name: "import",
+            about: help::IMPORT_ABOUT,
+            help: help::IMPORT_HELP,
+            usage: None,
+            parts: &[
+                ArgumentSpec::Needed("db", "FILE", help::DB_OR_MADE_HELP),
+                CACHE,
+                ArgumentSpec::Word("csv", "CSV", help::CSV_HELP),
+            ],
+        },
+        CommandSpec {
+            name: "history",
+            about: help::HISTORY_ABOUT,
+            help: help::HISTORY_HELP,
+            usage: None,
+            parts: &[
+                ArgumentSpec::Needed("db", "FILE", help::DB_OR_MADE_HELP),
+                ArgumentSpec::Word("service", "SERVICE", help::SERVICE_HELP),
+            ],
+        },
+        CommandSpec {
+            name: "export",
+            about: help::EXPORT_ABOUT,
+            help: help::EXPORT_HELP,
+            usage: None,
+            parts: &[
+                ArgumentSpec::Needed("db", "FILE", help::DB_OR_MADE_HELP),
+                ArgumentSpec::Needed("caller", "NAME", help::CALLER_HELP),
+                ArgumentSpec::Word("service", "SERVICE", help::SERVICE_HELP),
+            ],
+        },
+    ];
+    with_commands(alloc, desk, &COMMANDS)
 }
 
-// The desk's command with another one, if both were had.
+// The desk's command with those that say how services stand: `status` and `page`.
+fn with_status_commands<'a>(
+    alloc: Global,
+    desk: Result<Command<'a>, AllocError>,
+) -> Result<Command<'a>, AllocError>
+    ensures { (above : App) → IfOk desk.entry (λ c. app_of c ≡ above)
+        → IfOk result (λ c. app_of c ≡ with_status_commands above) }
+{
+    static COMMANDS: [CommandSpec; 2] = [
+        CommandSpec {
+            name: "status",
+            about: help::STATUS_ABOUT,
+            help: help::STATUS_HELP,
+            usage: None,
+            parts: &[
+                ArgumentSpec::Needed("db", "FILE", help::DB_HELP),
+                WATCH,
+                ArgumentSpec::Flag("json", help::JSON_HELP),
+                ArgumentSpec::Flag("prometheus", help::PROMETHEUS_HELP),
+            ],
+        },
+        CommandSpec {
+            name: "page",
+            about: help::PAGE_ABOUT,
+            help: help::PAGE_HELP,
+            usage: None,
+            parts: &[
+                ArgumentSpec::Needed("db", "FILE", help::DB_HELP),
+                WATCH,
+                ArgumentSpec::Optional("json", "FOLDER", help::JSON_FOLDER_HELP),
+                ArgumentSpec::Word("out", "OUT", help::OUT_HELP),
+            ],
+        },
+    ];
+    with_commands(alloc, desk, &COMMANDS)
+}
+
+// The desk's command with those that copy the records: `backup`, `migrate` and `succeed`.
+fn with_copy_commands<'a>(
+    alloc: Global,
+    desk: Result<Command<'a>, AllocError>,
+) -> Result<Command<'a>, AllocError>
+    ensures { (above : App) → IfOk desk.entry (λ c. app_of c ≡ above)
+        → IfOk result (λ c. app_of c ≡ with_copy_commands above) }
+{
+    static COMMANDS: [CommandSpec; 3] = [
+        CommandSpec {
+            name: "backup",
+            about: help::BACKUP_ABOUT,
+            help: help::BACKUP_HELP,
+            usage: None,
+            parts: &[
+                ArgumentSpec::Needed("db", "FILE", help::DB_HELP),
+                ArgumentSpec::Number("every", "SECONDS", MAX_EVERY, help::EVERY_HELP),
+                ArgumentSpec::Number("keep", "N", MAX_KEEP, help::KEEP_HELP),
+                ArgumentSpec::Word("copy", "COPY", help::COPY_HELP),
+            ],
+        },
+        CommandSpec {
+            name: "migrate",
+            about: help::MIGRATE_ABOUT,
+            help: help::MIGRATE_HELP,
+            usage: None,
+            parts: &[
+                ArgumentSpec::Needed("db", "FILE", help::DB_HELP),
+                ArgumentSpec::Flag("dry-run", help::DRY_RUN_HELP),
+            ],
+        },
+        CommandSpec {
+            name: "succeed",
+            about: help::SUCCEED_ABOUT,
+            help: help::SUCCEED_HELP,
+            usage: None,
+            parts: &[
+                ArgumentSpec::Needed("db", "OLD", help::OLD_HELP),
+                ArgumentSpec::Word("new", "NEW", help::NEW_HELP),
+            ],
+        },
+    ];
+    with_commands(alloc, desk, &COMMANDS)
+}
+
+// The desk's command with those that read manifests: `check` and `argo`.
+fn with_manifest_commands<'a>(
+    alloc: Global,
+    desk: Result<Command<'a>, AllocError>,
+) -> Result<Command<'a>, AllocError>
+    ensures { (above : App) → IfOk desk.entry (λ c. app_of c ≡ above)
+        → IfOk result (λ c. app_of c ≡ with_manifest_commands above) }
+{
+    static COMMANDS: [CommandSpec; 2] = [
+        CommandSpec {
+            name: "check",
+            about: help::CHECK_ABOUT,
+            help: help::CHECK_HELP,
+            usage: None,
+            parts: &[
+                ArgumentSpec::Optional("request", "FILE", help::REQUEST_HELP),
+                ArgumentSpec::Flag("strict", help::STRICT_HELP),
+                ArgumentSpec::OptionalWord("file", "FILE", help::FILE_HELP),
+            ],
+        },
+        CommandSpec {
+            name: "argo",
+            about: help::ARGO_ABOUT,
+            help: help::ARGO_HELP,
+            usage: None,
+            parts: &[
+                ArgumentSpec::Optional("out", "FOLDER", help::ARGO_OUT_HELP),
+                ArgumentSpec::Flag("json", help::ARGO_JSON_HELP),
+                ArgumentSpec::SomeWords("file", "FILE", help::ARGO_FILES_HELP),
+            ],
+        },
+    ];
+    with_commands(alloc, desk, &COMMANDS)
+}
+
+// The desk's command with those that ask a desk once: `do` and `get`.
+fn with_asking_commands<'a>(
+    alloc: Global,
+    desk: Result<Command<'a>, AllocError>,
+) -> Result<Command<'a>, AllocError>
+    ensures { (above : App) → IfOk desk.entry (λ c. app_of c ≡ above)
+        → IfOk result (λ c. app_of c ≡ with_asking_commands above) }
+{
+    static COMMANDS: [CommandSpec; 2] = [
+        CommandSpec {
+            name: "do",
+            about: client_help::DO_ABOUT,
+            help: client_help::DO_HELP,
+            usage: Some(client_help::DO_USAGE),
+            parts: &[
+                DESK,
+                TRIES,
+                ArgumentSpec::Number("timeout", "SECONDS", MAX_SECONDS, client_help::TIMEOUT_HELP),
+                ArgumentSpec::Optional("as", "NAME", client_help::AS_HELP),
+                ArgumentSpec::Optional("journal", "FILE", client_help::JOURNAL_HELP),
+                ArgumentSpec::Optional("once", "KEY", client_help::ONCE_HELP),
+                ArgumentSpec::Flag("instead", client_help::INSTEAD_HELP),
+                ArgumentSpec::Flag("argo", client_help::ARGO_OPTION_HELP),
+                ArgumentSpec::Optional("failure", "TEXT", client_help::FAILURE_HELP),
+                ArgumentSpec::Word("command", "COMMAND", client_help::COMMAND_HELP),
+                ArgumentSpec::OptionalWord("first", "FIRST", client_help::FIRST_HELP),
+                ArgumentSpec::OptionalWord("second", "SECOND", client_help::SECOND_HELP),
+                ArgumentSpec::OptionalWord("third", "THIRD", client_help::THIRD_HELP),
+                ArgumentSpec::OptionalWord("fourth", "FOURTH", client_help::FOURTH_HELP),
+                ArgumentSpec::MoreWords("more", "MORE", client_help::MORE_HELP),
+            ],
+        },
+        CommandSpec {
+            name: "get",
+            about: client_help::GET_ABOUT,
+            help: client_help::GET_HELP,
+            usage: None,
+            parts: &[
+                DESK,
+                TRIES,
+                ArgumentSpec::Number("timeout", "SECONDS", MAX_SECONDS, client_help::TIMEOUT_HELP),
+                ArgumentSpec::Word("service", "SERVICE", help::SERVICE_HELP),
+                ArgumentSpec::OptionalWord("part", "PART", client_help::PART_HELP),
+            ],
+        },
+    ];
+    with_commands(alloc, desk, &COMMANDS)
+}
+
+// The desk's command with those that send and wait for more than one: `watch`, `send` and `due`.
+fn with_waiting_commands<'a>(
+    alloc: Global,
+    desk: Result<Command<'a>, AllocError>,
+) -> Result<Command<'a>, AllocError>
+    ensures { (above : App) → IfOk desk.entry (λ c. app_of c ≡ above)
+        → IfOk result (λ c. app_of c ≡ with_waiting_commands above) }
+{
+    static COMMANDS: [CommandSpec; 3] = [
+        CommandSpec {
+            name: "watch",
+            about: client_help::WATCH_ABOUT,
+            help: client_help::WATCH_HELP,
+            usage: None,
+            parts: &[
+                DESK,
+                TRIES,
+                ArgumentSpec::Number(
+                    "timeout",
+                    "SECONDS",
+                    MAX_SECONDS,
+                    client_help::WATCH_TIMEOUT_HELP,
+                ),
+                ArgumentSpec::Optional("until", "STATUS,..", client_help::UNTIL_HELP),
+                ArgumentSpec::Flag("json", client_help::WATCH_JSON_HELP),
+                ArgumentSpec::Flag("forever", client_help::FOREVER_HELP),
+                ArgumentSpec::Word("service", "SERVICE", help::SERVICE_HELP),
+            ],
+        },
+        CommandSpec {
+            name: "send",
+            about: client_help::SEND_ABOUT,
+            help: client_help::SEND_HELP,
+            usage: None,
+            parts: &[
+                DESK,
+                TRIES,
+                ArgumentSpec::Number("timeout", "SECONDS", MAX_SECONDS, client_help::TIMEOUT_HELP),
+                ArgumentSpec::Word("csv", "CSV", client_help::SEND_CSV_HELP),
+            ],
+        },
+        CommandSpec {
+            name: "due",
+            about: client_help::DUE_ABOUT,
+            help: client_help::DUE_HELP,
+            usage: None,
+            parts: &[
+                DESK,
+                TRIES,
+                ArgumentSpec::Number(
+                    "timeout",
+                    "SECONDS",
+                    MAX_SECONDS,
+                    client_help::DUE_TIMEOUT_HELP,
+                ),
+                ArgumentSpec::Flag("wait", client_help::WAIT_HELP),
+                ArgumentSpec::Number("late", "SECONDS", MAX_LATE, client_help::LATE_HELP),
+                ArgumentSpec::SomeWords("service", "SERVICE", client_help::SERVICES_HELP),
+            ],
+        },
+    ];
+    with_commands(alloc, desk, &COMMANDS)
+}
+
+// The desk's command with that of the agent.
+fn with_agent_command<'a>(
+    alloc: Global,
+    desk: Result<Command<'a>, AllocError>,
+) -> Result<Command<'a>, AllocError>
+    ensures { (above : App) → IfOk desk.entry (λ c. app_of c ≡ above)
+        → IfOk result (λ c. app_of c ≡ with_agent_command above) }
+{
+    static COMMANDS: [CommandSpec; 1] = [CommandSpec {
+        name: "agent",
+        about: client_help::AGENT_ABOUT,
+        help: client_help::AGENT_HELP,
+        usage: None,
+        parts: &[
+            DESK,
+            ArgumentSpec::Optional("journals", "FOLDER", client_help::JOURNALS_HELP),
+            ArgumentSpec::Optional("as", "PREFIX", client_help::AGENT_AS_HELP),
+            ArgumentSpec::Flag("once", client_help::AGENT_ONCE_HELP),
+            ArgumentSpec::Flag("dry-run", client_help::AGENT_DRY_RUN_HELP),
+            ArgumentSpec::Optional("values", "FILE", client_help::VALUES_HELP),
+            ArgumentSpec::Number(
+                "abort-late",
+                "SECONDS",
+                MAX_LATE,
+                client_help::ABORT_LATE_HELP,
+            ),
+            ArgumentSpec::Optional("health", "FILE", client_help::HEALTH_HELP),
+            ArgumentSpec::Number(
+                "timeout",
+                "SECONDS",
+                MAX_SECONDS,
+                client_help::AGENT_TIMEOUT_HELP,
+            ),
+            ArgumentSpec::SomeWords("file", "FILE", client_help::AGENT_FILES_HELP),
+        ],
+    }];
+    with_commands(alloc, desk, &COMMANDS)
+}
+
+// The desk's command with these, if it was had.
+fn with_commands<'a>(
+    alloc: Global,
+    desk: Result<Command<'a>, AllocError>,
+    specs: &[CommandSpec],
+) -> Result<Command<'a>, AllocError>
+    ensures { (above : App) → IfOk desk.entry (λ c. app_of c ≡ above)
+        → IfOk result (λ c. app_of c ≡ with_commands above specs.now) }
+{
+    let mut desk = desk?;
+    for spec in specs {
+        desk = with_command(alloc, desk, spec)?;
+    }
+    Ok(desk)
+}
+
+// The desk's command with this one.
 fn with_command<'a>(
-    desk: Result<Command<'a>, AllocError>,
-    command: Result<Command<'a>, AllocError>,
-) -> Result<Command<'a>, AllocError>
-    ensures { (above app : App) → IfOk desk.entry (λ c. app_of c ≡ above)
-        → IfOk command.entry (λ c. app_of c ≡ app) → app.top.is_plain ≡ true
-        → IfOk result (λ c. app_of c ≡ with_subcommand above app.top) }
-{
-    let command = command?;
-    desk?.subcommand(command)
-}
-
-// `pipe --at SECONDS --step SECONDS` and its further options.
-fn pipe_command<'a>(alloc: Global) -> Result<Command<'a>, AllocError>
-    ensures { IfOk result (λ c. app_of c ≡ pipe_command) }
-{
-    static PARTS: [ArgumentSpec; 4] = [
-        ArgumentSpec::Moment("at", help::AT_HELP),
-        ArgumentSpec::Moment("step", help::STEP_HELP),
-        ArgumentSpec::Optional("db", "FILE", help::DB_OR_MEMORY_HELP),
-        CACHE,
-    ];
-    let pipe = command(alloc, "pipe", help::PIPE_ABOUT, help::PIPE_HELP);
-    with_parts(alloc, pipe.override_usage(help::PIPE_USAGE), &PARTS)
-}
-
-// `serve --listen ADDRESS` and its further options.
-fn serve_command<'a>(alloc: Global) -> Result<Command<'a>, AllocError>
-    ensures { IfOk result (λ c. app_of c ≡ serve_command) }
-{
-    static PARTS: [ArgumentSpec; 9] = [
-        ArgumentSpec::Needed("listen", "ADDRESS", help::LISTEN_HELP),
-        ArgumentSpec::Optional("db", "FILE", help::DB_OR_MEMORY_HELP),
-        CACHE,
-        ArgumentSpec::Number("connections", "N", MAX_CONNECTIONS, help::CONNECTIONS_HELP),
-        ArgumentSpec::Number(
-            "read-timeout",
-            "SECONDS",
-            MAX_SECONDS,
-            help::READ_TIMEOUT_HELP,
-        ),
-        ArgumentSpec::Number(
-            "idle-timeout",
-            "SECONDS",
-            MAX_SECONDS,
-            help::IDLE_TIMEOUT_HELP,
-        ),
-        ArgumentSpec::Number("max-clients", "N", MAX_CLIENTS, help::MAX_CLIENTS_HELP),
-        ArgumentSpec::Number("max-unsent", "BYTES", MAX_UNSENT, help::MAX_UNSENT_HELP),
-        ArgumentSpec::Number(
-            "max-unsent-total",
-            "BYTES",
-            MAX_UNSENT_TOTAL,
-            help::MAX_UNSENT_TOTAL_HELP,
-        ),
-    ];
-    let serve = command(alloc, "serve", help::SERVE_ABOUT, help::SERVE_HELP);
-    with_parts(alloc, serve, &PARTS)
-}
-
-// `import --db FILE CSV` and its further option.
-fn import_command<'a>(alloc: Global) -> Result<Command<'a>, AllocError>
-    ensures { IfOk result (λ c. app_of c ≡ import_command) }
-{
-    static PARTS: [ArgumentSpec; 3] = [
-        ArgumentSpec::Needed("db", "FILE", help::DB_OR_MADE_HELP),
-        CACHE,
-        ArgumentSpec::Word("csv", "CSV", help::CSV_HELP),
-    ];
-    let import = command(alloc, "import", help::IMPORT_ABOUT, help::IMPORT_HELP);
-    with_parts(alloc, import, &PARTS)
-}
-
-// `history --db FILE SERVICE`.
-fn history_command<'a>(alloc: Global) -> Result<Command<'a>, AllocError>
-    ensures { IfOk result (λ c. app_of c ≡ history_command) }
-{
-    static PARTS: [ArgumentSpec; 2] = [
-        ArgumentSpec::Needed("db", "FILE", help::DB_OR_MADE_HELP),
-        ArgumentSpec::Word("service", "SERVICE", help::SERVICE_HELP),
-    ];
-    let history = command(alloc, "history", help::HISTORY_ABOUT, help::HISTORY_HELP);
-    with_parts(alloc, history, &PARTS)
-}
-
-// `export --db FILE --caller NAME SERVICE`.
-fn export_command<'a>(alloc: Global) -> Result<Command<'a>, AllocError>
-    ensures { IfOk result (λ c. app_of c ≡ export_command) }
-{
-    static PARTS: [ArgumentSpec; 3] = [
-        ArgumentSpec::Needed("db", "FILE", help::DB_OR_MADE_HELP),
-        ArgumentSpec::Needed("caller", "NAME", help::CALLER_HELP),
-        ArgumentSpec::Word("service", "SERVICE", help::SERVICE_HELP),
-    ];
-    let export = command(alloc, "export", help::EXPORT_ABOUT, help::EXPORT_HELP);
-    with_parts(alloc, export, &PARTS)
-}
-
-// `status --db FILE` and its further options.
-fn status_command<'a>(alloc: Global) -> Result<Command<'a>, AllocError>
-    ensures { IfOk result (λ c. app_of c ≡ status_command) }
-{
-    static PARTS: [ArgumentSpec; 4] = [
-        ArgumentSpec::Needed("db", "FILE", help::DB_HELP),
-        WATCH,
-        ArgumentSpec::Flag("json", help::JSON_HELP),
-        ArgumentSpec::Flag("prometheus", help::PROMETHEUS_HELP),
-    ];
-    let status = command(alloc, "status", help::STATUS_ABOUT, help::STATUS_HELP);
-    with_parts(alloc, status, &PARTS)
-}
-
-// `page --db FILE OUT` and its further options.
-fn page_command<'a>(alloc: Global) -> Result<Command<'a>, AllocError>
-    ensures { IfOk result (λ c. app_of c ≡ page_command) }
-{
-    static PARTS: [ArgumentSpec; 4] = [
-        ArgumentSpec::Needed("db", "FILE", help::DB_HELP),
-        WATCH,
-        ArgumentSpec::Optional("json", "FOLDER", help::JSON_FOLDER_HELP),
-        ArgumentSpec::Word("out", "OUT", help::OUT_HELP),
-    ];
-    let page = command(alloc, "page", help::PAGE_ABOUT, help::PAGE_HELP);
-    with_parts(alloc, page, &PARTS)
-}
-
-// `backup --db FILE COPY` and its further options.
-fn backup_command<'a>(alloc: Global) -> Result<Command<'a>, AllocError>
-    ensures { IfOk result (λ c. app_of c ≡ backup_command) }
-{
-    static PARTS: [ArgumentSpec; 4] = [
-        ArgumentSpec::Needed("db", "FILE", help::DB_HELP),
-        ArgumentSpec::Number("every", "SECONDS", MAX_EVERY, help::EVERY_HELP),
-        ArgumentSpec::Number("keep", "N", MAX_KEEP, help::KEEP_HELP),
-        ArgumentSpec::Word("copy", "COPY", help::COPY_HELP),
-    ];
-    let backup = command(alloc, "backup", help::BACKUP_ABOUT, help::BACKUP_HELP);
-    with_parts(alloc, backup, &PARTS)
-}
-
-// `migrate --db FILE` and its flag.
-fn migrate_command<'a>(alloc: Global) -> Result<Command<'a>, AllocError>
-    ensures { IfOk result (λ c. app_of c ≡ migrate_command) }
-{
-    static PARTS: [ArgumentSpec; 2] = [
-        ArgumentSpec::Needed("db", "FILE", help::DB_HELP),
-        ArgumentSpec::Flag("dry-run", help::DRY_RUN_HELP),
-    ];
-    let migrate = command(alloc, "migrate", help::MIGRATE_ABOUT, help::MIGRATE_HELP);
-    with_parts(alloc, migrate, &PARTS)
-}
-
-// `succeed --db OLD NEW`.
-fn succeed_command<'a>(alloc: Global) -> Result<Command<'a>, AllocError>
-    ensures { IfOk result (λ c. app_of c ≡ succeed_command) }
-{
-    static PARTS: [ArgumentSpec; 2] = [
-        ArgumentSpec::Needed("db", "OLD", help::OLD_HELP),
-        ArgumentSpec::Word("new", "NEW", help::NEW_HELP),
-    ];
-    let succeed = command(alloc, "succeed", help::SUCCEED_ABOUT, help::SUCCEED_HELP);
-    with_parts(alloc, succeed, &PARTS)
-}
-
-// `check FILE`, or `check --request FILE`, and its flag.
-fn check_command<'a>(alloc: Global) -> Result<Command<'a>, AllocError>
-    ensures { IfOk result (λ c. app_of c ≡ check_command) }
-{
-    static PARTS: [ArgumentSpec; 3] = [
-        ArgumentSpec::Optional("request", "FILE", help::REQUEST_HELP),
-        ArgumentSpec::Flag("strict", help::STRICT_HELP),
-        ArgumentSpec::OptionalWord("file", "FILE", help::FILE_HELP),
-    ];
-    let check = command(alloc, "check", help::CHECK_ABOUT, help::CHECK_HELP);
-    with_parts(alloc, check, &PARTS)
-}
-
-// `argo FILE..` and its options.
-fn argo_command<'a>(alloc: Global) -> Result<Command<'a>, AllocError>
-    ensures { IfOk result (λ c. app_of c ≡ argo_command) }
-{
-    static PARTS: [ArgumentSpec; 3] = [
-        ArgumentSpec::Optional("out", "FOLDER", help::ARGO_OUT_HELP),
-        ArgumentSpec::Flag("json", help::ARGO_JSON_HELP),
-        ArgumentSpec::SomeWords("file", "FILE", help::ARGO_FILES_HELP),
-    ];
-    let argo = command(alloc, "argo", help::ARGO_ABOUT, help::ARGO_HELP);
-    with_parts(alloc, argo, &PARTS)
-}
-
-// `do COMMAND` with the words of the command, and its options.
-fn do_command<'a>(alloc: Global) -> Result<Command<'a>, AllocError>
-    ensures { IfOk result (λ c. app_of c ≡ do_command) }
-{
-    static PARTS: [ArgumentSpec; 12] = [
-        ArgumentSpec::Optional("as", "NAME", client_help::AS_HELP),
-        ArgumentSpec::Optional("journal", "FILE", client_help::JOURNAL_HELP),
-        ArgumentSpec::Optional("once", "KEY", client_help::ONCE_HELP),
-        ArgumentSpec::Flag("instead", client_help::INSTEAD_HELP),
-        ArgumentSpec::Flag("argo", client_help::ARGO_OPTION_HELP),
-        ArgumentSpec::Optional("failure", "TEXT", client_help::FAILURE_HELP),
-        ArgumentSpec::Word("command", "COMMAND", client_help::COMMAND_HELP),
-        ArgumentSpec::OptionalWord("first", "FIRST", client_help::FIRST_HELP),
-        ArgumentSpec::OptionalWord("second", "SECOND", client_help::SECOND_HELP),
-        ArgumentSpec::OptionalWord("third", "THIRD", client_help::THIRD_HELP),
-        ArgumentSpec::OptionalWord("fourth", "FOURTH", client_help::FOURTH_HELP),
-        ArgumentSpec::MoreWords("more", "MORE", client_help::MORE_HELP),
-    ];
-    let asked = command(alloc, "do", client_help::DO_ABOUT, client_help::DO_HELP);
-    let asked = asked.override_usage(client_help::DO_USAGE);
-    with_client_parts(alloc, asked, client_help::TIMEOUT_HELP, &PARTS)
-}
-
-// `get SERVICE`, and what of it; with the options of a client.
-fn get_command<'a>(alloc: Global) -> Result<Command<'a>, AllocError>
-    ensures { IfOk result (λ c. app_of c ≡ get_command) }
-{
-    static PARTS: [ArgumentSpec; 2] = [
-        ArgumentSpec::Word("service", "SERVICE", help::SERVICE_HELP),
-        ArgumentSpec::OptionalWord("part", "PART", client_help::PART_HELP),
-    ];
-    let get = command(alloc, "get", client_help::GET_ABOUT, client_help::GET_HELP);
-    with_client_parts(alloc, get, client_help::TIMEOUT_HELP, &PARTS)
-}
-
-// `watch SERVICE` and its options.
-fn watch_command<'a>(alloc: Global) -> Result<Command<'a>, AllocError>
-    ensures { IfOk result (λ c. app_of c ≡ watch_command) }
-{
-    static PARTS: [ArgumentSpec; 4] = [
-        ArgumentSpec::Optional("until", "STATUS,..", client_help::UNTIL_HELP),
-        ArgumentSpec::Flag("json", client_help::WATCH_JSON_HELP),
-        ArgumentSpec::Flag("forever", client_help::FOREVER_HELP),
-        ArgumentSpec::Word("service", "SERVICE", help::SERVICE_HELP),
-    ];
-    let watch = command(
-        alloc,
-        "watch",
-        client_help::WATCH_ABOUT,
-        client_help::WATCH_HELP,
-    );
-    with_client_parts(alloc, watch, client_help::WATCH_TIMEOUT_HELP, &PARTS)
-}
-
-// `send CSV` and its options.
-fn send_command<'a>(alloc: Global) -> Result<Command<'a>, AllocError>
-    ensures { IfOk result (λ c. app_of c ≡ send_command) }
-{
-    static PARTS: [ArgumentSpec; 1] = [ArgumentSpec::Word(
-        "csv",
-        "CSV",
-        client_help::SEND_CSV_HELP,
-    )];
-    let send = command(
-        alloc,
-        "send",
-        client_help::SEND_ABOUT,
-        client_help::SEND_HELP,
-    );
-    with_client_parts(alloc, send, client_help::TIMEOUT_HELP, &PARTS)
-}
-
-// `due SERVICE` and its options.
-fn due_command<'a>(alloc: Global) -> Result<Command<'a>, AllocError>
-    ensures { IfOk result (λ c. app_of c ≡ due_command) }
-{
-    static PARTS: [ArgumentSpec; 3] = [
-        ArgumentSpec::Flag("wait", client_help::WAIT_HELP),
-        ArgumentSpec::Number("late", "SECONDS", MAX_LATE, client_help::LATE_HELP),
-        ArgumentSpec::SomeWords("service", "SERVICE", client_help::SERVICES_HELP),
-    ];
-    let due = command(alloc, "due", client_help::DUE_ABOUT, client_help::DUE_HELP);
-    with_client_parts(alloc, due, client_help::DUE_TIMEOUT_HELP, &PARTS)
-}
-
-// `agent FILE..` and its options.
-fn agent_command<'a>(alloc: Global) -> Result<Command<'a>, AllocError>
-    ensures { IfOk result (λ c. app_of c ≡ agent_command) }
-{
-    static PARTS: [ArgumentSpec; 10] = [
-        DESK,
-        ArgumentSpec::Optional("journals", "FOLDER", client_help::JOURNALS_HELP),
-        ArgumentSpec::Optional("as", "PREFIX", client_help::AGENT_AS_HELP),
-        ArgumentSpec::Flag("once", client_help::AGENT_ONCE_HELP),
-        ArgumentSpec::Flag("dry-run", client_help::AGENT_DRY_RUN_HELP),
-        ArgumentSpec::Optional("values", "FILE", client_help::VALUES_HELP),
-        ArgumentSpec::Number(
-            "abort-late",
-            "SECONDS",
-            MAX_LATE,
-            client_help::ABORT_LATE_HELP,
-        ),
-        ArgumentSpec::Optional("health", "FILE", client_help::HEALTH_HELP),
-        ArgumentSpec::Number(
-            "timeout",
-            "SECONDS",
-            MAX_SECONDS,
-            client_help::AGENT_TIMEOUT_HELP,
-        ),
-        ArgumentSpec::SomeWords("file", "FILE", client_help::AGENT_FILES_HELP),
-    ];
-    let agent = command(
-        alloc,
-        "agent",
-        client_help::AGENT_ABOUT,
-        client_help::AGENT_HELP,
-    );
-    with_parts(alloc, agent, &PARTS)
-}
-
-// The command of this name, with no part yet.
-fn command<'a>(alloc: Global, name: &'a str, about: &'a str, help: &'a str) -> Command<'a>
-    ensures { app_of result ≡ new_app name.entry.now }
-{
-    Command::new(alloc, name).about(about).after_help(help)
-}
-
-// A command with the options of each client, of which `--timeout` has this help, and these parts.
-fn with_client_parts<'a>(
     alloc: Global,
-    client: Command<'a>,
-    timeout_help: &'static str,
-    parts: &[ArgumentSpec],
+    desk: Command<'a>,
+    spec: &CommandSpec,
 ) -> Result<Command<'a>, AllocError>
     ensures { IfOk result (λ c. app_of c
-        ≡ with_parts (with_desk_options (app_of client.entry)) parts.now) }
+        ≡ with_subcommand (app_of desk.entry) (command_for spec.now).top) }
 {
-    static BEGUN: [ArgumentSpec; 2] = [
-        DESK,
-        ArgumentSpec::Number("tries", "N", MAX_TRIES, client_help::TRIES_HELP),
-    ];
-    let timeout = ArgumentSpec::Number("timeout", "SECONDS", MAX_SECONDS, timeout_help);
-    let client = with_parts(alloc, client, &BEGUN)?;
-    let client = client.arg(arg_of(alloc, &timeout))?;
-    with_parts(alloc, client, parts)
+    let command = command_of(alloc, spec)?;
+    desk.subcommand(command)
+}
+
+// What clap takes for a command.
+fn command_of<'a>(alloc: Global, spec: &CommandSpec) -> Result<Command<'a>, AllocError>
+    ensures { IfOk result (λ c. app_of c ≡ command_for spec.now) }
+{
+    let command = Command::new(alloc, spec.name)
+        .about(spec.about)
+        .after_help(spec.help);
+    with_parts(alloc, with_usage(command, spec.usage), spec.parts)
+}
+
+// A command with this usage, if there is one.
+fn with_usage<'a>(command: Command<'a>, usage: Option<&'static str>) -> Command<'a>
+    ensures { app_of result ≡ app_of command.entry }
+{
+    match usage {
+        Some(usage) => command.override_usage(usage),
+        None => command,
+    }
 }
 
 // A command with these parts, in turn.

@@ -1,12 +1,13 @@
-use Rattle.std.proofs.Common.{refl}
-use Rattle.canary_cli_words.specs.CommandLine.{argo_command, bare_desk, check_command, pipe_command, serve_command}
+use Rattle.canary_cli_words.specs.CommandLine.{bare_desk}
 use Rattle.canary_cli_words.proofs.commands.desk_command.Goals as goal
 
 pub returns : goal.returns
 returns c =
-    let piped = c.with_command-desk.ensures bare_desk pipe_command c.bare_desk-desk.ensures c.pipe_command.ensures refl in
-    let served = c.with_command-desk-2.ensures _ serve_command piped c.serve_command.ensures refl in
-    let recorded = c.with_records_commands-desk.ensures _ served in
-    let checked = c.with_command-desk-3.ensures _ check_command recorded c.check_command.ensures refl in
-    let translated = c.with_command-desk-4.ensures _ argo_command checked c.argo_command.ensures refl in
-    c.with_client_commands.ensures _ translated
+    let serving = c.with_serving_commands-desk.ensures bare_desk c.bare_desk.ensures in
+    let history = c.with_history_commands-desk.ensures _ serving in
+    let status = c.with_status_commands-desk.ensures _ history in
+    let copies = c.with_copy_commands-desk.ensures _ status in
+    let manifests = c.with_manifest_commands-desk.ensures _ copies in
+    let asking = c.with_asking_commands-desk.ensures _ manifests in
+    let waiting = c.with_waiting_commands-desk.ensures _ asking in
+    c.with_agent_command.ensures _ waiting
