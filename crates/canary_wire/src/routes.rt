@@ -1,13 +1,13 @@
 //! Routes: what a method and a target ask for.
-ghost use Rattle.std.specs.Prelude.{◌≡◌, ◌≢◌, ◌↔◌, ◌==◌, List, ℕ, ◌++◌};
+ghost use Rattle.std.specs.Prelude.{◌≡◌, ◌≢◌, ◌==◌, List, ℕ, ◌++◌};
 ghost use Rattle.std.specs.Prelude.{IsTrue, IfOk, IfErr, IfSome, IsOkUnless, MatchOption};
-ghost use Rattle.std.specs.List.{before_first, position};
+ghost use Rattle.std.specs.List.{before_first};
 ghost use Rattle.canary_base.specs.Names.{is_name};
-ghost use Rattle.canary_base.specs.Numbers.{SpellsNumber};
 ghost use Rattle.canary_wire.specs.Routes.{the_rows, Target, request, service, history, run};
 ghost use Rattle.canary_wire.specs.Routes.{IsPart, IsSplit, IsPathOf, HasNoRoute, StandsBehind};
 ghost use Rattle.canary_wire.specs.Routes.{target_of, route_to, allowed_on, IsTargetRead, IsAsked};
 ghost use Rattle.canary_wire.specs.Routes.{path_of};
+ghost use Rattle.canary_wire.specs.ReplyTexts.{method_name};
 
 use crate::rejection::{Allowed, Rejection};
 use canary_base::names::Name;
@@ -74,10 +74,20 @@ pub(crate) fn asked_of(
         return Err(Rejection::NoRoute);
     };
     let allowed = parts.allowed();
-    if method != allowed.name().as_bytes() {
+    if method != name_of_method(allowed).as_bytes() {
         return Err(Rejection::Method(allowed));
     }
     parts.read()
+}
+
+// The name of a method (RFC 9110).
+fn name_of_method(method: Allowed) -> &'static str
+    ensures { result.now ≡ method_name method }
+{
+    match method {
+        Allowed::Put => "PUT",
+        Allowed::Get => "GET",
+    }
 }
 
 // The parts of a path that has a route.
@@ -124,14 +134,15 @@ impl PathParts<'_> {
         match self {
             PathParts::Request(caller, number) => {
                 let caller = name_of(caller)?;
-                let number = number_of(number)?;
+                let number = Number::read(number).ok_or(Rejection::BadNumber)?;
                 Ok(Wanted::Request(Address { caller, number }))
             }
             PathParts::Service(name) => Ok(Wanted::Query(Query::Service(name_of(name)?))),
             PathParts::History(name) => Ok(Wanted::Query(Query::History(name_of(name)?))),
             PathParts::Run(name, number) => {
                 let name = name_of(name)?;
-                Ok(Wanted::Query(Query::Run(name, number_of(number)?)))
+                let number = Number::read(number).ok_or(Rejection::BadNumber)?;
+                Ok(Wanted::Query(Query::Run(name, number)))
             }
         }
     }
@@ -144,15 +155,6 @@ fn name_of(bytes: &[u8]) -> Result<Name, Rejection>
         × ¬ (IsTrue (is_name bytes.now))) }
 {
     Name::read(bytes).ok_or(Rejection::BadName)
-}
-
-// The number of a request or a run in a path, or `BadNumber`.
-fn number_of(digits: &[u8]) -> Result<Number, Rejection>
-    ensures ok { IfOk result (SpellsNumber digits.now) }
-    ensures err { IfErr result (λ rejection. (rejection ≡ Rejection.BadNumber)
-        × ((n : ℕ) → ¬ (SpellsNumber digits.now n))) }
-{
-    Number::read(digits).ok_or(Rejection::BadNumber)
 }
 
 // The parts of a path, where this route is its only one.
@@ -231,12 +233,12 @@ fn part_behind<'a>(path: &'a [u8], front: &[u8]) -> Option<(&'a [u8], &'a [u8])>
         → StandsBehind path.now front.now part rest
         → (part ≡ parts.0.now) × (rest ≡ parts.1.now)) }
 {
-    let behind = behind(path, front)?;
+    let behind = path.strip_prefix(front)?;
     let (part, rest) = behind.split_at(before(behind, b'/').len());
-    if is_part(part) {
-        Some((part, rest))
-    } else {
+    if part.is_empty() {
         None
+    } else {
+        Some((part, rest))
     }
 }
 
@@ -246,38 +248,16 @@ fn last_part<'a>(path: &'a [u8], front: &[u8]) -> Option<&'a [u8]>
         ((part : List ℕ) → IsPart part → path.now ≢ front.now ++ part)
         (λ part. IsPart part.now × (path.now ≡ front.now ++ part.now)) }
 {
-    let part = behind(path, front)?;
-    if is_part(part) { Some(part) } else { None }
-}
-
-// What stands behind that front.
-fn behind<'a>(text: &'a [u8], front: &[u8]) -> Option<&'a [u8]>
-    ensures { MatchOption result ((rest : List ℕ) → text.now ≢ front.now ++ rest)
-        (λ rest. text.now ≡ front.now ++ rest.now) }
-{
-    text.strip_prefix(front)
+    let (part, rest) = part_behind(path, front)?;
+    if rest.is_empty() { Some(part) } else { None }
 }
 
 // What stands before the first of these bytes.
 fn before(text: &[u8], byte: u8) -> &[u8]
     ensures { result.now ≡ before_first (λ b. b == byte) text.now }
 {
-    match place_of(text, byte) {
+    match text.iter().position(|b| *b == byte) {
         Some(at) => &text[..at],
         None => text,
     }
-}
-
-// The index of the first byte that is this one, if there is one.
-fn place_of(text: &[u8], byte: u8) -> Option<usize>
-    ensures { result ≡ position (λ b. b == byte) text.now }
-{
-    text.iter().position(|b| *b == byte)
-}
-
-// Whether these bytes are some, and none of them is a slash.
-fn is_part(bytes: &[u8]) -> bool
-    ensures { IsTrue result ↔ IsPart bytes.now }
-{
-    !bytes.is_empty() && !bytes.contains(&b'/')
 }
