@@ -1,7 +1,7 @@
 -- What the router finds for a path, and how that path is split.
 use Rattle.std.proofs.Common.{◌≡◌, ℕ, zero, suc, ◌+◌, ◌-◌, ◌<◌, List, [], ◌∷◌, ◌++◌, length, take, drop, get_or, subst, Option, Some, None, Bool, true, false, cond, refl, sym, ap, ◌∙◌, arith, codes, nat_eq, ◌==◌, ◌&&◌}
 use Rattle.std.proofs.lemmas.Bool.Decides.{nat_tests}
-use Rattle.std.proofs.lemmas.List.{append-nil, length-append}
+use Rattle.std.proofs.lemmas.List.{length-append}
 use Rattle.std.proofs.Math.Numerals.{one-add}
 use Rattle.std.specs.List.{list_any, before_first}
 use Rattle.std.proofs.lemmas.Bool.{or_parts}
@@ -340,18 +340,6 @@ ends_behind : (l : List ℕ) → EndsPart (behind_slash l)
 ends_behind [] = tt
 ends_behind (b ∷ l) = ends_by b l (b == 47) refl (ends_behind l)
 
--- no slash stands before the first one
-abbrev upto_slash : List ℕ → List ℕ
-upto_slash l = take (length (before_first is_slash l)) l
-
-none_by : (b : ℕ) (l : List ℕ) (v : Bool) → (b == 47) ≡ v → list_any is_slash (upto_slash l) ≡ false → list_any is_slash (upto_slash (b ∷ l)) ≡ false
-none_by b l true e none = rw e refl
-none_by b l false e none = rw (e, one-add) (rw e none)
-
-none_upto : (l : List ℕ) → list_any is_slash (upto_slash l) ≡ false
-none_upto [] = refl
-none_upto (b ∷ l) = none_by b l (b == 47) refl (none_upto l)
-
 -- (here `front` is a front, `rest` what stands behind it, `upto` what stands before the first slash of that, and `part` and `after` the two halves)
 module _ (path front rest upto part after : List ℕ) (whole : path ≡ front ++ rest) (is : upto ≡ before_first is_slash rest) (first_is : part ≡ take (length upto) rest) (then_is : after ≡ drop (length upto) rest) where
   part_as : part ≡ take (length (before_first is_slash rest)) rest
@@ -363,13 +351,8 @@ module _ (path front rest upto part after : List ℕ) (whole : path ≡ front ++
   both_are : part ++ after ≡ rest
   both_are = (λ i. part_as i ++ after_as i) ∙ take-append-drop (length (before_first is_slash rest)) rest
 
-  -- some bytes that stand before the first slash are a part
-  pub stands : 0 < length part → StandsBehind path front part after
-  stands some = record {
-    whole = whole ∙ ap (λ t. front ++ t) (sym both_are);
-    part_is = (some, ap (list_any is_slash) part_as ∙ none_upto rest);
-    ends = subst EndsPart (sym after_as) (ends_behind rest);
-  }
+  pub stands : IsPart part → StandsBehind path front part after
+  stands p = record { whole = whole ∙ ap (λ t. front ++ t) (sym both_are); part_is = p; ends = subst EndsPart (sym after_as) (ends_behind rest) }
 
   -- there is one such part, and one rest
   pub one_part : (other more : List ℕ) → StandsBehind path front other more → (other ≡ part) × (more ≡ after)
@@ -379,10 +362,3 @@ module _ (path front rest upto part after : List ℕ) (whole : path ≡ front ++
       let one : part ≡ other = part_as ∙ ap (λ t. take (length t) rest) front_is ∙ ap (take (length other)) same ∙ take-append_seam other more in
       let two : after ≡ more = after_as ∙ ap (λ t. drop (length t) rest) front_is ∙ ap (drop (length other)) same ∙ drop-append_seam other more in
       (sym one, sym two)
-
--- the last part, behind which nothing stands
-pub stands_last : (path front part : List ℕ) → IsPart part → path ≡ front ++ part → StandsBehind path front part []
-stands_last path front part p e = record { whole = e ∙ ap (λ t. front ++ t) (sym (append-nil part)); part_is = p; ends = tt }
-
-pub is_last : (path front part rest : List ℕ) → StandsBehind path front part rest → rest ≡ [] → IsPart part × (path ≡ front ++ part)
-is_last path front part rest s none = (s.part_is, s.whole ∙ ap (λ t. front ++ (part ++ t)) none ∙ ap (λ t. front ++ t) (append-nil part))

@@ -1,7 +1,7 @@
 //! Routes: what a method and a target ask for.
-ghost use Rattle.std.specs.Prelude.{◌≡◌, ◌≢◌, ◌==◌, List, ℕ, ◌++◌};
+ghost use Rattle.std.specs.Prelude.{◌≡◌, ◌≢◌, ◌↔◌, ◌==◌, List, ℕ, ◌++◌};
 ghost use Rattle.std.specs.Prelude.{IsTrue, IfOk, IfErr, IfSome, IsOkUnless, MatchOption};
-ghost use Rattle.std.specs.List.{before_first};
+ghost use Rattle.std.specs.List.{before_first, position};
 ghost use Rattle.canary_base.specs.Names.{is_name};
 ghost use Rattle.canary_wire.specs.Routes.{the_rows, Target, request, service, history, run};
 ghost use Rattle.canary_wire.specs.Routes.{IsPart, IsSplit, IsPathOf, HasNoRoute, StandsBehind};
@@ -233,12 +233,12 @@ fn part_behind<'a>(path: &'a [u8], front: &[u8]) -> Option<(&'a [u8], &'a [u8])>
         → StandsBehind path.now front.now part rest
         → (part ≡ parts.0.now) × (rest ≡ parts.1.now)) }
 {
-    let behind = path.strip_prefix(front)?;
+    let behind = behind(path, front)?;
     let (part, rest) = behind.split_at(before(behind, b'/').len());
-    if part.is_empty() {
-        None
-    } else {
+    if is_part(part) {
         Some((part, rest))
+    } else {
+        None
     }
 }
 
@@ -248,16 +248,38 @@ fn last_part<'a>(path: &'a [u8], front: &[u8]) -> Option<&'a [u8]>
         ((part : List ℕ) → IsPart part → path.now ≢ front.now ++ part)
         (λ part. IsPart part.now × (path.now ≡ front.now ++ part.now)) }
 {
-    let (part, rest) = part_behind(path, front)?;
-    if rest.is_empty() { Some(part) } else { None }
+    let part = behind(path, front)?;
+    if is_part(part) { Some(part) } else { None }
+}
+
+// What stands behind that front.
+fn behind<'a>(text: &'a [u8], front: &[u8]) -> Option<&'a [u8]>
+    ensures { MatchOption result ((rest : List ℕ) → text.now ≢ front.now ++ rest)
+        (λ rest. text.now ≡ front.now ++ rest.now) }
+{
+    text.strip_prefix(front)
 }
 
 // What stands before the first of these bytes.
 fn before(text: &[u8], byte: u8) -> &[u8]
     ensures { result.now ≡ before_first (λ b. b == byte) text.now }
 {
-    match text.iter().position(|b| *b == byte) {
+    match place_of(text, byte) {
         Some(at) => &text[..at],
         None => text,
     }
+}
+
+// The index of the first byte that is this one, if there is one.
+fn place_of(text: &[u8], byte: u8) -> Option<usize>
+    ensures { result ≡ position (λ b. b == byte) text.now }
+{
+    text.iter().position(|b| *b == byte)
+}
+
+// Whether these bytes are some, and none of them is a slash.
+fn is_part(bytes: &[u8]) -> bool
+    ensures { IsTrue result ↔ IsPart bytes.now }
+{
+    !bytes.is_empty() && !bytes.contains(&b'/')
 }
