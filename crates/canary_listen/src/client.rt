@@ -15,6 +15,7 @@ use mio::{Interest, Registry, Token};
 use std::alloc::Global;
 use std::io::{self, ErrorKind, Read, Write};
 use std::net::{IpAddr, Shutdown};
+use std::time::Duration;
 
 // The most bytes that are read of a client after its last reply: 16 MiB.
 const MAX_DRAINED: usize = 16_777_216;
@@ -58,6 +59,10 @@ pub(crate) enum TurnKind {
 #[derive(Clone, Copy)]
 pub(crate) struct Ready {
     pub(crate) part: TurnKind,
+    // How long it goes on at most, with more than one message.
+    pub(crate) share: Duration,
+    // Whether a history is answered in it.
+    pub(crate) answers_histories: bool,
     // The present second.
     pub(crate) now: u64,
     // Whether bytes may be left after a short read: the system reported that the client ended its

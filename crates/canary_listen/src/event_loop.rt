@@ -50,12 +50,8 @@ pub(crate) struct EventLoop {
     pub(crate) has_queries_waiting: bool,
     // The clients whose histories wait, in order. Each is there once.
     pub(crate) histories: VecDeque<usize>,
-    // Whether histories are answered in the turns of this round.
-    pub(crate) answers_histories: bool,
     // The clients whose replies are held back, in order.
     pub(crate) held: VecDeque<usize>,
-    // How long the turn of one that is reported goes on at most.
-    pub(crate) share: Duration,
     // How many more are accepted; none for as many as come.
     pub(crate) left: Option<u64>,
     // Whether somebody may wait to be accepted.
@@ -72,7 +68,7 @@ impl EventLoop {
     pub(crate) fn is_done(&self) -> bool
         ensures { IsTrue result → AreAllServed self.entry.now }
     {
-        are_none_left(self.left) && self.clients.count() == 0
+        self.left == Some(0) && self.clients.count() == 0
     }
 
     // Whether somebody may be accepted now: there is room for one more, or one is idle.
@@ -80,7 +76,7 @@ impl EventLoop {
         ensures { IsTrue result → self.entry.now.left ≢ Some 0 }
     {
         self.has_waiting
-            && !are_none_left(self.left)
+            && self.left != Some(0)
             && self.now >= self.retry_at
             && (self.has_room() || self.clients.idlest(self.now).is_some())
     }
@@ -105,7 +101,9 @@ impl EventLoop {
     {
         going_on::<C, B>();
         self.dispatch_all(rt, events, clock, book);
-        self.answer_history(rt, clock, book);
+        if self.has_history_due() {
+            self.answer_history(rt, clock, book);
+        }
     }
 
     // Does what is to be done for each that was reported. If many more are to come, a reply is held
@@ -126,12 +124,14 @@ impl EventLoop {
     {
         going_on::<C, B>();
         let (mut left, now) = (events.iter().count(), self.now);
-        self.share = share_of(left);
-        self.answers_histories = left <= 1 && self.histories.is_empty();
+        let share = share_of(left);
+        let answers_histories = left <= 1 && self.histories.is_empty();
         'events: for event in events.iter() {
             left = left.saturating_sub(1);
             let ready = Ready {
                 part: part_before(left),
+                share,
+                answers_histories,
                 now,
                 may_hold_more: event.is_read_closed() || event.is_priority(),
                 has_ended: event.is_write_closed(),
@@ -157,16 +157,18 @@ impl EventLoop {
     {
         going_on::<C, B>();
         self.send_due(rt, ready.part, clock, book);
-        self.leave_queue(token.0, ready.has_ended);
+        if ready.has_ended {
+            self.leave_queue(token.0);
+        }
         self.dispatch(rt, token, ready, clock, book);
     }
 
-    // Lets a client go whose connection has ended in both directions while its history waits.
-    fn leave_queue(&mut self, number: usize, has_ended: bool)
+    // Lets a client go whose connection has ended in both directions, if its history waits.
+    fn leave_queue(&mut self, number: usize)
         ensures { KeepsServed (clients_attendance self.old.clients)
             (clients_attendance self.new.clients) }
     {
-        if has_ended && self.histories.contains(&number) {
+        if self.histories.contains(&number) {
             self.histories.retain(|waiting| *waiting != number);
             self.close(number, Cause::Write);
         }
@@ -189,14 +191,11 @@ impl EventLoop {
             (clients_attendance self.old.clients) (clients_attendance self.new.clients) }
     {
         going_on::<C, B>();
-        if !self.has_history_due() {
-            return;
-        }
-        self.share = Duration::ZERO;
-        self.answers_histories = true;
         if let Some(number) = self.histories.pop_front() {
             let ready = Ready {
                 part: TurnKind::Both,
+                share: Duration::ZERO,
+                answers_histories: true,
                 now: self.now,
                 may_hold_more: false,
                 has_ended: false,
@@ -241,7 +240,8 @@ impl EventLoop {
         }
     }
 
-    // Sends the replies that are held back the longest.
+    // Sends the replies that are held back the longest: their client has had its share as it sent
+    // its messages.
     fn send_first<R: time::Clock + AllocGlobal, C: Clock, B: Book>(
         &mut self,
         rt: &R,
@@ -257,6 +257,8 @@ impl EventLoop {
         if let Some(number) = self.held.pop_front() {
             let ready = Ready {
                 part: TurnKind::Send,
+                share: Duration::ZERO,
+                answers_histories: false,
                 now: self.now,
                 may_hold_more: false,
                 has_ended: false,
@@ -283,9 +285,8 @@ impl EventLoop {
             self.has_waiting = true;
         }
         let number = token.0;
-        let share = share_in(ready.part, self.share);
-        let (queries, histories) = (self.answers_queries(), self.answers_histories);
-        let mut pace = TimeSlice::begun(rt, share, queries, histories);
+        let (queries, histories) = (self.answers_queries(), ready.answers_histories);
+        let mut pace = TimeSlice::begun(rt, ready.share, queries, histories);
         if let Some(fate) = self.clients.turn(
             number,
             rt.alloc(),
@@ -357,12 +358,12 @@ impl EventLoop {
         }
     }
 
-    // Has the turns of those come whose queries waited, once queries are answered again.
+    // Has the turns of those come whose queries wait, if queries are answered again.
     pub(crate) fn resume_queries(&mut self)
         ensures { KeepsServed (clients_attendance self.old.clients)
             (clients_attendance self.new.clients) }
     {
-        if !self.has_queries_waiting || !self.answers_queries() {
+        if !self.answers_queries() {
             return;
         }
         self.has_queries_waiting = false;
@@ -388,27 +389,27 @@ impl EventLoop {
         self.clients.remove(number);
     }
 
-    // Writes what was noted in the seconds before this one.
-    pub(crate) fn report<F: Write>(&mut self, errors: &mut F)
-        ensures { clients_attendance self.new.clients ≡ clients_attendance self.old.clients }
-    {
-        self.reports.write_before(self.now, errors);
-    }
-
     // Whether those that take too long were let go in this second.
     pub(crate) fn is_swept(&self) -> bool {
         self.now == self.swept
     }
 
-    // Lets those go that take too long; each second this is asked once.
-    pub(crate) fn close_overdue(&mut self)
+    // Lets those go that take too long, and writes which connections ended with a fault since this
+    // was done last.
+    pub(crate) fn sweep<F: Write>(&mut self, errors: &mut F)
         ensures { KeepsServed (clients_attendance self.old.clients)
             (clients_attendance self.new.clients) }
     {
-        if self.is_swept() {
-            return;
-        }
         self.swept = self.now;
+        self.close_overdue();
+        self.reports.write_all(errors);
+    }
+
+    // Lets those go that take too long.
+    fn close_overdue(&mut self)
+        ensures { KeepsServed (clients_attendance self.old.clients)
+            (clients_attendance self.new.clients) }
+    {
         let mut from = 0;
         'late: for _ in 0..self.clients.count() {
             let Some((number, cause)) = self.clients.overdue(from, self.limits, self.now) else {
@@ -506,17 +507,6 @@ impl EventLoop {
     }
 }
 
-// Whether as many were accepted as were to come.
-fn are_none_left(left: Option<u64>) -> bool
-    ensures none { IsTrue result → left ≡ Some 0 }
-    ensures some { left ≡ Some 0 → IsTrue result }
-{
-    match left {
-        Some(count) => count == 0,
-        None => false,
-    }
-}
-
 // One less of so many.
 fn one_less(left: Option<u64>) -> Option<u64>
     ensures { result ≡ option_map (λ n. n - 1) left }
@@ -533,16 +523,6 @@ fn part_before(left: usize) -> TurnKind {
         TurnKind::Answer
     } else {
         TurnKind::Both
-    }
-}
-
-// How long a turn goes on at most, if a client's share is this: one that takes replies which were
-// held back has had its share as it sent its messages.
-fn share_in(part: TurnKind, share: Duration) -> Duration {
-    if part == TurnKind::Send {
-        Duration::ZERO
-    } else {
-        share
     }
 }
 

@@ -97,9 +97,7 @@ impl Listener {
             reports: Reports::new(rt.alloc()),
             has_queries_waiting: false,
             histories: VecDeque::new(rt.alloc()),
-            answers_histories: false,
             held: VecDeque::new(rt.alloc()),
-            share: Duration::ZERO,
             left: None,
             has_waiting: false,
             retry_at: 0,
@@ -206,7 +204,8 @@ impl Listener {
         Ok(())
     }
 
-    // Gives each client that is ready a turn, and lets clients go and come.
+    // Gives each client that is ready a turn, and lets clients go and come. Who takes too long is
+    // asked once a second.
     fn attend_ready<R: time::Clock + AllocGlobal, C: Clock, B: Placed, F: Write>(
         &mut self,
         rt: &R,
@@ -219,9 +218,12 @@ impl Listener {
             (attendance_of self.old) (attendance_of self.new) }
     {
         self.attendant.dispatch_round(rt, &self.events, clock, book);
-        self.attendant.close_overdue();
-        self.attendant.resume_queries();
-        self.attendant.report(errors);
+        if !self.attendant.is_swept() {
+            self.attendant.sweep(errors);
+        }
+        if self.attendant.has_queries_waiting {
+            self.attendant.resume_queries();
+        }
         self.attendant.accept_some(rt.alloc());
     }
 
@@ -244,21 +246,14 @@ impl Listener {
         ensures { attendance_of self.new ≡ attendance_of self.old }
     {
         'asked: for _ in 0..MAX_ASKED {
-            if self.has_come()? {
+            self.attendant
+                .poll
+                .poll(&mut self.events, Some(Duration::ZERO))?;
+            if !self.events.is_empty() {
                 return Ok(true);
             }
         }
         Ok(false)
-    }
-
-    // Whether something has come.
-    fn has_come(&mut self) -> io::Result<bool>
-        ensures { attendance_of self.new ≡ attendance_of self.old }
-    {
-        self.attendant
-            .poll
-            .poll(&mut self.events, Some(Duration::ZERO))?;
-        Ok(!self.events.is_empty())
     }
 
     // Whether the records of the book were not in place a second ago, and are not now. They are

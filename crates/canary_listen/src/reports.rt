@@ -15,12 +15,12 @@ struct Line {
     times: u64,
 }
 
-// The lines that were not written yet, and how many were dropped since a line was written.
+// The lines that were not written yet, and how many were dropped since a line was written. They are
+// written once a second.
 #[derive(Drop)]
 pub(crate) struct Reports {
     alloc: Global,
     lines: Vec<Line>,
-    second: u64,
     dropped: u64,
 }
 
@@ -30,7 +30,6 @@ impl Reports {
         Reports {
             alloc,
             lines: Vec::new(alloc),
-            second: 0,
             dropped: 0,
         }
     }
@@ -54,14 +53,6 @@ impl Reports {
         };
         if self.lines.len() >= MAX_LINES_A_SECOND || self.lines.push(line).is_err() {
             self.dropped = self.dropped.saturating_add(1);
-        }
-    }
-
-    // Writes what was noted in a second before this one, and notes the next lines under this one.
-    pub(crate) fn write_before<F: Write>(&mut self, now: u64, errors: &mut F) {
-        if self.second < now {
-            self.second = now;
-            self.write_all(errors);
         }
     }
 

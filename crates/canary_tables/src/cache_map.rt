@@ -66,7 +66,7 @@ impl<V: Drop> CacheMap<V> {
         ensures { option_copied result ≡ map.get self.now name }
     {
         match find(&self.recent, &self.earlier, name) {
-            Some(found) => Some(value_of(found)),
+            Some(found) => Some(&found.value),
             None => None,
         }
     }
@@ -207,13 +207,6 @@ fn weight_of<V: Drop>(found: &Option<Weighed<V>>) -> u64
         Some(found) => found.weight,
         None => 0,
     }
-}
-
-// The value of an entry, without its weight.
-fn value_of<V: Drop>(found: &Weighed<V>) -> &V
-    ensures { result.now ≡ found.now.value }
-{
-    &found.value
 }
 
 // The entry of that name in one of these maps, the first of them first.

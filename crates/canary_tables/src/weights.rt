@@ -9,7 +9,8 @@ use canary_plan::bound_analysis::BoundAnalysis;
 use canary_plan::line::Line;
 use canary_plan::template::Template;
 use canary_plan::template_spec::MetricSpec;
-use canary_release::service::Service;
+use canary_release::runs::Runs;
+use canary_release::service::{Service, ServiceParts};
 
 /// A count of requests, with its caller's name.
 pub(crate) const BYTES_OF_COUNT: u64 = 128;
@@ -61,9 +62,10 @@ pub(crate) fn bytes_of_history(history: &Listed<Line>) -> u64
 
 /// A service, with its name. A metric counts as one with short conditions.
 pub(crate) fn bytes_of_service(service: &Service) -> u64 {
-    let steps = BYTES_OF_STEP.saturating_mul(service.strategy().steps().len() as u64);
-    let metrics = BYTES_OF_METRIC.saturating_mul(metrics_of(service.bound()));
-    let tallies = BYTES_OF_TALLY.saturating_mul(tallies_of(service));
+    let ServiceParts { service, runs } = service.parts();
+    let steps = BYTES_OF_STEP.saturating_mul(service.strategy.steps().len() as u64);
+    let metrics = BYTES_OF_METRIC.saturating_mul(metrics_of(&service.bound));
+    let tallies = BYTES_OF_TALLY.saturating_mul(tallies_of(runs));
     let parts = steps.saturating_add(metrics).saturating_add(tallies);
     BYTES_OF_SERVICE.saturating_add(parts)
 }
@@ -85,10 +87,10 @@ fn metrics_in(analysis: Option<&BoundAnalysis>) -> u64 {
     }
 }
 
-// How many tallies the open runs of the service have.
-fn tallies_of(service: &Service) -> u64 {
+// How many tallies the open runs have.
+fn tallies_of(runs: &Runs) -> u64 {
     let mut count: u64 = 0;
-    for run in service.open_runs() {
+    for run in runs.open_runs.as_slice() {
         count = count.saturating_add(run.tallies.as_slice().len() as u64);
     }
     count

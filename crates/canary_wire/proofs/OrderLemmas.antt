@@ -1,18 +1,16 @@
 -- A conversation stays in order, step by step.
-use Rattle.std.proofs.Common.{◌≡◌, ◌⊎◌, inl, inr, ℕ, List, [], ◌++◌, refl, sym, ap, ◌∙◌, subst}
+use Rattle.std.proofs.Common.{◌≡◌, ℕ, List, [], ◌++◌, refl, sym, ap, ◌∙◌, subst}
 use Rattle.std.specs.Prelude.{Some, flat_map}
 use Rattle.std.specs.Io.KnownBytes.{Appends, Consumes}
 use Rattle.std.proofs.lemmas.List.{append-nil, append_assoc}
 use Rattle.canary_wire.specs.declared.conversation.ConversationState.{ConversationState}
 use Rattle.canary_wire.specs.declared.conversation.ConversationState.TheVariants.{Open, Over, Broken}
-use Rattle.canary_wire.specs.declared.conversation.StepResult.{StepResult}
-use Rattle.canary_wire.specs.declared.conversation.StepResult.TheVariants.{Answered, Waits, Closed, Broke}
 use Rattle.canary_wire.specs.Cut.{Message, Begins, IsCut}
 use Rattle.canary_base.specs.Writes.{Known}
 use Rattle.canary_once.specs.Messages.{messages_of, DeskState}
 use Rattle.canary_wire.specs.Dispositions.{HttpExchange, reply_bytes}
 use Rattle.canary_wire.specs.Serving.{last_reply, Answers, AnswersAll, AnswersUntil}
-use Rattle.canary_wire.specs.Conversing.{Talk, talk, IsInOrder, so_far, to_the_end, broken_off, InOrder, KeepsOrder, Receives, Sends, AnswersMore, StandsAt, AnswersNext}
+use Rattle.canary_wire.specs.Conversing.{Talk, talk, IsInOrder, so_far, to_the_end, broken_off, InOrder, KeepsOrder, Receives, Sends, AnswersMore}
 use Rattle.canary_once.proofs.MessageLemmas.{went_none, went_then}
 use Rattle.canary_wire.proofs.ServeLemmas.{begins_then, begins_more, begins_as, cut_then, messages-append, replies-append, cut_short_then}
 
@@ -135,20 +133,3 @@ module _ (p q : DeskState) (held new unsent owing : List ℕ) where
 
   pub more_broken : (s : ConversationState) → s ≡ Open → AnswersUntil (Some unsent) (Some owing) p q held → AnswersMore p q (talk held unsent s) (talk new owing Broken)
   more_broken s is a = record { held = a.exchanges; went = a.went; order = more_of s Broken a.exchanges (broken_order a) is }
-
-  -- a step behind which it is still open
-  pub more_on : (s : ConversationState) (step : StepResult) → (step ≡ Answered) ⊎ (step ≡ Waits) → s ≡ Open → AnswersNext (Some unsent) (Some owing) p q held new step → AnswersMore p q (talk held unsent s) (talk new owing s)
-  more_on s Answered on is a = more_open s s is is a
-  more_on s Waits on is a = more_open s s is is a.0
-  more_on s Closed (inl e) is a = absurd (cc e)
-  more_on s Closed (inr e) is a = absurd (cc e)
-  more_on s Broke (inl e) is a = absurd (cc e)
-  more_on s Broke (inr e) is a = absurd (cc e)
-
-  pub stands_on : (s : ConversationState) (step : StepResult) → (step ≡ Answered) ⊎ (step ≡ Waits) → s ≡ Open → AnswersNext (Some unsent) (Some owing) p q held new step → StandsAt (talk new owing s) step
-  stands_on s Answered on is a = is
-  stands_on s Waits on is a = (is, a.1)
-  stands_on s Closed (inl e) is a = absurd (cc e)
-  stands_on s Closed (inr e) is a = absurd (cc e)
-  stands_on s Broke (inl e) is a = absurd (cc e)
-  stands_on s Broke (inr e) is a = absurd (cc e)

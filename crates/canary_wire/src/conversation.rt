@@ -1,6 +1,6 @@
 //! A conversation with one client, turn by turn: where `serve` waits for its reader and its
 //! writer, a turn never does, so many clients can be served at once.
-ghost use Rattle.std.specs.Prelude.{◌≡◌, ◌≢◌, None, [], length, IfOk, OnOk, IfSome};
+ghost use Rattle.std.specs.Prelude.{◌≡◌, ◌≢◌, None, [], length, IfOk, IfSome};
 ghost use Rattle.canary_base.specs.Writes.{Known};
 ghost use Rattle.canary_once.specs.Messages.{desk_state};
 ghost use Rattle.canary_wire.specs.Buffers.{bytes_held};
@@ -370,7 +370,7 @@ impl Conversation {
         if self.leaves_first(pace) {
             return StepResult::Answered;
         }
-        if let Err(_) = self.make_room() {
+        if let Err(_) = self.unsent.make_room() {
             return StepResult::Answered;
         }
         self.answer_first(alloc, routes, clock, book)
@@ -380,14 +380,6 @@ impl Conversation {
     fn leaves_first<P: Pace>(&self, pace: &P) -> bool {
         (!pace.answers_queries() && self.begins_with_query())
             || (!pace.answers_histories() && self.begins_with_history())
-    }
-
-    // Takes room for the reply to a request; there is some already where nothing is owed.
-    fn make_room(&mut self) -> Result<(), Memory>
-        ensures same { talk_of self.new ≡ talk_of self.old }
-        ensures room { OnOk result (HasRoom self.new.unsent) }
-    {
-        self.unsent.make_room()
     }
 
     // The same, where it is open and has room.
@@ -408,9 +400,9 @@ impl Conversation {
     {
         let (buffer, unsent) = (&mut self.buffer, &mut self.unsent);
         let step = answer_next(alloc, &routes.router, buffer, unsent, clock, book);
-        self.answered = count_after(self.answered, step);
         match step {
-            StepResult::Answered | StepResult::Waits => {}
+            StepResult::Answered => self.answered = self.answered.saturating_add(1),
+            StepResult::Waits => {}
             StepResult::Closed => self.stage = ConversationState::Over,
             StepResult::Broke => self.stage = ConversationState::Broken,
         }
@@ -429,14 +421,6 @@ pub(crate) enum StepResult {
     Closed,
     // There was no memory for a reply.
     Broke,
-}
-
-// How many messages were answered behind this step.
-fn count_after(count: u64, step: StepResult) -> u64 {
-    match step {
-        StepResult::Answered => count.saturating_add(1),
-        StepResult::Waits | StepResult::Closed | StepResult::Broke => count,
-    }
 }
 
 // Whether these bytes begin with a query.

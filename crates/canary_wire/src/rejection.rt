@@ -1,6 +1,7 @@
 //! Why a message is turned away before the register is asked.
-ghost use Rattle.std.specs.Prelude.{◌≡◌};
-ghost use Rattle.canary_wire.specs.ReplyTexts.{method_name, rejection_status, rejection_body};
+ghost use Rattle.std.specs.Prelude.{◌≡◌, ◌≤◌, length};
+ghost use Rattle.canary_wire.specs.declared.reply.Response.TheVariants as response;
+ghost use Rattle.canary_wire.specs.ReplyTexts.{allow_line, rejection_status, rejection_body};
 
 use http::StatusCode;
 
@@ -9,18 +10,6 @@ use http::StatusCode;
 pub(crate) enum Allowed {
     Put,
     Get,
-}
-
-impl Allowed {
-    // Its name (RFC 9110).
-    pub(crate) fn name(self) -> &'static str
-        ensures { result.now ≡ method_name self }
-    {
-        match self {
-            Allowed::Put => "PUT",
-            Allowed::Get => "GET",
-        }
-    }
 }
 
 // Why a message is rejected before the register is asked.
@@ -74,6 +63,18 @@ impl Rejection {
             Rejection::BadNumber => "{\"code\":\"bad-number\"}",
             Rejection::Unsupported => "{\"code\":\"unsupported\"}",
             Rejection::Unreadable => "{\"code\":\"unreadable\"}",
+        }
+    }
+
+    // The field line of its reply that names the method of the route, or none.
+    pub(crate) fn allow_line(self) -> &'static str
+        ensures is { result.now ≡ allow_line (response.Rejected self) }
+        ensures short { length result.now ≤ 12 }
+    {
+        match self {
+            Rejection::Method(Allowed::Put) => "Allow: PUT\r\n",
+            Rejection::Method(Allowed::Get) => "Allow: GET\r\n",
+            _ => "",
         }
     }
 }

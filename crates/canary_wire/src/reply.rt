@@ -5,7 +5,7 @@ ghost use Rattle.canary_wire.specs.ReplyTexts.{response_status, response_body, a
 ghost use Rattle.canary_wire.specs.ReplyTexts.{status_code, reason_of, line_if};
 ghost use Rattle.canary_wire.specs.ReplyTexts.{head_text, reply_text};
 
-use crate::rejection::{Allowed, Rejection};
+use crate::rejection::Rejection;
 use arrayvec::ArrayString;
 use canary_base::writing::{WriteFault, write_all};
 use canary_once::event::Answer;
@@ -23,38 +23,39 @@ pub(crate) enum Response {
     Answered(Answer),
 }
 
+// What a reply is made of: its body in JSON, its status, and the field line that names the method
+// of the route, or none.
+#[derive(Clone, Copy)]
+struct ReplyParts<'a> {
+    body: &'a str,
+    status: StatusCode,
+    allow: &'static str,
+}
+
 impl Response {
-    // The status of the reply, which is 503 if memory was refused.
-    fn status(&self) -> StatusCode
-        ensures { result ≡ response_status self.now }
+    // The parts of the reply, whose status is 503 if memory was refused.
+    fn parts(&self) -> ReplyParts<'_>
+        ensures body { result.body.now ≡ response_body self.now }
+        ensures status { result.status ≡ response_status self.now }
+        ensures allow { result.allow.now ≡ allow_line self.now }
+        ensures short { length result.allow.now ≤ 12 }
     {
         match self {
-            Response::Rejected(rejection) => rejection.status(),
-            Response::NoMemory => StatusCode::SERVICE_UNAVAILABLE,
-            Response::Answered(answer) => status_code(answer.status()),
-        }
-    }
-
-    // The body of the reply, in JSON.
-    fn body(&self) -> &str
-        ensures { result.now ≡ response_body self.now }
-    {
-        match self {
-            Response::Rejected(rejection) => rejection.body(),
-            Response::NoMemory => "{\"code\":\"no-memory\"}",
-            Response::Answered(answer) => answer.body(),
-        }
-    }
-
-    // The field line that names the method of the route, or none.
-    fn allow_line(&self) -> &'static str
-        ensures is { result.now ≡ allow_line self.now }
-        ensures short { length result.now ≤ 12 }
-    {
-        match self {
-            Response::Rejected(Rejection::Method(Allowed::Put)) => "Allow: PUT\r\n",
-            Response::Rejected(Rejection::Method(Allowed::Get)) => "Allow: GET\r\n",
-            _ => "",
+            Response::Rejected(rejection) => ReplyParts {
+                body: rejection.body(),
+                status: rejection.status(),
+                allow: rejection.allow_line(),
+            },
+            Response::NoMemory => ReplyParts {
+                body: "{\"code\":\"no-memory\"}",
+                status: StatusCode::SERVICE_UNAVAILABLE,
+                allow: "",
+            },
+            Response::Answered(answer) => ReplyParts {
+                body: answer.body(),
+                status: status_code(answer.status()),
+                allow: "",
+            },
         }
     }
 }
@@ -72,13 +73,12 @@ pub(crate) fn write_reply<W: Write>(
     ensures { Writes (W.contents writer.old) (W.contents writer.new)
         (reply_text response.now is_last head_alone) result }
 {
-    let body = response.body();
-    let head = reply_head(
-        response.status(),
-        body.len(),
-        response.allow_line(),
-        is_last,
-    );
+    let ReplyParts {
+        body,
+        status,
+        allow,
+    } = response.parts();
+    let head = reply_head(status, body.len(), allow, is_last);
     if head_alone {
         return write_all(writer, head.as_str().as_bytes());
     }

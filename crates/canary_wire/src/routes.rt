@@ -3,11 +3,11 @@ ghost use Rattle.std.specs.Prelude.{◌≡◌, ◌≢◌, ◌↔◌, ◌==◌, L
 ghost use Rattle.std.specs.Prelude.{IsTrue, IfOk, IfErr, IfSome, IsOkUnless, MatchOption};
 ghost use Rattle.std.specs.List.{before_first, position};
 ghost use Rattle.canary_base.specs.Names.{is_name};
-ghost use Rattle.canary_base.specs.Numbers.{SpellsNumber};
 ghost use Rattle.canary_wire.specs.Routes.{the_rows, Target, request, service, history, run};
 ghost use Rattle.canary_wire.specs.Routes.{IsPart, IsSplit, IsPathOf, HasNoRoute, StandsBehind};
 ghost use Rattle.canary_wire.specs.Routes.{target_of, route_to, allowed_on, IsTargetRead, IsAsked};
 ghost use Rattle.canary_wire.specs.Routes.{path_of};
+ghost use Rattle.canary_wire.specs.ReplyTexts.{method_name};
 
 use crate::rejection::{Allowed, Rejection};
 use canary_base::names::Name;
@@ -74,10 +74,20 @@ pub(crate) fn asked_of(
         return Err(Rejection::NoRoute);
     };
     let allowed = parts.allowed();
-    if method != allowed.name().as_bytes() {
+    if method != name_of_method(allowed).as_bytes() {
         return Err(Rejection::Method(allowed));
     }
     parts.read()
+}
+
+// The name of a method (RFC 9110).
+fn name_of_method(method: Allowed) -> &'static str
+    ensures { result.now ≡ method_name method }
+{
+    match method {
+        Allowed::Put => "PUT",
+        Allowed::Get => "GET",
+    }
 }
 
 // The parts of a path that has a route.
@@ -124,14 +134,15 @@ impl PathParts<'_> {
         match self {
             PathParts::Request(caller, number) => {
                 let caller = name_of(caller)?;
-                let number = number_of(number)?;
+                let number = Number::read(number).ok_or(Rejection::BadNumber)?;
                 Ok(Wanted::Request(Address { caller, number }))
             }
             PathParts::Service(name) => Ok(Wanted::Query(Query::Service(name_of(name)?))),
             PathParts::History(name) => Ok(Wanted::Query(Query::History(name_of(name)?))),
             PathParts::Run(name, number) => {
                 let name = name_of(name)?;
-                Ok(Wanted::Query(Query::Run(name, number_of(number)?)))
+                let number = Number::read(number).ok_or(Rejection::BadNumber)?;
+                Ok(Wanted::Query(Query::Run(name, number)))
             }
         }
     }
@@ -144,15 +155,6 @@ fn name_of(bytes: &[u8]) -> Result<Name, Rejection>
         × ¬ (IsTrue (is_name bytes.now))) }
 {
     Name::read(bytes).ok_or(Rejection::BadName)
-}
-
-// The number of a request or a run in a path, or `BadNumber`.
-fn number_of(digits: &[u8]) -> Result<Number, Rejection>
-    ensures ok { IfOk result (SpellsNumber digits.now) }
-    ensures err { IfErr result (λ rejection. (rejection ≡ Rejection.BadNumber)
-        × ((n : ℕ) → ¬ (SpellsNumber digits.now n))) }
-{
-    Number::read(digits).ok_or(Rejection::BadNumber)
 }
 
 // The parts of a path, where this route is its only one.

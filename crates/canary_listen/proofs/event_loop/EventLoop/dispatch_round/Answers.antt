@@ -3,8 +3,8 @@ use Rattle.canary_listen.specs.Crowd.{clients_attendance}
 use Rattle.canary_listen.proofs.Attended.{attends_then}
 use Rattle.canary_listen.proofs.event_loop.EventLoop.dispatch_round.Goals as goal
 
-pub returns : goal.returns
-returns g c =
+pub returns-then-has_history_due : goal.returns-then-has_history_due
+returns-then-has_history_due g c =
     attends_then (desk_state (g.C.Clock.tells c.args.clock.now) (g.B.Book.state c.args.book.now))
     (desk_state (g.C.Clock.tells c.dispatch_all.new.clock) (g.B.Book.state c.dispatch_all.new.book))
     (desk_state (g.C.Clock.tells c.answer_history.new.clock) (g.B.Book.state c.answer_history.new.book))
