@@ -27,7 +27,7 @@ pub(crate) const JOURNAL_HELP: &str =
     "The caller's journal, made if it does not exist; CANARY_JOURNAL counts in its place";
 
 pub(crate) const ONCE_HELP: &str =
-    "A key of this wish: a second call with the key gets the reply of the first";
+    "A key of this command: a second call with the key gets the reply of the first";
 
 pub(crate) const INSTEAD_HELP: &str = "Ask the command in the place of the one that is pending";
 

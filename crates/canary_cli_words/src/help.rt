@@ -345,7 +345,7 @@ pub(crate) const CHECK_ABOUT: &str =
     "Reports what a desk would refuse in a template or a Rollout, without a desk";
 
 pub(crate) const FILE_HELP: &str =
-    "An AnalysisTemplate or a Rollout in JSON, as 'kubectl get -o json' prints it";
+    "AnalysisTemplates or Rollouts in JSON or YAML, as kubectl reads and prints them";
 
 pub(crate) const REQUEST_HELP: &str = "A request's body, as a desk gets it, in place of FILE";
 
