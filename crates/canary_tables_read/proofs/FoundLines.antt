@@ -1,11 +1,9 @@
 -- What the queries on `history` and on `measurement` find.
 use Rattle.std.proofs.Common.{◌≡◌, ◌∷◌, [], ℕ, zero, suc, List, map, filter, take, drop, refl, sym, ap, subst, ◌∙◌}
-use Rattle.sqlite.specs.declared.types.Value.{Value}
 use Rattle.sqlite.specs.declared.types.Value.TheVariants.{Null, Text as Words}
 use Rattle.sqlite.specs.Order.{Row}
-use Rattle.sqlite.specs.Term.{Term, col}
+use Rattle.sqlite.specs.Term.{col}
 use Rattle.sqlite.specs.State.{State, Shown}
-use Rattle.canary_tables_rows.specs.declared.rows.HistoryRow.{HistoryRow}
 use Rattle.canary_tables_rows.specs.Tables.{Tables, is_measurement_of, is_line_of}
 use Rattle.canary_tables_schema.specs.Layout.{measurement_at, history_at}
 use Rattle.canary_tables_schema.specs.Cells.{integer, history_cells, measurement_cells}
@@ -13,38 +11,24 @@ use Rattle.canary_tables_schema.specs.Stores.{Stores}
 use Rattle.canary_tables_read.specs.Finds.{TellsCells}
 use Rattle.canary_tables_read.proofs.Answer.{passes, shows}
 use Rattle.canary_tables_read.proofs.Asking.{all_found, page_found}
-use Rattle.canary_tables_read.proofs.Tests.{and_true, words_same, words_are, same_words}
-use Rattle.canary_tables_read.proofs.Texts.{history_text, history_tests, history_shown, history_asks, passing_text, passing_tests, passing_asks, lines_text, lines_asks, measurements_tests, measurements_shown, all_measurements_text, all_measurements_asks}
+use Rattle.canary_tables_read.proofs.Tests.{and_true, words_same, same_words}
+use Rattle.canary_tables_read.proofs.Texts.{history_text, history_tests, history_shown, history_asks, lines_text, lines_asks, measurements_tests, measurements_shown, all_measurements_text, all_measurements_asks}
 use Rattle.canary_tables_read.proofs.TypedRows.{Tells, taken}
 
--- what tests for the service find of its lines
-tells_line : (tests : List Term) (service : List ℕ) (rest : Row) → ((id : Value) (x : HistoryRow) → passes tests (Words service ∷ rest) (id ∷ history_cells x) ≡ is_line_of service x)
-    → Tells history_cells (is_line_of service) history_cells (λ row. Null ∷ Words service ∷ row) (passes tests (Words service ∷ rest)) (shows history_shown (Words service ∷ rest))
-tells_line tests service rest same = record {
+tells_line : (service : List ℕ) (rest : Row)
+    → Tells history_cells (is_line_of service) history_cells (λ row. Null ∷ Words service ∷ row) (passes history_tests (Words service ∷ rest)) (shows history_shown (Words service ∷ rest))
+tells_line service rest = record {
   filled = λ x. (_, _, refl);
-  tests = same;
+  tests = λ id x. and_true _ ∙ words_same x.service service;
   shown = λ id x h. ap (λ n. Null ∷ Words n ∷ integer x.moment ∷ Words x.line ∷ []) (same_words service x.service h);
 }
-
-is_of : (service : List ℕ) (rest : Row) (id : Value) (x : HistoryRow) → passes history_tests (Words service ∷ rest) (id ∷ history_cells x) ≡ is_line_of service x
-is_of service rest id x = and_true _ ∙ words_same x.service service
-
-passes_for : (service : List ℕ) (rest : Row) (id : Value) (x : HistoryRow) → passes passing_tests (Words service ∷ rest) (id ∷ history_cells x) ≡ is_line_of service x
-passes_for service rest id x = and_true _ ∙ words_are x.service service
 
 -- what is shown are the lines of the service, in their order
 pub line_rows : (old new : State) (t : Tables) (service : List ℕ) (params : Row) (rows : List Row) → Stores old t → params ≡ Words service ∷ [] → Shown history_text params old new rows
     → TellsCells history_cells (λ row. Null ∷ Words service ∷ row) (filter (is_line_of service) t.history) rows
 line_rows old new t service params rows has given h =
-    all_found history_text history_at history_tests history_shown history_asks history_cells (is_line_of service) history_cells (λ row. Null ∷ Words service ∷ row) (Words service ∷ []) (tells_line history_tests service [] (is_of service [])) t.history rows
+    all_found history_text history_at history_tests history_shown history_asks history_cells (is_line_of service) history_cells (λ row. Null ∷ Words service ∷ row) (Words service ∷ []) (tells_line service []) t.history rows
     (record { old = old; new = new; layout = has.layout; schema = has.holds.schema; numbered = has.holds.numbered.1.1.1.1.1.1.0; stored = has.holds.history; shows_rows = subst (λ p. Shown history_text p old new rows) given h })
-
--- so if those of other services are passed over
-pub passing_rows : (old new : State) (t : Tables) (service : List ℕ) (params : Row) (rows : List Row) → Stores old t → params ≡ Words service ∷ [] → Shown passing_text params old new rows
-    → TellsCells history_cells (λ row. Null ∷ Words service ∷ row) (filter (is_line_of service) t.history) rows
-passing_rows old new t service params rows has given h =
-    all_found passing_text history_at passing_tests history_shown passing_asks history_cells (is_line_of service) history_cells (λ row. Null ∷ Words service ∷ row) (Words service ∷ []) (tells_line passing_tests service [] (passes_for service [])) t.history rows
-    (record { old = old; new = new; layout = has.layout; schema = has.holds.schema; numbered = has.holds.numbered.1.1.1.1.1.1.0; stored = has.holds.history; shows_rows = subst (λ p. Shown passing_text p old new rows) given h })
 
 tells_measurement : (service : List ℕ) (rest : Row)
     → Tells measurement_cells (is_measurement_of service) measurement_cells (λ row. Null ∷ Words service ∷ row) (passes measurements_tests (Words service ∷ rest)) (shows measurements_shown (Words service ∷ rest))
@@ -68,7 +52,7 @@ pub line_page_rows : (old new : State) (t : Tables) (service : List ℕ) (from m
 line_page_rows old new t service from most params rows has given h =
     let asked = Words service ∷ integer from ∷ integer most ∷ [] in
     let p = page_found lines_text history_at history_tests history_shown (col 0 2) (col 0 1) lines_asks history_cells (is_line_of service) history_cells (λ row. Null ∷ Words service ∷ row) asked
-    (tells_line history_tests service (integer from ∷ integer most ∷ []) (is_of service (integer from ∷ integer most ∷ []))) t.history rows
+    (tells_line service (integer from ∷ integer most ∷ [])) t.history rows
     (record { old = old; new = new; layout = has.layout; schema = has.holds.schema; numbered = has.holds.numbered.1.1.1.1.1.1.0; stored = has.holds.history; shows_rows = subst (λ p. Shown lines_text p old new rows) given h }) in
     ap (map (λ row. Null ∷ Words service ∷ row)) p.1 ∙ paged (λ row. Null ∷ Words service ∷ row) most from p.0 ∙ ap (λ rows. take most (drop from rows)) p.2
     ∙ sym (paged history_cells most from (filter (is_line_of service) t.history))

@@ -3,6 +3,7 @@ use Rattle.std.proofs.Common.{◌≡◌, ◌+◌, ◌-◌, ◌&&◌, ℕ, suc, �
 use Rattle.std.specs.Prelude.{IfSome}
 use Rattle.std.specs.List.{AllByRecursion, filter_map}
 use Rattle.std.specs.Ordering.{is_gt, int_cmp}
+use Rattle.std.specs.Str.{bytes_eq}
 use Rattle.std.specs.declared.cmp.Ordering.TheVariants.{Less}
 use Rattle.std.proofs.lemmas.Int.{ints}
 use Rattle.std.proofs.lemmas.Option.{slice_get_within}
@@ -38,7 +39,7 @@ use Rattle.canary_tables_read.proofs.FoundLines.{paged}
 use Rattle.canary_tables_read.proofs.FoundPages.{compares}
 use Rattle.canary_tables_read.proofs.Fronts.{filter_both}
 use Rattle.canary_tables_read.proofs.PlacedLists.{Rise, above_are, counted_at, paged_at}
-use Rattle.canary_tables_read.proofs.Tests.{as_truth, and_true, words_same, words_are, same_words, and_first}
+use Rattle.canary_tables_read.proofs.Tests.{as_truth, and_true, words_same, same_words, and_first}
 use Rattle.canary_tables_read.proofs.Texts.{measurements_tests}
 use Rattle.canary_tables_read.proofs.TypedRows.{taken, told_all}
 
@@ -145,6 +146,10 @@ holds_placed db t has =
 
 -- Tests and columns.
 
+service_is : (a b : List ℕ) → is_true (binary (Is Binary) (Words a) (Words b)) ≡ bytes_eq b a
+unfolding binary
+service_is a b = words_same a b
+
 above_same : (m n : ℤ) → is_true (binary (Compare Gt Binary) (Int m) (Int n)) ≡ int_lt n m
 unfolding binary
 above_same m n = as_truth (is_gt (value_cmp (Int m) (Int n))) ∙ ap is_gt (value_cmp-Int m n) ∙ higher m n
@@ -160,7 +165,7 @@ from_passes : (service : List ℕ) (rest : Row) (p : MeasurementAt) → passes m
 from_passes service rest p = and_true _ ∙ words_same p.row.service service
 
 after_passes : (service : List ℕ) (place : ℤ) (rest : Row) (p : MeasurementAt) → passes after_tests (Words service ∷ Int place ∷ rest) (table_row p) ≡ is_after service place p
-after_passes service place rest p = ap₂ (λ a b. a && b) (words_are p.row.service service) (and_true _ ∙ above_same p.place place)
+after_passes service place rest p = ap₂ (λ a b. a && b) (service_is p.row.service service) (and_true _ ∙ above_same p.place place)
 
 shown_so : (service : List ℕ) (rest : Row) (p : MeasurementAt) → is_measurement_of service p.row ≡ true → Null ∷ Words service ∷ shows placed_shown (Words service ∷ rest) (table_row p) ≡ placed_cells p
 shown_so service rest p h = ap (λ n. Null ∷ Words n ∷ integer p.row.run ∷ integer p.row.metric ∷ integer p.row.ordinal ∷ integer p.row.taken ∷ integer p.row.phase ∷ Words p.row.outcome ∷ Int p.place ∷ []) (same_words service p.row.service h)

@@ -33,11 +33,6 @@ pub words_same : (a b : List ℕ) → is_true (binary (Compare Eq Binary) (Words
 unfolding binary
 words_same a b = as_truth (is_eq (value_cmp (Words a) (Words b))) ∙ ap is_eq (value_cmp-Text a b) ∙ is_eq-slice_cmp a b ∙ bytes_either a b
 
--- the same by IS
-pub words_are : (a b : List ℕ) → is_true (binary (Is Binary) (Words a) (Words b)) ≡ bytes_eq b a
-unfolding binary
-words_are a b = words_same a b
-
 -- a number of a row and one that is asked for
 pub numbers_same : (m n : ℕ) → is_true (binary (Compare Eq Binary) (Int (pos m)) (Int (pos n))) ≡ (n == m)
 unfolding binary

@@ -240,30 +240,6 @@ history_asks made = record { names = _; is = refl; plain = (refl, refl); unliste
 history_asks moved = record { names = _; is = refl; plain = (refl, refl); unlisted = refl }
 history_asks packed = record { names = _; is = refl; plain = (refl, refl); unlisted = refl }
 
-abbrev pub passing_text : List ℕ
-passing_text = codes "SELECT moment, line FROM history WHERE service IS ?1 ORDER BY place"
-
-abbrev pub passing_tests : List Term
-passing_tests = op2 (Is Binary) (col 1 2) (col 0 0) ∷ []
-
-pub passing_query : IsQuery passing_text
-unfolding everything
-passing_query = tt
-
-pub passing_asks : Asks passing_text history_at passing_tests history_shown (by_column 0) no_limit from_start
-unfolding understood everything
-passing_asks made = record { names = _; is = refl; plain = (refl, refl); unlisted = refl }
-passing_asks moved = record { names = _; is = refl; plain = (refl, refl); unlisted = refl }
-passing_asks packed = record { names = _; is = refl; plain = (refl, refl); unlisted = refl }
-
-pub last_line_query : IsQuery (codes "SELECT place FROM history ORDER BY place DESC LIMIT 1")
-unfolding everything
-last_line_query = tt
-
-pub sample_query : IsQuery (codes "SELECT place FROM history WHERE service IS ?1 AND place > ?2 AND place <= ?3 ORDER BY place LIMIT 1 OFFSET 10")
-unfolding everything
-sample_query = tt
-
 abbrev pub lines_text : List ℕ
 lines_text = codes "SELECT moment, line FROM history WHERE service = ?1 ORDER BY place LIMIT ?3 OFFSET ?2"
 
