@@ -1,5 +1,4 @@
 pub mod Layout
-pub mod Listed
 pub mod First
 pub mod Schema
 pub mod Cells
