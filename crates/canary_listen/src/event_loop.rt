@@ -396,7 +396,7 @@ impl EventLoop {
 
     // Lets those go that take too long, and writes which connections ended with a fault since this
     // was done last.
-    pub(crate) fn sweep<F: Write>(&mut self, errors: &mut F)
+    pub(crate) fn close_and_report<F: Write>(&mut self, errors: &mut F)
         ensures { KeepsServed (clients_attendance self.old.clients)
             (clients_attendance self.new.clients) }
     {

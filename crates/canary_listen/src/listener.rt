@@ -219,7 +219,7 @@ impl Listener {
     {
         self.attendant.dispatch_round(rt, &self.events, clock, book);
         if !self.attendant.is_swept() {
-            self.attendant.sweep(errors);
+            self.attendant.close_and_report(errors);
         }
         if self.attendant.has_queries_waiting {
             self.attendant.resume_queries();
