@@ -58,8 +58,8 @@ def want_imported(program, book, row):
     """The whole file, imported as it is, is answered as if it came once."""
     done = subprocess.run([program, "import", "--db", book, "-"], input=FILE, capture_output=True,
                           timeout=60)
-    expect(f"{row}, and all of it again", (done.returncode, done.stdout, done.stderr),
-           (0, b"".join(LINES), b""))
+    found = (done.returncode, done.stdout, without_progress(done.stderr))
+    expect(f"{row}, and all of it again", found, (0, b"".join(LINES), b""))
 
 
 def lines_of(count):
@@ -86,7 +86,7 @@ def import_until_reset(program, book, count):
     except subprocess.TimeoutExpired:
         running.kill()
         raise Wrong(f"{row}: it does not end") from None
-    expect(row, (running.returncode, rest, told), (1, b"", b"canary: read\n"))
+    expect(row, (running.returncode, rest, without_progress(told)), (1, b"", b"canary: read\n"))
     want_imported(program, book, row)
 
 
