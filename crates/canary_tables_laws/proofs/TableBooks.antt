@@ -40,7 +40,7 @@ of_their_rows g h =
     }
 
 memory_intact : (h : Held MemStore) → IsIntact (state over_memory h)
-memory_intact h = (memory_is_clean h, tt)
+memory_intact h = (memory_is_clean h, refl)
 
 pub in_memory : AreHonestMemory (book_state over_memory)
 in_memory h =
