@@ -3,7 +3,9 @@ makes a service of it that stands at a pause, and stops at each function of the 
 answers a Promote. It writes the symbols of the functions to the file TRACE_TO, a line each.
 
 The desk is stopped each time that it begins to wait for clients. Only there this sends something,
-so what the desk calls until it waits again is the way of what was sent, and of nothing else."""
+so what the desk calls until it waits again is the way of what was sent, and of nothing else. To set
+the stops takes longer than a second. So a repeat goes before the Promote, and has the desk do what
+it does once a second; its stops are set again, which takes no time."""
 import contextlib
 import errno
 import json
@@ -60,6 +62,14 @@ class Stops:
         gdb.execute(f"set $pc = {address}")
         return True
 
+    def set_again(self):
+        """Sets those stops again that were met."""
+        met = self.symbols.keys() - self.bytes.keys()
+        for address in met:
+            self.bytes[address] = bytes(self.desk.read_memory(address, 1))
+            self.desk.write_memory(address, INT3)
+        self.called = []
+
 
 def go_on(stops):
     """The desk runs until it begins to wait."""
@@ -76,6 +86,13 @@ def status_of(client, stops):
         with contextlib.suppress(BlockingIOError):
             held = client.recv(65536)
     return held.split(b" ")[1]
+
+
+def settle(client, stops, number, command):
+    """Sends a request, and waits for its reply."""
+    client.sendall(request(number, command))
+    if status_of(client, stops) != b"200":
+        raise gdb.GdbError(f"the desk refuses {command}")
 
 
 def functions():
@@ -96,12 +113,14 @@ def main():
         port = int(lines.read().split(":")[1])
     client = socket.create_connection(("127.0.0.1", port))
     client.setblocking(False)
+    stops = Stops({})
     for number, command in enumerate(COMMANDS, 1):
-        # What came before the last command is not its way.
-        stops = Stops(functions() if command is COMMANDS[-1] else {})
-        client.sendall(request(number, command))
-        if status_of(client, stops) != b"200":
-            raise gdb.GdbError(f"the desk refuses {command}")
+        if command is COMMANDS[-1]:
+            # What came before the last command is not its way.
+            stops = Stops(functions())
+            settle(client, stops, number - 1, COMMANDS[-2])
+            stops.set_again()
+        settle(client, stops, number, command)
     with open(TO, "w", encoding="utf-8") as file:
         file.write("".join(f"{symbol}\n" for symbol in stops.called))
     gdb.execute("kill", to_string=True)
