@@ -17,7 +17,7 @@ import time
 import terminals
 from calls import CALL_PARTS
 from closed import CLOSED_CALL_PARTS, CLOSED_PARTS
-from conversation import AT_B, limits_writes
+from conversation import AT_B, limits_writes, without_progress
 from files import FILE_PARTS
 from story_words import B, Wrong, blocks, command, expanded, expect, get, put, wire
 from streams import REQUEST, STREAM_PARTS
@@ -202,8 +202,8 @@ def try_programs(program, folder):
             words, _, file = asked.partition(" < ")
             with open(os.path.join(place, file) if file else os.devnull, "rb") as stdin:
                 done = run(program, words_of(words), place, stdin=stdin, capture_output=True)
-            found, other = (done.stdout, done.stderr) if status == "0" else (
-                done.stderr, done.stdout)
+            told = without_progress(done.stderr)
+            found, other = (done.stdout, told) if status == "0" else (told, done.stdout)
             if (done.returncode, other) != (int(status), b"") or not is_like(found, text):
                 raise Wrong(f"{asked}: {done}")
             count += 1

@@ -12,7 +12,7 @@ import subprocess
 import termios
 import time
 
-from conversation import AT_B, STILL_AT_B, limits_writes
+from conversation import AT_B, STILL_AT_B, limits_writes, without_progress
 from story_words import (
     Wrong, blocks, command, expect, get, message, messages_of_story, put, query, reply,
 )
@@ -236,7 +236,7 @@ def answer_in(program, book, stream, output, most):
                               stderr=subprocess.PIPE, timeout=60,
                               preexec_fn=lambda: limits_writes(FAR))
         written.seek(FAR - most)
-        return written.read(), done.returncode, done.stderr
+        return written.read(), done.returncode, without_progress(done.stderr)
 
 
 def try_cut_outputs(program, folder):
