@@ -20,7 +20,7 @@ use Rattle.canary_tables_read.specs.Meta.{HasMetaRow, Stands}
 use Rattle.canary_tables_read.specs.declared.meta.MetaRow.{MetaRow}
 use Rattle.canary_tables_read.specs.declared.meta.MetaRow.TheVariants.{Alone}
 use Rattle.canary_tables_contents.specs.Reading.{contents_of, HoldsContents}
-use Rattle.canary_tables.specs.Adopts.{HasDeskTables, HasSoundRowsWithin, IsBelieved, IsAdopted}
+use Rattle.canary_tables.specs.Adopts.{HasDeskTables, HasSoundRows, HasSoundRowsWithin, IsBelieved, IsAdopted}
 use Rattle.canary_tables.specs.Desk.{IsDesk}
 
 -- Rows of tallies have ten values.
@@ -88,19 +88,18 @@ believes exact old mid new first second is_formed has judged usable =
 pub none_sound : (db : Database) → ¬ HasRows db → ¬ HasSoundRowsWithin db
 none_sound db none h = none (h.0, h.1.0)
 
--- From a connection over a store that is opened anew, and then over one that is believed.
+-- From a connection over a store that was just opened to one that is believed.
 
-pub adopted : OneReading → (old mid new : State) → (IsUsable mid → IsOpenedAnew old mid) → IsSame mid new → (IsUsable new → IsBelieved mid.now) → IsUsable new → IsAdopted old new
-adopted one old mid new opened same believed usable =
-    let o = opened (same usable).0 in
-    let b = subst IsBelieved o.same (believed usable) in
-    let stays : new.now ≡ old.now = (same usable).1 ∙ o.same in
+pub adopted : (old new : State) → IsSame old new → (IsUsable new → IsBelieved old.now) → IsUsable new → IsAdopted old new
+adopted old new same believed usable =
+    let b = believed usable in
+    let stays = same usable in
     record {
-      was = o.was;
+      was = stays.0;
       formed = b.formed;
       sound = (b.rows, (b.held, b.sound));
-      contents = ap (λ (db : Database). contents_of (tables_in db)) stays;
-      same = stays;
+      contents = ap (λ (db : Database). contents_of (tables_in db)) stays.1;
+      same = stays.1;
     }
 
 pub is_desk : OneReading → (mid new : State) → IsSame mid new → (IsUsable new → IsBelieved mid.now) → IsUsable new → IsDesk new
@@ -112,12 +111,26 @@ is_desk one mid new same believed usable =
       holds = subst HoldsContents (sym is) b.sound.0;
     }
 
+-- From one whose store was opened anew in between.
+
+pub adopted_anew : (old mid new : State) → (IsUsable mid → IsOpenedAnew old mid) → (IsUsable new → IsAdopted mid new) → IsUsable new → IsAdopted old new
+adopted_anew old mid new opened is_adopted usable =
+    let it = is_adopted usable in
+    let o = opened it.was in
+    record {
+      was = o.was;
+      formed = subst IsFormed o.same it.formed;
+      sound = subst HasSoundRows o.same it.sound;
+      contents = it.contents ∙ ap (λ (db : Database). contents_of (tables_in db)) o.same;
+      same = it.same ∙ o.same;
+    }
+
+pub other_before : (old mid new : State) → (IsUsable mid → IsOpenedAnew old mid) → IsSame mid new → (IsUsable new → ¬ HasDeskTables mid.now) → IsUsable new → ¬ HasDeskTables old.now
+other_before old mid new opened same other usable = subst (λ (db : Database). ¬ HasDeskTables db) (opened (same usable).0).same (other usable)
+
 pub left_as_it_was : (old mid new : State) → (IsUsable mid → IsOpenedAnew old mid) → IsSame mid new → IsUsable new → IsUsable old × (new.now ≡ old.now)
 left_as_it_was old mid new opened same usable =
     let o = opened (same usable).0 in (o.was, (same usable).1 ∙ o.same)
-
-pub left_anew : (old mid : State) → (IsUsable mid → IsOpenedAnew old mid) → IsUsable mid → IsUsable old × (mid.now ≡ old.now)
-left_anew old mid opened usable = let o = opened usable in (o.was, o.same)
 
 pub broken_before : (old mid new : State) → (IsUsable mid → IsOpenedAnew old mid) → IsSame mid new → (IsUsable new → HasDeskTables mid.now × IsRising mid.now × ¬ HasSoundRowsWithin mid.now) → IsUsable new → HasDeskTables old.now × IsRising old.now × ¬ HasSoundRowsWithin old.now
 broken_before old mid new opened same broken usable = subst (λ (db : Database). HasDeskTables db × IsRising db × ¬ HasSoundRowsWithin db) (opened (same usable).0).same (broken usable)

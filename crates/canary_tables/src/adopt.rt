@@ -4,6 +4,7 @@ ghost use Rattle.sqlite.specs.Held.{state};
 ghost use Rattle.canary_tables_schema.specs.Formed.{IsDeskSchema, IsRising, IsFormed, HasRows};
 ghost use Rattle.canary_tables_schema.specs.Formed.{HasWholeTallies};
 ghost use Rattle.canary_tables_schema.specs.Stores.{IsUsable};
+ghost use Rattle.canary_tables_read.specs.Finds.{IsSame};
 ghost use Rattle.canary_tables.specs.Adopts.{HasDeskTables, HasSoundRowsWithin};
 ghost use Rattle.canary_tables.specs.Adopts.{IsBelieved, IsAdopted, TellsTables, LeavesRows};
 ghost use Rattle.canary_tables.specs.Adopts.{IsLeftBy, IsOutside};
@@ -119,19 +120,48 @@ impl<S: Alter + Drop> TableBook<S> {
             (λ e. conn.in_transaction ≡ false → IsOutside e.1) }
         ensures opened { IfErr result (λ e. e.0 ≢ fault.InUse) }
     {
-        schema_laws::one_reading();
         if !conn.is_autocommit() {
             return Err((TableFault::Storage, Unadopted::Connection(conn)));
         }
         if !is_desk(conn.schema()) {
             return Err((TableFault::OtherSchema, Unadopted::Connection(conn)));
         }
-        let (mut conn, is_whole) = match reopen(alloc, conn) {
+        let (conn, is_whole) = match reopen(alloc, conn) {
             Ok(opened) => opened,
             Err((fault, store)) => return Err((fault.into(), Unadopted::Store(store))),
         };
+        match TableBook::adopt_opened(alloc, conn, is_whole, progress) {
+            Ok(book) => Ok(book),
+            Err((fault, conn)) => Err((fault, Unadopted::Connection(conn))),
+        }
+    }
+
+    // Makes the book of a database over a store that was just opened, so that the rows of its
+    // tables are known to rise, and whether each row of tally has all its cells.
+    pub(crate) fn adopt_opened<G: JudgingProgress>(
+        alloc: Global,
+        mut conn: Connection<S>,
+        is_whole: bool,
+        progress: &mut G,
+    ) -> Result<TableBook<S>, (TableFault, Connection<S>)>
+        requires autocommit { conn.in_transaction ≡ false }
+        requires numbered { IsUsable (state S.Store conn) → IsRising (state S.Store conn).now }
+        requires whole { IsUsable (state S.Store conn)
+            → (IsTrue is_whole ↔ HasWholeTallies (state S.Store conn).now) }
+        ensures adopted { IfOk result (λ book. IsUsable (state S.Store book)
+            → IsAdopted (state S.Store conn) (state S.Store book)) }
+        ensures other { IfErr result (λ e. e.0 ≡ fault.OtherSchema → IsUsable (state S.Store e.1)
+            → ¬ HasDeskTables (state S.Store conn).now) }
+        ensures broken { IfErr result (λ e. e.0 ≡ fault.BrokenRow → IsUsable (state S.Store e.1)
+            → HasDeskTables (state S.Store conn).now × IsRising (state S.Store conn).now
+            × ¬ HasSoundRowsWithin (state S.Store conn).now) }
+        ensures left { IfErr result (λ e. IsSame (state S.Store conn) (state S.Store e.1)) }
+        ensures mode { IfErr result (λ e. e.1.in_transaction ≡ false) }
+        ensures opened { IfErr result (λ e. e.0 ≢ fault.InUse) }
+    {
+        schema_laws::one_reading();
         if !is_desk(conn.schema()) {
-            return Err((TableFault::Storage, Unadopted::Connection(conn)));
+            return Err((TableFault::Storage, conn));
         }
         match validate_tables(&mut conn, alloc, is_whole, progress) {
             Ok(()) => Ok(TableBook {
@@ -140,7 +170,7 @@ impl<S: Alter + Drop> TableBook<S> {
                 notes: Notes::none(),
                 cache: Cache::new(alloc, DEFAULT_ROOM),
             }),
-            Err(fault) => Err((fault, Unadopted::Connection(conn))),
+            Err(fault) => Err((fault, conn)),
         }
     }
 }

@@ -1,11 +1,20 @@
 //! A book over a file.
+ghost use Rattle.std.specs.Prelude.{◌≡◌, ◌↔◌, false, IsTrue};
+ghost use Rattle.sqlite.specs.Held.{state};
+ghost use Rattle.sqlite.specs.Steps.{IsFresh};
+ghost use Rattle.sqlite_trees.specs.View.{IsClean};
+ghost use Rattle.canary_tables_schema.specs.Formed.{IsRising, HasWholeTallies};
+ghost use Rattle.canary_tables_schema.specs.Stores.{IsUsable};
+
 use crate::book::TableBook;
 use crate::fault::TableFault;
 use canary_tables_adopt::progress::JudgingProgress;
 use canary_tables_file::connect::connect;
+use canary_tables_file::store::open_store;
 use canary_tables_schema::fault::fault_of;
 use canary_tables_schema::recognize::is_empty;
-use sqlite::{Error, ErrorCode, File, FileStore};
+use canary_tables_schema::reopen::open_desk;
+use sqlite::{Alter, Connection, Error, ErrorCode, File, FileStore};
 
 impl TableBook<FileStore<File>> {
     /// Opens the file of SQLite at a path as a book, or makes it (`connect` of canary_tables_file).
@@ -26,12 +35,72 @@ impl TableBook<FileStore<File>> {
         path: &str,
         progress: &mut G,
     ) -> Result<TableBook<FileStore<File>>, TableFault> {
-        let conn = connect(rt, path).map_err(open_fault)?;
-        if is_empty(conn.schema()) {
-            return TableBook::create(rt.alloc(), conn).map_err(|(fault, _conn)| fault);
+        match open_desk_file(rt, path, progress) {
+            Ok(Some(book)) => Ok(book),
+            Ok(None) => open_file(rt, path, progress),
+            Err(fault) => Err(fault),
         }
-        TableBook::adopt(rt.alloc(), conn, progress).map_err(|(fault, _left)| fault)
     }
+}
+
+// Opens the file if it has a desk's tables, each row of which is held against the schema once.
+fn open_desk_file<G: JudgingProgress>(
+    rt: &HostRuntime,
+    path: &str,
+    progress: &mut G,
+) -> Result<Option<TableBook<FileStore<File>>>, TableFault> {
+    match open_store(rt, path) {
+        Ok(Some(store)) => adopt_store(rt, store, progress),
+        Ok(None) => Ok(None),
+        Err(error) => Err(open_fault(error)),
+    }
+}
+
+// Makes the book of a store that was just opened, if it has a desk's tables.
+fn adopt_store<S: Alter + Drop, G: JudgingProgress>(
+    rt: &HostRuntime,
+    store: S,
+    progress: &mut G,
+) -> Result<Option<TableBook<S>>, TableFault>
+    requires { IsClean (S.Store.view store) → IsFresh (S.Store.view store) }
+{
+    match open_desk(rt.alloc(), store) {
+        Ok(Some((conn, is_whole))) => adopt_connection(rt, conn, is_whole, progress),
+        Ok(None) => Ok(None),
+        Err(fault) => Err(fault.into()),
+    }
+}
+
+// Gives a connection a clock, and makes the book of its database, which has a desk's tables.
+fn adopt_connection<S: Alter + Drop, G: JudgingProgress>(
+    rt: &HostRuntime,
+    mut conn: Connection<S>,
+    is_whole: bool,
+    progress: &mut G,
+) -> Result<Option<TableBook<S>>, TableFault>
+    requires autocommit { conn.in_transaction ≡ false }
+    requires numbered { IsUsable (state S.Store conn) → IsRising (state S.Store conn).now }
+    requires whole { IsUsable (state S.Store conn)
+        → (IsTrue is_whole ↔ HasWholeTallies (state S.Store conn).now) }
+{
+    conn.set_clock(rt);
+    match TableBook::adopt_opened(rt.alloc(), conn, is_whole, progress) {
+        Ok(book) => Ok(Some(book)),
+        Err((fault, _)) => Err(fault),
+    }
+}
+
+// Opens any file, or makes it.
+fn open_file<G: JudgingProgress>(
+    rt: &HostRuntime,
+    path: &str,
+    progress: &mut G,
+) -> Result<TableBook<FileStore<File>>, TableFault> {
+    let conn = connect(rt, path).map_err(open_fault)?;
+    if is_empty(conn.schema()) {
+        return TableBook::create(rt.alloc(), conn).map_err(|(fault, _conn)| fault);
+    }
+    TableBook::adopt(rt.alloc(), conn, progress).map_err(|(fault, _left)| fault)
 }
 
 // Why a file could not be opened.

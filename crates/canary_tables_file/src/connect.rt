@@ -1,5 +1,5 @@
 //! Opening the file at a path as a database of SQLite.
-ghost use Rattle.std.specs.Prelude.{codes, ◌≡◌, ◌==◌, IsTrue, IfOk, IfErr};
+ghost use Rattle.std.specs.Prelude.{codes, ◌≡◌, ◌==◌, IsTrue, IfOk, IfErr, IsErrAnd, Ok};
 ghost use Rattle.std.specs.List.{starts_with};
 ghost use Rattle.sqlite.specs.Files.{file_state, IsOpened};
 ghost use Rattle.sqlite.specs.Held.{IsNew};
@@ -7,31 +7,17 @@ ghost use Rattle.sqlite.specs.Opening.{is_open_error};
 ghost use Rattle.sqlite.specs.State.{HasCleanDisk};
 ghost use Rattle.sqlite_std_file.specs.File.{file_is_usable};
 
-use crate::options::{first_options, options};
-use sqlite::{Connection, Error, ErrorCode, File, FileFrom, FileStore, Files, Start, Unknown};
+use crate::fault::{CANNOT_OPEN, NO_MEMORY};
+use crate::make::make;
+use crate::options::options;
+use crate::pages::{is_blank, page_size};
+use sqlite::{
+    Alter, Connection, Error, ErrorCode, File, FileFrom, FileStore, Files, Options, Start, Unknown,
+};
 use sqlite_disk::Disk;
-use sqlite_pager::Pager;
-use sqlite_pool::probe_blank;
 use sqlite_std_file::OpenError;
-use sqlite_store::Unopened;
-use sqlite_wal::{PageSize, probe_page_size};
-use std::alloc::{AllocFailed, Global};
 use std::hash::{BuildHasher, RandomState};
 use std::io::ErrorKind;
-
-// The bytes of a page of a file that is made, the fewest that SQLite takes. A commit writes each
-// page that it changes whole, with a digest and a checksum of it, and a settled request changes a
-// row or two of each page.
-const NEW_PAGE: usize = 512;
-
-// The bytes of a page of a file whose size of pages is not known: those that SQLite gives a file.
-const OTHER_PAGE: usize = 4096;
-
-const CANNOT_OPEN: Error = Error::SqliteFailure(ErrorCode::CannotOpen);
-
-const IO: Error = Error::SqliteFailure(ErrorCode::SystemIoFailure);
-
-const NO_MEMORY: Error = Error::SqliteFailure(ErrorCode::OutOfMemory);
 
 /// Opens the file of SQLite at a path, or makes it with pages of 512 bytes. One that is there keeps
 /// the pages that it has. Each page, row and index of it is read and checked. A log stands beside
@@ -55,13 +41,56 @@ pub fn connect(rt: &HostRuntime, path: &str) -> Result<Connection<FileStore<File
         (λ c. HasCleanDisk (file_state c) → (file_state c).IsShielded) }
 {
     let seed = seed(rt)?;
-    let mut files = open_pair(rt, path, Unknown)?;
-    if is_blank(rt.alloc(), &mut files)? {
-        make(rt.alloc(), files, seed)?;
-        files = open_pair(rt, path, Unknown)?;
+    let files = whole_files(rt, path, seed)?;
+    connection(rt, files, seed)
+}
+
+// The connection to files, with a clock.
+fn connection<D: Disk + Drop>(
+    rt: &HostRuntime,
+    mut files: Files<D>,
+    seed: u64,
+) -> Result<Connection<FileStore<D>>, Error>
+    requires log { IsTrue (D.Disk.is_usable files.log) }
+    requires db { IsTrue (D.Disk.is_usable files.db) }
+    ensures named { IfErr result (λ e. IsTrue (is_open_error e)) }
+    ensures opened { IfOk result (λ c. HasCleanDisk (file_state c) → IsOpened c) }
+    ensures fresh { IfOk result IsNew }
+    ensures guarded { IfOk result
+        (λ c. HasCleanDisk (file_state c) → (file_state c).IsShielded) }
+{
+    match page_size(&mut files) {
+        Ok(size) => connection_by(rt, files, options(size, seed)),
+        Err(error) => Err(error),
     }
-    let size = page_size(&mut files)?;
-    match Connection::open_files(rt.alloc(), files, options(size, seed)) {
+}
+
+// The same with these options.
+fn connection_by<D: Disk + Drop>(
+    rt: &HostRuntime,
+    files: Files<D>,
+    options: Options,
+) -> Result<Connection<FileStore<D>>, Error>
+    requires log { IsTrue (D.Disk.is_usable files.log) }
+    requires db { IsTrue (D.Disk.is_usable files.db) }
+    ensures named { IfErr result (λ e. IsTrue (is_open_error e)) }
+    ensures opened { IfOk result (λ c. HasCleanDisk (file_state c) → IsOpened c) }
+    ensures fresh { IfOk result IsNew }
+    ensures guarded { IfOk result
+        (λ c. HasCleanDisk (file_state c) → (file_state c).IsShielded) }
+{
+    with_clock(rt, Connection::open_files(rt.alloc(), files, options))
+}
+
+// The connection, if it was opened, with a clock, which changes nothing else.
+fn with_clock<S: Alter + Drop, L: Drop>(
+    rt: &HostRuntime,
+    opened: Result<Connection<S>, (Error, L)>,
+) -> Result<Connection<S>, Error>
+    ensures ok { IfOk result (λ conn. opened ≡ Ok conn) }
+    ensures err { IfErr result (λ e. IsErrAnd opened (λ failed. failed.0 ≡ e)) }
+{
+    match opened {
         Ok(mut conn) => {
             conn.set_clock(rt);
             Ok(conn)
@@ -70,8 +99,48 @@ pub fn connect(rt: &HostRuntime, path: &str) -> Result<Connection<FileStore<File
     }
 }
 
+// The file at a path and its log, which nobody else opens as a database meanwhile. If they have no
+// database, an empty one is made in them.
+fn whole_files(rt: &HostRuntime, path: &str, seed: u64) -> Result<Files<File>, Error>
+    ensures memory { path.now ≡ codes ":memory:"
+        → result ≡ Err (Error.SqliteFailure ErrorCode.CannotOpen) }
+    ensures uri { IsTrue (starts_with (λ a b. a == b) path.now (codes "file:"))
+        → result ≡ Err (Error.SqliteFailure ErrorCode.CannotOpen) }
+    ensures named { IfErr result (λ e. IsTrue (is_open_error e)) }
+    ensures usable { IfOk result (λ files. IsTrue (⟦<File as Disk>⟧.is_usable files.log)
+        × IsTrue (⟦<File as Disk>⟧.is_usable files.db)) }
+{
+    let mut files = open_pair(rt, path, Unknown)?;
+    match is_blank(rt.alloc(), &mut files) {
+        Ok(true) => made_files(rt, path, files, seed),
+        Ok(false) => Ok(files),
+        Err(error) => Err(error),
+    }
+}
+
+// Makes an empty database in these files, which lie at the path, and opens them again.
+fn made_files(
+    rt: &HostRuntime,
+    path: &str,
+    files: Files<File>,
+    seed: u64,
+) -> Result<Files<File>, Error>
+    requires usable { IsTrue (⟦<File as Disk>⟧.is_usable files.log)
+        × IsTrue (⟦<File as Disk>⟧.is_usable files.db) }
+    ensures named { IfErr result (λ e. IsTrue (is_open_error e)) }
+    ensures usable { IfOk result (λ files. IsTrue (⟦<File as Disk>⟧.is_usable files.log)
+        × IsTrue (⟦<File as Disk>⟧.is_usable files.db)) }
+{
+    make(rt.alloc(), files, seed)?;
+    open_pair(rt, path, Unknown)
+}
+
 // The file at a path and its log, which nobody else opens as a database meanwhile.
-fn open_pair<S: Start>(rt: &HostRuntime, path: &str, start: S) -> Result<Files<FileFrom<S>>, Error>
+pub(crate) fn open_pair<S: Start>(
+    rt: &HostRuntime,
+    path: &str,
+    start: S,
+) -> Result<Files<FileFrom<S>>, Error>
     ensures memory { path.now ≡ codes ":memory:"
         → result ≡ Err (Error.SqliteFailure ErrorCode.CannotOpen) }
     ensures uri { IsTrue (starts_with (λ a b. a == b) path.now (codes "file:"))
@@ -93,79 +162,9 @@ fn open_pair<S: Start>(rt: &HostRuntime, path: &str, start: S) -> Result<Files<F
 }
 
 // A random number, for the salts of the log.
-fn seed(rt: &HostRuntime) -> Result<u64, Error>
+pub(crate) fn seed(rt: &HostRuntime) -> Result<u64, Error>
     ensures { IfErr result (λ e. e ≡ Error.SqliteFailure ErrorCode.CannotOpen) }
 {
     let random = RandomState::new(rt).map_err(|_| CANNOT_OPEN)?;
     Ok(random.hash_one(&0u8))
-}
-
-// Whether the files have no database yet, or one that was not made to its end.
-fn is_blank<D: Disk>(alloc: Global, files: &mut Files<D>) -> Result<bool, Error>
-    requires log { IsTrue (D.Disk.is_usable files.old.log) }
-    requires db { IsTrue (D.Disk.is_usable files.old.db) }
-    ensures log { IsTrue (D.Disk.is_usable files.new.log) }
-    ensures db { IsTrue (D.Disk.is_usable files.new.db) }
-    ensures named { IfErr result (λ e. IsTrue (is_open_error e)) }
-{
-    match probe_blank(alloc, files, new_size(), false) {
-        Ok(is_blank) => Ok(is_blank),
-        Err(sqlite_wal::Error::OutOfMemory) => Err(NO_MEMORY),
-        Err(sqlite_wal::Error::Full) => Err(Error::SqliteFailure(ErrorCode::DiskFull)),
-        Err(_) => Err(IO),
-    }
-}
-
-// Makes an empty database in files that have none, and closes them.
-fn make<D: Disk + Drop>(alloc: Global, files: Files<D>, seed: u64) -> Result<(), Error>
-    requires log { IsTrue (D.Disk.is_usable files.log) }
-    requires db { IsTrue (D.Disk.is_usable files.db) }
-    ensures named { IfErr result (λ e. IsTrue (is_open_error e)) }
-{
-    let pager = match Pager::new(alloc, files, new_size(), first_options(seed)) {
-        Ok(pager) => pager,
-        Err(AllocFailed { value: _ }) => return Err(NO_MEMORY),
-    };
-    let unopened = match Unopened::new(alloc, pager, &[]) {
-        Ok(unopened) => unopened,
-        Err(AllocFailed { value: _ }) => return Err(NO_MEMORY),
-    };
-    match unopened.create() {
-        Ok(store) => {
-            drop(store.close());
-            Ok(())
-        }
-        Err((error, _)) => Err(made_error(error)),
-    }
-}
-
-// Why a database could not be made: memory, a full disk, or else `IO`.
-fn made_error(error: sqlite_store::OpenError) -> Error
-    ensures named { IsTrue (is_open_error result) }
-{
-    match error {
-        sqlite_store::OpenError::OutOfMemory => NO_MEMORY,
-        sqlite_store::OpenError::Full => Error::SqliteFailure(ErrorCode::DiskFull),
-        _ => IO,
-    }
-}
-
-// The page size of a file that is made. `NEW_PAGE` is a valid one.
-fn new_size() -> PageSize {
-    PageSize::new(NEW_PAGE).unwrap()
-}
-
-// The size of the pages of a file, or of those that one gets.
-fn page_size<D: Disk>(files: &mut Files<D>) -> Result<PageSize, Error>
-    requires log { IsTrue (D.Disk.is_usable files.old.log) }
-    requires db { IsTrue (D.Disk.is_usable files.old.db) }
-    ensures log { IsTrue (D.Disk.is_usable files.new.log) }
-    ensures db { IsTrue (D.Disk.is_usable files.new.db) }
-    ensures named { IfErr result (λ e. IsTrue (is_open_error e)) }
-{
-    match probe_page_size(files) {
-        Ok(Some(size)) => Ok(size),
-        Ok(None) => Ok(PageSize::new(OTHER_PAGE).unwrap()),
-        Err(_) => Err(IO),
-    }
 }

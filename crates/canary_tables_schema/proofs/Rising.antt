@@ -17,7 +17,8 @@ use Rattle.sqlite_rules.proofs.ListLemmas.{all_from}
 use Rattle.canary_tables_schema.specs.Layout.{Layout}
 use Rattle.canary_tables_schema.specs.Schema.{schema_at}
 use Rattle.canary_tables_schema.specs.Cells.{tally_tree}
-use Rattle.canary_tables_schema.specs.Formed.{AreWhole, HasWholeTallies, HasRisingTables}
+use Rattle.canary_tables_schema.specs.Formed.{AreWhole, HasWholeTallies, HasRisingTables, IsRising}
+use Rattle.canary_tables_schema.specs.Listed.{ListsTally}
 use Rattle.canary_tables_schema.specs.Numbered.{IsOpenedAnew, IsLeft}
 use Rattle.canary_tables_schema.specs.Stores.{AreNumbered, IsNumbered, IsUsable}
 
@@ -107,3 +108,24 @@ all_whole g old tally trees is (Ok p) same whole opened = λ usable.
     let number : tally ≡ tally_tree (state g p.0).now.schema = is ∙ ap (λ (d : Database). tally_tree d.schema) (sym (opened usable).same) in
     subst (λ (n : ℕ). IsTrue p.1 ↔ AreWhole n (state g p.0).now.trees) number (subst (λ (t : Trees). IsTrue p.1 ↔ AreWhole tally t) (sym (same usable.clean)) (whole usable.clean))
 all_whole g old tally trees is (Err e) same whole opened = tt
+
+-- a connection that is opened over a store which was just opened
+module _ {S : Type 0} (g : Ghosts S) (store : S) (new : Held S) (falls : doubt (g.view store).is_clean ≤ doubt (state g new).is_clean)
+    (trees : HasCleanDisk (state g new) → (state g new).now.trees ≡ (g.view store).trees) (opens : HasCleanDisk (state g new) → Opens (state g new) × IsLive (state g new)) where
+  -- it shows the schema that the store lists
+  shown : IsUsable (state g new) → Lists ((g.view store).trees catalog_tree) (state g new).now.schema
+  shown usable = subst (λ (t : Trees). Lists (t catalog_tree) (state g new).now.schema) (trees usable.clean) ((opens usable.clean).1 usable.is_open).0.lists
+
+  pub rising_first : (IsClean (g.view store) → IsOrdered (g.view store).shape (g.view store).trees) → (IsClean (g.view store) → IsListed ((g.view store).trees catalog_tree) (g.view store).shape (g.view store).reals)
+      → IsUsable (state g new) → IsRising (state g new).now
+  rising_first ordered listed usable =
+      let clean : IsClean (g.view store) = omega (arith, falls, usable.clean) in
+      λ at desk. subst (AreNumbered at) (sym (trees usable.clean)) (of_desk (g.view store) (state g new).now.schema (ordered clean) (listed clean) (shown usable) at desk)
+
+  pub whole_first : (tally : ℕ) (is_whole : Bool) → (IsClean (g.view store) → ListsTally (g.view store).trees tally) → (HasCleanDisk (state g new) → IsTrue is_whole ↔ AreWhole tally (g.view store).trees)
+      → IsUsable (state g new) → IsTrue is_whole ↔ HasWholeTallies (state g new).now
+  whole_first tally is_whole lists whole usable =
+      let clean : IsClean (g.view store) = omega (arith, falls, usable.clean) in
+      let found : ListsTally (g.view store).trees tally = lists clean in
+      let number : tally ≡ tally_tree (state g new).now.schema = found.2 ∙ ap tally_tree (lists_once ((g.view store).trees catalog_tree) found.0 (state g new).now.schema found.1 (shown usable)) in
+      subst (λ (n : ℕ). IsTrue is_whole ↔ AreWhole n (state g new).now.trees) number (subst (λ (t : Trees). IsTrue is_whole ↔ AreWhole tally t) (sym (trees usable.clean)) (whole usable.clean))

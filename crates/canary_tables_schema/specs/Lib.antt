@@ -1,4 +1,5 @@
 pub mod Layout
+pub mod Listed
 pub mod First
 pub mod Schema
 pub mod Cells

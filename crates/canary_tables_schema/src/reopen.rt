@@ -1,17 +1,20 @@
-//! A store is opened anew, so that it is known in which order its rows stand.
-ghost use Rattle.std.specs.Prelude.{◌≡◌, ◌≤◌, ◌↔◌, false, IsTrue, IfOk, IfErr};
+//! A store is opened, or opened anew, so that it is known in which order its rows stand.
+ghost use Rattle.std.specs.Prelude.{◌≡◌, ◌≤◌, ◌↔◌, false, IsTrue, IfOk, IfErr, IfSome};
 ghost use Rattle.sqlite.specs.Held.{state};
 ghost use Rattle.sqlite.specs.State.{HasCleanDisk, Opens, IsLive};
 ghost use Rattle.sqlite.specs.Steps.{IsFresh};
 ghost use Rattle.sqlite_trees.specs.View.{IsClean, IsQuiet, doubt};
 ghost use Rattle.canary_tables_schema.specs.Formed.{AreWhole, HasWholeTallies, HasRisingTables};
+ghost use Rattle.canary_tables_schema.specs.Formed.{IsRising};
+ghost use Rattle.canary_tables_schema.specs.Listed.{ListsTally};
 ghost use Rattle.canary_tables_schema.specs.Stores.{IsUsable};
 ghost use Rattle.canary_tables_schema.specs.Numbered.{IsOpenedAnew, IsLeft};
 
 use crate::fault::{StoreFault, fault_below, fault_of};
-use crate::recognize::tally_tree;
+use crate::recognize::{is_desk, tally_tree};
 use crate::whole::has_whole_tallies;
 use sqlite::{Alter, Connection};
+use sqlite_catalog::load::load;
 use std::alloc::Global;
 
 // Reads the rows of tally, which has this tree, and then opens the store.
@@ -77,4 +80,47 @@ pub fn reopen<S: Alter + Drop>(
         return Err((StoreFault::Storage, store));
     }
     open_read(alloc, store, tally)
+}
+
+// The tree of tally, if the store, which was just opened, lists the tables of a desk.
+fn listed_tally<S: Alter>(alloc: Global, store: &S) -> Result<Option<u32>, StoreFault>
+    requires { IsClean (S.Store.view store.now) → (S.Store.view store.now).is_broken ≡ false }
+    ensures { IfOk result (λ found. IfSome found (λ tally. IsClean (S.Store.view store.now)
+        → ListsTally (S.Store.view store.now).trees tally)) }
+{
+    match load(store, alloc) {
+        Ok(Some(schema)) if is_desk(&schema) => Ok(Some(tally_tree(&schema))),
+        Ok(_) => Ok(None),
+        Err(_) => Err(StoreFault::Memory),
+    }
+}
+
+/// Opens a connection over a store that was just opened, if it lists the tables of a desk: each row
+/// is read once. The rows of its tables are known to stand in the order of their rowids. Beside
+/// the connection it tells what `reopen` tells. `None`, if other tables are listed, and the store
+/// is let go then.
+///
+/// # Errors
+///
+/// `Memory` where an allocation was refused, `Storage` where the store failed otherwise, as where
+/// the disk did, or the rows do not obey the schema. The store is let go.
+pub fn open_desk<S: Alter + Drop>(
+    alloc: Global,
+    store: S,
+) -> Result<Option<(Connection<S>, bool)>, StoreFault>
+    requires { IsClean (S.Store.view store) → IsFresh (S.Store.view store) }
+    ensures mode { IfOk result (λ found. IfSome found (λ r. r.0.in_transaction ≡ false)) }
+    ensures numbered { IfOk result (λ found. IfSome found (λ r. IsUsable (state S.Store r.0)
+        → IsRising (state S.Store r.0).now)) }
+    ensures whole { IfOk result (λ found. IfSome found (λ r. IsUsable (state S.Store r.0)
+        → (IsTrue r.1 ↔ HasWholeTallies (state S.Store r.0).now))) }
+{
+    match listed_tally(alloc, &store) {
+        Ok(Some(tally)) => match open_read(alloc, store, tally) {
+            Ok(opened) => Ok(Some(opened)),
+            Err((fault, _)) => Err(fault),
+        },
+        Ok(None) => Ok(None),
+        Err(fault) => Err(fault),
+    }
 }

@@ -1,0 +1,60 @@
+//! Making a database in files that have none.
+ghost use Rattle.std.specs.Prelude.{◌≡◌, IsTrue, IfOk, IfErr};
+ghost use Rattle.sqlite.specs.Opening.{is_open_error};
+ghost use Rattle.sqlite_pager.specs.Pager.{files as files_below};
+ghost use Rattle.sqlite_store.specs.Unopened.{files_of, AreUsable};
+
+use crate::fault::{NO_MEMORY, error_alone, error_of};
+use crate::options::first_options;
+use crate::pages::new_size;
+use sqlite::{Error, Files, Options};
+use sqlite_disk::Disk;
+use sqlite_pager::Pager;
+use sqlite_store::Unopened;
+use sqlite_wal::PageSize;
+use std::alloc::{AllocFailed, Global};
+
+// Makes an empty database in files that have none, and closes them.
+pub(crate) fn make<D: Disk + Drop>(alloc: Global, files: Files<D>, seed: u64) -> Result<(), Error>
+    requires log { IsTrue (D.Disk.is_usable files.log) }
+    requires db { IsTrue (D.Disk.is_usable files.db) }
+    ensures named { IfErr result (λ e. IsTrue (is_open_error e)) }
+{
+    let unopened = unopened(alloc, files, new_size(), first_options(seed))?;
+    match unopened.create().map_err(error_alone) {
+        Ok(store) => {
+            drop(store.close());
+            Ok(())
+        }
+        Err(error) => Err(error_of(error)),
+    }
+}
+
+// Files of which nothing is read yet, with pages of this size.
+pub(crate) fn unopened<D: Disk + Drop>(
+    alloc: Global,
+    files: Files<D>,
+    size: PageSize,
+    options: Options,
+) -> Result<Unopened<D>, Error>
+    requires log { IsTrue (D.Disk.is_usable files.log) }
+    requires db { IsTrue (D.Disk.is_usable files.db) }
+    ensures named { IfErr result (λ e. IsTrue (is_open_error e)) }
+    ensures usable { IfOk result AreUsable }
+{
+    match Pager::new(alloc, files, size, options) {
+        Ok(pager) => over_pager(alloc, pager),
+        Err(AllocFailed { value: _ }) => Err(NO_MEMORY),
+    }
+}
+
+// The same over a pager, with no schema.
+fn over_pager<D: Disk + Drop>(alloc: Global, pager: Pager<D>) -> Result<Unopened<D>, Error>
+    ensures named { IfErr result (λ e. IsTrue (is_open_error e)) }
+    ensures files { IfOk result (λ it. files_of it ≡ files_below pager) }
+{
+    match Unopened::new(alloc, pager, &[]) {
+        Ok(unopened) => Ok(unopened),
+        Err(AllocFailed { value: _ }) => Err(NO_MEMORY),
+    }
+}
