@@ -6,7 +6,8 @@ import re
 # A function of a file: the module by which it is named, which is that of its type if the impl is of
 # no trait; its name there; the numbers of its first line, attributes among them, of the line that
 # opens its body and of its last line, from 1; the cycle of calls that it names, or nothing; and the
-# head of the impl in which it stands, nothing if it stands in none, or None if that is of a trait.
+# head of the impl in which it stands, with the lines of its `ghost use`, nothing if it stands in
+# none, or None if that is of a trait.
 Function = collections.namedtuple("Function", "module name first body last cycle head")
 
 CYCLE = re.compile(r" *#\[cycle\((\w+)\)\]")
@@ -59,6 +60,12 @@ def homes_of(files):
     return {name: module_of(file) for file, text in files.items() for name in TYPE.findall(text)}
 
 
+def item_at(lines, at):
+    """The lines of the item that begins at a place and ends with a `;`."""
+    last = next(place for place in range(at, len(lines)) if lines[place].endswith(";"))
+    return lines[at : last + 1]
+
+
 def body_of(lines, at, indent):
     """The places of the lines that open and close the body of the function that begins at a place;
     both are the last line of the head if there is none."""
@@ -99,6 +106,8 @@ def functions_of(file, text, homes):
             head_of_block = line[: opened.start(2)] + head if name[0] else None
         elif line == "}":
             module, block, head_of_block = own, "", ""
+        elif head_of_block and line.startswith("    ghost use "):
+            head_of_block = "\n".join([head_of_block, *item_at(lines, place)])
         head = HEAD.match(lines[place])
         if head and head[1] == (" " * 4 if block else ""):
             body, last = body_of(lines, place, head[1])

@@ -1,8 +1,8 @@
-"""Copies of functions, so that one check tries many bugs of a function: the first is planted in the
-function, and each other one in a copy of it. A copy stands at the end of the file under a name of
-its own, and has a copy of the proof. If files of a proof are copied, one more copy is as the
-function is: if that is not proved, the others say nothing. A function whose proof has no file has
-no name that a copy could lose."""
+"""Copies of functions, so that one check tries many bugs of a function. A copy stands at the end of
+the file under a name of its own, and has a copy of the proof. If the proof has files, the first bug
+is planted in the function and each other one in a copy, and one more copy is as the function is: if
+that is not proved, the others say nothing. A function whose proof has no file has no name that a
+copy could lose. So each bug of it is planted in a copy, and no function that calls it waits."""
 import re
 
 import bodies
@@ -30,6 +30,7 @@ class Copy:
 
     def __init__(self, path, function, edit=None):
         self.path, self.function, self.edit = path, function, edit
+        self.of = path, function
         self.name = edit.name if edit else f"{function.module}{function.name} as it is"
         self.lines, self.changed = {}, set()
 
@@ -50,13 +51,17 @@ class Copy:
             if head and head[2] == own:
                 line, is_named = line[: head.start(2)] + self.own_name() + line[head.end(2) :], True
             made.append(line)
-        return [function.head, *made, "}"] if function.head else made
+        return [*self.head(), *made, "}"] if function.head else made
+
+    def head(self):
+        """The lines before the copy's own: the head of its impl, if the function stands in one."""
+        return self.function.head.split("\n") if self.function.head else []
 
     def add(self, source, texts):
         """Adds the copy and its proof to the texts of a crate, by their paths."""
         above = texts[self.path].rstrip("\n").split("\n") + [""]
         texts[self.path] = "\n".join([*above, *self.text(source), ""])
-        moved = len(above) + bool(self.function.head) + 1 - self.function.first
+        moved = len(above) + len(self.head()) + 1 - self.function.first
         *block, _ = self.function.name.split("::")
         places = (getattr(self.function, it) + moved for it in ("first", "body", "last"))
         first, body, last = places
@@ -68,10 +73,11 @@ class Copy:
             for file, text in source.proofs_in(old):
                 texts[new + file] = text.replace(dotted(old), dotted(new))
 
-    def has_files(self, source):
-        """Whether the proof of the function has files."""
-        folders = verdicts.folders_of(self.path, self.function)
-        return any(True for it in folders for _ in source.proofs_in(it))
+
+def has_files(path, function, source):
+    """Whether the proof of a function has files."""
+    folders = verdicts.folders_of(path, function)
+    return any(True for it in folders for _ in source.proofs_in(it))
 
 
 def dotted(folder):
@@ -79,17 +85,23 @@ def dotted(folder):
     return "." + folder.replace("/", ".")
 
 
+def fits_beside(edit, others, source):
+    """Whether one check can try the bug where it stands, beside these others that stand where they
+    are, and has to: a copy would want one more copy, or cannot be made."""
+    is_bare = can_be_made(edit) and not has_files(*min(edit.changed), source)
+    return not is_bare and all(map(edit.is_apart, others))
+
+
 def in_one(edits, source):
     """The bugs that one check can try, as they are or in copies; a copy as it is of each function
     that has copies with files of a proof; and the other bugs."""
-    made, left = [], []
+    stand, copied, left = [], [], []
     for edit in sorted(edits, key=can_be_made):
-        if all(edit.is_apart(it) for it in made if it.lines):
-            made.append(edit)
+        if fits_beside(edit, stand, source):
+            stand.append(edit)
         elif can_be_made(edit):
-            made.append(Copy(*min(edit.changed), edit))
+            copied.append(Copy(*min(edit.changed), edit))
         else:
             left.append(edit)
-    copied = dict.fromkeys((it.path, it.function) for it in made
-                           if isinstance(it, Copy) and it.has_files(source))
-    return made, [Copy(*it) for it in copied], left
+    as_they_are = dict.fromkeys(it.of for it in copied if has_files(*it.of, source))
+    return stand + copied, [Copy(*it) for it in as_they_are], left

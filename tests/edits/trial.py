@@ -11,7 +11,9 @@ import planting
 import verdicts
 
 # The most bugs that one check tries at once, so that it ends within its limit.
-LOT = 24
+LOT = 60
+# So often a bug is tried with others, before it is tried in smaller groups.
+ROUNDS = 2
 
 
 def words_only(functions, laws=()):
@@ -99,12 +101,18 @@ class Trial:
             it.write(f"{text}\n")
 
     def try_in_lots(self, edits, also):
-        """Tries bugs, so many at once in each check, and gives those of which the checks tell
-        nothing clear, and those of `also`, if none was looked at."""
-        left = []
-        for first in range(0, len(edits), LOT):
-            rest, also = self.try_at_once(edits[first : first + LOT], also, f"at-once-{first}")
-            left += rest
+        """Tries bugs, so many at once in each check, and once more those of which a check told
+        nothing clear. It gives those of which these checks tell nothing clear either, and those of
+        `also`, if none was looked at."""
+        left = edits
+        for number in range(ROUNDS):
+            tried, left = left, []
+            for first in range(0, len(tried), LOT):
+                lot, log = tried[first : first + LOT], f"at-once-{number}-{first}"
+                rest, also = self.try_at_once(lot, also, log)
+                left += rest
+            if len(left) == len(tried):
+                break
         return left, also
 
     def try_at_once(self, edits, also, log):
@@ -120,10 +128,12 @@ class Trial:
         lines = self.check_some(log, made + as_they_are, beside) if made else []
         if not verdicts.reads(lines):
             return edits, also
-        is_sound = all(self.stands(lines, *min(it.changed)) for it in as_they_are)
+        lost = {it.of for it in as_they_are if not self.stands(lines, *min(it.changed))}
+        is_sound = not as_they_are or len(lost) < len(as_they_are)
         for it in made:
             verdict, said = verdicts.of_edit(lines, self.crate.name, it)
-            if verdict in verdicts.CLEAR and (is_sound or it not in copied):
+            says = is_sound and it.of not in lost if it in copied else True
+            if verdict in verdicts.CLEAR and says:
                 self.settle(it.name, verdict, "in a copy" if it in copied else "at once", said)
             else:
                 left.append(it.edit if it in copied else it)
