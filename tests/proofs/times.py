@@ -1,6 +1,7 @@
 """Where the time of proofs goes, by crate: times.py ROOT [--keep] [--told FOLDER] COMMAND.. runs a
 command and looks, each second, at the checks of the prover below it. What they took is in
-tests/proofs/out/times, of which `tests/proofs/prove --times` prints a table. With --keep what these
+tests/proofs/out/times, of which `tests/proofs/prove --times` prints a table. A `rt ci` proves as
+many crates at a time as there are processors, if there is memory for that. With --keep what its
 checks made is then kept for `rt check` (kept.py). The files of FOLDER tell others of the command:
 `process` has its number, `lines` has what it has printed on standard output so far, and `status`
 comes once it has ended."""
@@ -18,6 +19,8 @@ from kept import Keeper
 
 FILE = "tests/proofs/out/times"
 TICKS = os.sysconf("SC_CLK_TCK")
+# The memory that a check of a crate takes at most, in bytes.
+MEMORY = 5_500_000_000
 PROOF, TESTS, EDITS = KINDS = ("proof", "tests", "edits")
 
 # What was seen of a process: whose check it is, when it was first and last there, in seconds since
@@ -183,6 +186,14 @@ def ended(ran, folder):
     return status
 
 
+def take_lanes():
+    """Has a `rt ci` below this prove a crate on each processor, if there is memory for that. It
+    plans with two to three times the memory that its checks take, and then has processors wait."""
+    rt = kit.load_rt()
+    if rt.free() >= MEMORY * rt.processors():
+        os.environ.setdefault("RT_JOBS", str(rt.processors()))
+
+
 def main():
     """Runs a command under a watch. A signal that would end this ends the command."""
     root, *words = sys.argv[1:]
@@ -192,6 +203,7 @@ def main():
     if words[0] == "--told":
         _, folder, *words = words
     out = subprocess.PIPE if folder else None
+    take_lanes()
     with subprocess.Popen(words, stdin=subprocess.DEVNULL, stdout=out) as ran:
         for it in (signal.SIGTERM, signal.SIGINT, signal.SIGHUP):
             signal.signal(it, lambda number, _: ran.send_signal(number))
