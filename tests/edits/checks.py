@@ -1,5 +1,6 @@
 """Runs checks of the prover on copies of a crate, each within limits of time."""
 import collections
+import contextlib
 import os
 import resource
 import shutil
@@ -13,6 +14,8 @@ import threading
 Ran = collections.namedtuple("Ran", "status lines seconds memory is_lost")
 
 NO_END = 124
+# How often it is looked whether the prover has judged all.
+LOOK = 0.05
 # A check that waits for others takes longer by the clock than by its processor; and one that begins
 # in idle time waits for the proofs.
 CLOCK, CLOCK_IDLE = 4, 12
@@ -45,6 +48,32 @@ def room_in(folder):
     return tempfile.TemporaryDirectory(prefix=f"together-{os.getpid()}-", dir=folder)
 
 
+def take_files(room, ended):
+    """Takes away the folder of a check's own files once the prover has judged all. Else it would
+    run once more, for a fourth of its time, to print files from which proofs could start. It says
+    that it cannot print them, and then what came of the check."""
+    while not ended.wait(LOOK):
+        with contextlib.suppress(OSError), open(f"{room}/stages", encoding="utf-8") as stages:
+            if "stage session " in stages.read():
+                os.rename(f"{room}/files", f"{room}/gone")
+                return
+
+
+@contextlib.contextmanager
+def own_files(room):
+    """The words, and the environment, by which a check in the folder `room` has a folder of its own
+    files, as long as it needs one."""
+    os.mkdir(f"{room}/files")
+    ended = threading.Event()
+    thread = threading.Thread(target=take_files, args=(room, ended), daemon=True)
+    thread.start()
+    try:
+        yield ["--stage-times", f"{room}/stages"], {**os.environ, "TMPDIR": f"{room}/files"}
+    finally:
+        ended.set()
+        thread.join()
+
+
 def run(words, room, log, limit, turn=None):
     """Runs the words in the folder `room`; what they say goes to the file `log`. They end after so
     many seconds of a processor, also on a busy machine. If it is some `turn`, that says how."""
@@ -55,10 +84,11 @@ def run(words, room, log, limit, turn=None):
         if is_idle:
             turn.begin_idle()
 
-    with open(log, "w+", encoding="utf-8", errors="replace") as said:
+    with (open(log, "w+", encoding="utf-8", errors="replace") as said,
+          own_files(room) as (more, env)):
         # pylint: disable=subprocess-popen-preexec-fn, consider-using-with
-        ran = subprocess.Popen(words, cwd=room, stdin=subprocess.DEVNULL, stdout=said,
-                               stderr=subprocess.STDOUT, preexec_fn=begin)
+        ran = subprocess.Popen([*words, *more], cwd=room, env=env, stdin=subprocess.DEVNULL,
+                               stdout=said, stderr=subprocess.STDOUT, preexec_fn=begin)
         clock = threading.Timer((CLOCK_IDLE if is_idle else CLOCK) * limit, ran.kill)
         clock.start()
         if turn:

@@ -41,6 +41,8 @@ class Trial:
         self.room = kept or f"{crate.folder}/out"
         self.checks, self.seconds, self.memory = 0, 0.0, 0
         self.verdicts, self.is_done = {}, False
+        # The laws that have to be proved as they are, and whether a check said that they are.
+        self.laws, self.are_laws_proved = (), False
         for folder in (self.logs, self.kept) if given.lean else (self.logs,):
             os.makedirs(folder, exist_ok=True)
 
@@ -102,43 +104,46 @@ class Trial:
 
     def try_in_lots(self, edits, also):
         """Tries bugs, so many at once in each check, and once more those of which a check told
-        nothing clear. It gives those of which these checks tell nothing clear either, and those of
-        `also`, if none was looked at."""
-        left = edits
+        nothing clear. It gives those of which these checks tell nothing clear either; those that
+        are proved there; and those of `also`, if none was looked at."""
+        left, proved = edits, []
         for number in range(ROUNDS):
             tried, left = left, []
             for first in range(0, len(tried), LOT):
                 lot, log = tried[first : first + LOT], f"at-once-{number}-{first}"
-                rest, also = self.try_at_once(lot, also, log)
-                left += rest
+                rest, more, also = self.try_at_once(lot, also, log)
+                left, proved = left + rest, proved + more
             if len(left) == len(tried):
                 break
-        return left, also
+        return left, proved, also
 
     def try_at_once(self, edits, also, log):
         """Tries all bugs that one check can try, of a function in copies of it, beside functions as
         they are: copies too, or else those of `also`. It gives the bugs of which the check tells
-        nothing clear, and those of `also`, if none was looked at."""
+        nothing clear; those that are proved there; and those of `also`, if none was looked at."""
         made, as_they_are, left = copies.in_one(edits, self.source)
         copied = [it for it in made if isinstance(it, copies.Copy)]
         beside = self.unchanged(also, made)
         if not as_they_are and not beside:
-            wanted = also or [(it.path, it.function) for it in copied[:1]]
+            wanted = also or [it.of for it in copied[:1]]
             as_they_are = [copies.Copy(*it) for it in wanted if copies.can_copy(it[1])]
-        lines = self.check_some(log, made + as_they_are, beside) if made else []
+        laws = () if self.are_laws_proved else self.laws
+        lines = self.check_some(log, made + as_they_are, beside, laws) if made else []
         if not verdicts.reads(lines):
-            return edits, also
+            return edits, [], also
+        self.are_laws_proved = self.are_laws_proved or self.laws_stand(lines)
         lost = {it.of for it in as_they_are if not self.stands(lines, *min(it.changed))}
-        is_sound = not as_they_are or len(lost) < len(as_they_are)
+        is_sound, proved = not as_they_are or len(lost) < len(as_they_are), []
         for it in made:
             verdict, said = verdicts.of_edit(lines, self.crate.name, it)
-            says = is_sound and it.of not in lost if it in copied else True
-            if verdict in verdicts.CLEAR and says:
+            is_clear = verdict in verdicts.CLEAR
+            if is_clear and (it not in copied or is_sound and it.of not in lost):
                 self.settle(it.name, verdict, "in a copy" if it in copied else "at once", said)
             else:
-                left.append(it.edit if it in copied else it)
+                unclear = proved if verdict == verdicts.PROVED else left
+                unclear.append(it.edit if it in copied else it)
         self.look_at(beside, lines)
-        return left, () if is_sound else also
+        return left, proved, () if is_sound else also
 
     def try_group(self, edits, number, also=()):
         """Plants a group at once, and gives the bugs of which it tells nothing clear, with why.
@@ -219,9 +224,16 @@ class Trial:
         lines = self.check_some("as-they-are", [], functions) if functions else []
         self.look_at(functions, lines)
 
+    def laws_stand(self, lines):
+        """Whether a check says that each law that has to be proved is."""
+        functions = [(f"src/{law}.rt", it) for law in self.laws
+                     for it in self.source.functions[f"src/{law}.rt"]]
+        own = lines, self.crate.name
+        return bool(functions) and all(verdicts.is_proved(*own, *it) for it in functions)
+
     def check_laws(self):
         """Settles the laws as they are: a lean trial in which one has no proof says nothing."""
-        if self.is_lean and self.source.laws:
+        if self.laws and not self.are_laws_proved:
             lines = self.check_some("laws", [], laws=self.source.laws)
             verdict, said = verdicts.of_all(lines)
             if verdict != verdicts.PROVED:
@@ -231,9 +243,11 @@ class Trial:
         """Tries these bugs. The functions of `also` are looked at beside the first group."""
         begun = time.time()
         left, beyond = ([it for it in edits if it.stays_inside == which] for which in (True, False))
-        unclear = []
+        self.laws = self.source.laws if self.is_lean and beyond else ()
+        proved = []
         if self.is_lean:
-            left, also = self.try_in_lots(left, also)
+            left, proved, also = self.try_in_lots(left, also)
+        unclear = [(it, "") for it in proved]
         for number, group in enumerate(planting.grouped(left), 1):
             beside = self.unchanged(also, group)
             if self.is_lean and len(group) == 1 and not beside:
