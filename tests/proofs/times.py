@@ -20,7 +20,7 @@ from kept import Keeper
 FILE = "tests/proofs/out/times"
 TICKS = os.sysconf("SC_CLK_TCK")
 # The memory that a check of a crate takes at most, in bytes.
-MEMORY = 5_500_000_000
+MEMORY = 6_000_000_000
 PROOF, TESTS, EDITS = KINDS = ("proof", "tests", "edits")
 
 # What was seen of a process: whose check it is, when it was first and last there, in seconds since
@@ -188,7 +188,7 @@ def ended(ran, folder):
 
 def take_lanes():
     """Has a `rt ci` below this prove a crate on each processor, if there is memory for that. It
-    plans with two to three times the memory that its checks take, and then has processors wait."""
+    plans with about twice the memory that its checks take, and then has processors wait."""
     rt = kit.load_rt()
     if rt.free() >= MEMORY * rt.processors():
         os.environ.setdefault("RT_JOBS", str(rt.processors()))
