@@ -60,12 +60,14 @@ def take_files(room, ended):
 
 
 @contextlib.contextmanager
-def own_files(room):
+def own_files(room, keeps_files):
     """The words, and the environment, by which a check in the folder `room` has a folder of its own
-    files, as long as it needs one."""
+    files, as long as it needs one, or to its end."""
     os.mkdir(f"{room}/files")
     ended = threading.Event()
     thread = threading.Thread(target=take_files, args=(room, ended), daemon=True)
+    if keeps_files:
+        ended.set()
     thread.start()
     try:
         yield ["--stage-times", f"{room}/stages"], {**os.environ, "TMPDIR": f"{room}/files"}
@@ -74,7 +76,7 @@ def own_files(room):
         thread.join()
 
 
-def run(words, room, log, limit, turn=None):
+def run(words, room, log, limit, turn=None, keeps_files=False):
     """Runs the words in the folder `room`; what they say goes to the file `log`. They end after so
     many seconds of a processor, also on a busy machine. If it is some `turn`, that says how."""
     is_idle = turn is not None and turn.is_idle
@@ -85,7 +87,7 @@ def run(words, room, log, limit, turn=None):
             turn.begin_idle()
 
     with (open(log, "w+", encoding="utf-8", errors="replace") as said,
-          own_files(room) as (more, env)):
+          own_files(room, keeps_files) as (more, env)):
         # pylint: disable=subprocess-popen-preexec-fn, consider-using-with
         ran = subprocess.Popen([*words, *more], cwd=room, env=env, stdin=subprocess.DEVNULL,
                                stdout=said, stderr=subprocess.STDOUT, preexec_fn=begin)

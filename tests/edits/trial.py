@@ -48,14 +48,18 @@ class Trial:
 
     def check(self, log, texts, flags=(), gone=(), kept=None):
         """Checks the crate with these texts and without the folders `gone`, over what is in the
-        folder `kept`, if it is given. One that is lost is run again."""
-        while (ran := self.ran(log, texts, flags, gone, kept)).is_lost:
+        folder `kept`, if it is given. One that is lost is run again, and so is one that fails when
+        its files are taken."""
+        own = log, texts, flags, gone, kept
+        while (ran := self.ran(*own)).is_lost:
             pass
+        if ran.status == 2:
+            ran = self.ran(*own, keeps_files=True)
         # The prover stopped and judged nothing, and says why.
         errors = [it for it in ran.lines if ran.status == 2 and it.startswith("rattle: error")]
         return errors or ran.lines
 
-    def ran(self, log, texts, flags, gone, kept):
+    def ran(self, log, texts, flags, gone, kept, keeps_files=False):
         """What a check came to."""
         rtlib = self.kit_rt.rtlib
         with self.turn() as turn, checks.room_in(self.room) as room:
@@ -63,7 +67,8 @@ class Trial:
             words = self.crate.words(["--jobs", "1", *flags], keeps=False)
             words += ["--incremental", kept] if kept else []
             words = [*rtlib.guarded(), rtlib.RATTLE, "check", *words]
-            ran = checks.run(words, room, f"{self.logs}/{log}.log", self.limit, turn)
+            said = f"{self.logs}/{log}.log"
+            ran = checks.run(words, room, said, self.limit, turn, keeps_files)
         self.checks, self.seconds = self.checks + 1, self.seconds + ran.seconds
         self.memory = max(self.memory, ran.memory)
         return ran
