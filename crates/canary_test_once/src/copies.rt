@@ -8,7 +8,6 @@ use crate::sending::send_story;
 use canary_base::error::Memory;
 use canary_base::lists::Listed;
 use canary_base::moments::Moment;
-use canary_base::names::Name;
 use canary_base::numbers::Number;
 use canary_canonical::command::CanonicalCommand;
 use canary_condition::outcome::Phase;
@@ -35,9 +34,8 @@ struct Desk {
 
 /// None where memory was refused.
 fn desk_of(alloc: Global, book: &mut MemoryBook) -> Option<Desk> {
-    let (template, web) = (name("t")?, name("web")?);
-    let templates = book.templates(&[template]).ok()?.copy(alloc).ok()?;
-    let service = book.service(&web).ok()??;
+    let templates = book.templates(&[name("t")?]).ok()?.copy(alloc).ok()?;
+    let service = book.service(&name("web")?).ok()??;
     Some(Desk { templates, service })
 }
 
@@ -72,19 +70,12 @@ fn failed(alloc: Global) -> Option<CanonicalCommand> {
     CanonicalCommand::of(alloc, &command(alloc, FAILED)?).ok()
 }
 
-/// The caller and the number under which the report is settled.
-fn asked() -> Option<(Name, Number)> {
-    Some((name("ops")?, Number::new(1)?))
-}
-
-/// The report as it is settled.
-fn settlement(
-    caller: Name,
-    number: Number,
-    command: CanonicalCommand,
-    decision: Decision,
-) -> Settlement {
-    Settlement {
+/// The report as it is settled; none where memory was refused.
+fn settlement(alloc: Global, decision: Decision) -> Option<Settlement> {
+    let caller = name("ops")?;
+    let number = Number::new(1)?;
+    let command = failed(alloc)?;
+    Some(Settlement {
         caller,
         number,
         receipt: Receipt {
@@ -92,19 +83,15 @@ fn settlement(
             reply: decision.reply,
         },
         change: decision.change,
-    }
+    })
 }
 
-/// The same, by a copy of what it comes to; none where memory was refused.
-fn settlement_of(alloc: Global, desk: &Desk) -> Option<Settlement> {
-    let (caller, number) = asked()?;
-    let command = failed(alloc)?;
-    let decision = decided_copy(alloc, desk)?;
-    Some(settlement(caller, number, command, decision))
+fn settlement_copy(alloc: Global, decision: Decision) -> Option<Settlement> {
+    settlement(alloc, decision)?.copy(alloc).ok()
 }
 
 fn settled(alloc: Global, desk: &Desk) -> Option<Settlement> {
-    settlement_of(alloc, desk)?.copy(alloc).ok()
+    settlement_copy(alloc, decided_copy(alloc, desk)?)
 }
 
 fn effects(change: &DeskChange) -> &[Effect] {

@@ -5,11 +5,10 @@
 use crate::rows::{B, event, is_right, moment, name};
 use crate::sending::{answer, has_status, parts, send_story, settled};
 use canary_base::numbers::Number;
-use canary_once::book::{Book, Receipt};
+use canary_once::book::Book;
 use canary_once::event::{Answer, Event};
 use canary_once::memory::MemoryBook;
 use canary_once::post::post;
-use canary_once::record::RunRecord;
 use canary_once::view::view;
 use canary_release::effect::Recorded;
 use canary_release::state::ReleaseState;
@@ -154,44 +153,27 @@ fn is_answered(alloc: Global, book: &mut MemoryBook, row: &str) -> Option<bool> 
 /// refused.
 fn is_copied(alloc: Global, book: &mut MemoryBook, row: &str) -> Option<bool> {
     let (status, asked) = parts(row)?;
-    has_copy(alloc, &answer(alloc, book, asked)?, status)
-}
-
-fn has_copy(alloc: Global, answer: &Answer, status: u16) -> Option<bool> {
-    is_copy(answer, &answer.copy(alloc).ok()?, status)
+    let answer = answer(alloc, book, asked)?;
+    is_copy(&answer, &answer.copy(alloc).ok()?, status)
 }
 
 fn is_copy(answer: &Answer, copy: &Answer, status: u16) -> Option<bool> {
     Some(has_status(answer, status)? && copy.status() == status && copy.body() == answer.body())
 }
 
-/// Whether a receipt of the start has a copy; none where memory was refused.
-fn is_receipt(alloc: Global, kept: &Receipt) -> Option<bool> {
+/// Whether the receipt of the start has a copy; none where memory was refused.
+fn has_receipt(alloc: Global, book: &mut MemoryBook) -> Option<bool> {
+    let kept = book.receipt(&name("ops")?, Number::new(3)?).ok()??;
     let copy = kept.copy(alloc).ok()?;
     Some(copy.command.is_same(&kept.command) && copy.reply.status.code() == 200)
 }
 
-/// Whether the receipt of the start has a copy; none where memory was refused.
-fn has_receipt(alloc: Global, book: &mut MemoryBook) -> Option<bool> {
-    let kept = book.receipt(&name("ops")?, Number::new(3)?).ok()??;
-    is_receipt(alloc, &kept)
-}
-
-/// Whether a record is that of the first run.
-fn is_first(run: &RunRecord) -> bool {
-    let is_closed = run.number == 1 && run.step == Some(1) && run.closed.is_some();
-    is_closed && run.started.get() == B && run.tallies.as_slice().len() == 1
-}
-
-/// A copy of the first run; none where memory was refused.
-fn record(alloc: Global, book: &mut MemoryBook) -> Option<RunRecord> {
-    let run = book.run(&name("web")?, Number::new(1)?).ok()??;
-    run.copy(alloc).ok()
-}
-
 /// Whether the first run has a copy; none where memory was refused.
 fn has_record(alloc: Global, book: &mut MemoryBook) -> Option<bool> {
-    Some(is_first(&record(alloc, book)?))
+    let run = book.run(&name("web")?, Number::new(1)?).ok()??;
+    let copy = run.copy(alloc).ok()?;
+    let is_closed = copy.number == 1 && copy.step == Some(1) && copy.closed.is_some();
+    Some(is_closed && copy.started.get() == B && copy.tallies.as_slice().len() == 1)
 }
 
 fn is_event(alloc: Global) -> Option<bool> {

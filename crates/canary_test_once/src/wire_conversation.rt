@@ -236,43 +236,6 @@ impl Desk {
         })
     }
 
-    // Whether the stream is answered in pieces of this size, with no more owed than that and one
-    // reply.
-    fn answers(&mut self, alloc: Global, size: usize, most: usize) -> Result<bool, Memory> {
-        let ran = self.run(alloc, &mut reading(STREAM, size, 0), FAR, MAX_TURNS)?;
-        let is_bounded = ran.unsent < most.max(1).saturating_add(300) && ran.turns < MAX_TURNS;
-        Ok(is_bounded && self.writer.bytes.as_slice() == REPLIES.as_bytes())
-    }
-
-    // Whether messages that come at once go out by so many writes, in no more than so many turns.
-    fn writes(
-        &mut self,
-        alloc: Global,
-        stream: &str,
-        pace: Paced,
-        (writes, turns): (usize, u32),
-    ) -> Result<bool, Memory> {
-        let ran = self.run(alloc, &mut reading(stream, 100_000, 1), pace, MAX_TURNS)?;
-        Ok(self.writer.writes == writes && ran.turns <= turns)
-    }
-
-    // Whether it waits for more of its client after this, while no history is answered.
-    fn reads_on(&mut self, alloc: Global, stream: &str) -> Result<bool, Memory> {
-        self.run(alloc, &mut reading(stream, 1000, 1), CHEAP, 1)?;
-        let (mut now, mut pace) = (seconds(), CHEAP);
-        let mut reader = reading("", 1, 0);
-        let wants = self.talk.turn(
-            alloc,
-            &self.routes,
-            &mut reader,
-            &mut self.writer,
-            &mut now,
-            &mut self.book,
-            &mut pace,
-        );
-        Ok(wants == Wants::Read)
-    }
-
     // How many replies there are after ten turns more, which take all that is sent at once.
     fn replies(&mut self, alloc: Global, reader: &mut Incoming, pace: Paced) -> usize {
         let _ = self.run(alloc, reader, pace, 10);
@@ -283,7 +246,9 @@ impl Desk {
 // Whether the stream is answered in these pieces, with no more owed than that and one reply.
 fn is_answered(alloc: Global, size: usize, out: usize, most: usize) -> Result<bool, Memory> {
     let mut desk = new_desk(alloc, most, out)?;
-    desk.answers(alloc, size, most)
+    let ran = desk.run(alloc, &mut reading(STREAM, size, 0), FAR, MAX_TURNS)?;
+    let is_bounded = ran.unsent < most.max(1).saturating_add(300) && ran.turns < MAX_TURNS;
+    Ok(is_bounded && desk.writer.bytes.as_slice() == REPLIES.as_bytes())
 }
 
 // Asked again where a reply may say that memory was refused.
@@ -307,20 +272,22 @@ fn is_written(
     alloc: Global,
     stream: &str,
     pace: Paced,
-    most: (usize, u32),
+    writes: usize,
+    turns: u32,
 ) -> Result<bool, Memory> {
     let mut desk = new_desk(alloc, 1_000_000, 1_000_000)?;
-    desk.writes(alloc, stream, pace, most)
+    let ran = desk.run(alloc, &mut reading(stream, 100_000, 1), pace, MAX_TURNS)?;
+    Ok(desk.writer.writes == writes && ran.turns <= turns)
 }
 
 // Whether 300 messages at once go out by one write a turn, where it takes 64 a turn.
 fn is_written_by_turns(alloc: Global, stream: &str) -> Result<bool, Memory> {
-    is_written(alloc, stream, FAR, (5, 8))
+    is_written(alloc, stream, FAR, 5, 8)
 }
 
 // Whether each of 300 messages has a turn of its own, if a turn goes on with no other.
 fn is_written_one_by_one(alloc: Global, stream: &str) -> Result<bool, Memory> {
-    is_written(alloc, stream, ONE_BY_ONE, (300, MAX_TURNS))
+    is_written(alloc, stream, ONE_BY_ONE, 300, MAX_TURNS)
 }
 
 fn put_messages(stream: &mut String) -> Result<(), Memory> {
@@ -330,9 +297,7 @@ fn put_messages(stream: &mut String) -> Result<(), Memory> {
     Ok(())
 }
 
-fn check_many(rt: &impl Abort, alloc: Global, stream: &mut String) -> Result<(), Fail> {
-    put_messages(stream)?;
-    let stream = stream.as_str();
+fn check_many(rt: &impl Abort, alloc: Global, stream: &str) -> Result<(), Fail> {
     assert!(rt; is_written_by_turns(alloc, stream)? || is_written_by_turns(alloc, stream)?);
     assert!(rt; is_written_one_by_one(alloc, stream)? || is_written_one_by_one(alloc, stream)?);
     Ok(())
@@ -342,7 +307,8 @@ fn check_many(rt: &impl Abort, alloc: Global, stream: &mut String) -> Result<(),
 fn answers_many_at_once(rt: HostRuntime) -> Result<(), Fail> {
     let alloc = rt.alloc();
     let mut stream = String::new(alloc);
-    check_many(&rt, alloc, &mut stream)
+    put_messages(&mut stream)?;
+    check_many(&rt, alloc, stream.as_str())
 }
 
 // A request and a query.
@@ -389,22 +355,17 @@ const TARGETS: &str = "1 /services/web/history
 2 /services/a/b/history
 2 /services/web?/history";
 
-// Whether a query of this target waits, if it is to, while no history is answered; the stream is
-// empty at first.
-fn waits_in(alloc: Global, stream: &mut String, row: &str) -> Result<bool, Memory> {
+// Whether a query of this target waits, if it is to, while no history is answered.
+fn waits_as(alloc: Global, row: &str) -> Result<bool, Memory> {
     let Some((replies, target)) = row.split_once(' ') else {
         return Ok(false);
     };
+    let mut stream = String::new(alloc);
     stream.push_str(BEFORE_HISTORY)?;
     stream.push_str(target)?;
     stream.push_str(AFTER_HISTORY)?;
     let wanted = if replies == "1" { (1, 2) } else { (2, 2) };
     Ok(replies_before_and_after(alloc, stream.as_str(), CHEAP)? == wanted)
-}
-
-fn waits_as(alloc: Global, row: &str) -> Result<bool, Memory> {
-    let mut stream = String::new(alloc);
-    waits_in(alloc, &mut stream, row)
 }
 
 #[test]
@@ -418,7 +379,19 @@ fn histories_wait(rt: HostRuntime) -> Result<(), Fail> {
 // Whether a conversation waits for more of its client after this, while no history is answered.
 fn is_read_on(alloc: Global, stream: &str) -> Result<bool, Memory> {
     let mut desk = new_desk(alloc, 16_384, 1_000)?;
-    desk.reads_on(alloc, stream)
+    desk.run(alloc, &mut reading(stream, 1000, 1), CHEAP, 1)?;
+    let (mut now, mut pace) = (seconds(), CHEAP);
+    let mut reader = reading("", 1, 0);
+    let wants = desk.talk.turn(
+        alloc,
+        &desk.routes,
+        &mut reader,
+        &mut desk.writer,
+        &mut now,
+        &mut desk.book,
+        &mut pace,
+    );
+    Ok(wants == Wants::Read)
 }
 
 // A part of a history does not wait for its turn, so the time for the rest of it goes on.

@@ -31,15 +31,10 @@ fn main(rt: HostRuntime) -> ExitCode {
 // Answers each line of standard input.
 fn answer_all(rt: &HostRuntime) -> io::Result<()> {
     for line in BufReader::new(rt.alloc(), rt.reader())?.lines(rt.alloc()) {
-        answer(rt, line?.as_str())?;
+        let answer = answer_to(rt.alloc(), line?.as_str())?;
+        println!(rt; "{answer}")?;
     }
     Ok(())
-}
-
-// Prints the line for a line.
-fn answer(rt: &HostRuntime, line: &str) -> io::Result<()> {
-    let answer = answer_to(rt.alloc(), line)?;
-    println!(rt; "{answer}")
 }
 
 // The line for a line.
@@ -75,31 +70,15 @@ fn shown(alloc: Global, asked: &Value) -> Result<String, YamlFault> {
 // The documents of a text.
 fn documents(alloc: Global, bytes: &[u8]) -> Result<String, YamlFault> {
     let documents = read_documents(alloc, bytes)?;
-    listed(alloc, documents.as_slice())
-}
-
-// Documents in a list.
-fn listed(alloc: Global, documents: &[Document]) -> Result<String, YamlFault> {
-    let mut text = String::new(alloc);
-    push_documents(alloc, &mut text, documents)?;
-    Ok(text)
-}
-
-// Appends documents, in a list.
-fn push_documents(
-    alloc: Global,
-    text: &mut String,
-    documents: &[Document],
-) -> Result<(), YamlFault> {
-    text.push_str("[")?;
+    let mut text = String::from_str(alloc, "[")?;
     for (index, document) in documents.iter().enumerate() {
         if index > 0 {
             text.push_str(",")?;
         }
-        push_document(alloc, text, document)?;
+        push_document(alloc, &mut text, document)?;
     }
     text.push_str("]")?;
-    Ok(())
+    Ok(text)
 }
 
 // Appends a document: its first line and its value, in a list.
@@ -112,39 +91,22 @@ fn push_document(alloc: Global, text: &mut String, document: &Document) -> Resul
 // The value of a text. The two calls that read it agree on it.
 fn either(alloc: Global, bytes: &[u8]) -> Result<String, YamlFault> {
     let value = read_json_or_yaml(alloc, bytes)?.to_string(alloc)?;
-    if is_read_so(alloc, bytes, value.as_str())? {
-        return Ok(value);
-    }
-    Ok(String::from_str(alloc, "!two values")?)
-}
-
-// Whether a text, if it is JSON, is read as this value.
-fn is_read_so(alloc: Global, bytes: &[u8], value: &str) -> Result<bool, YamlFault> {
     match json_of(alloc, bytes)? {
-        Some(json) => Ok(json.as_str() == value),
-        None => Ok(true),
+        Some(json) if json != value => Ok(String::from_str(alloc, "!two values")?),
+        _ => Ok(value),
     }
 }
 
 // The line and column of a part.
 fn place(alloc: Global, list: &[Value]) -> Result<String, YamlFault> {
-    let mut steps = Vec::new(alloc);
-    let Place { line, column } = place_in(alloc, list, &mut steps)?;
-    Ok(format!(in alloc; "{line}:{column}")?)
-}
-
-// The place of a part, whose steps it appends.
-fn place_in<'a>(
-    alloc: Global,
-    list: &'a [Value],
-    steps: &mut Vec<PathStep<'a>>,
-) -> Result<Place, YamlFault> {
     let text = list.first().and_then(|text| text.as_str()).unwrap_or("");
     let line = list.get(1).and_then(|line| line.as_u64()).unwrap_or(1) as usize;
+    let mut steps = Vec::new(alloc);
     for step in list.iter().skip(2) {
         steps.push(step_of(step))?;
     }
-    place_of(alloc, text.as_bytes(), line, steps.as_slice())
+    let Place { line, column } = place_of(alloc, text.as_bytes(), line, steps.as_slice())?;
+    Ok(format!(in alloc; "{line}:{column}")?)
 }
 
 // The step that this value is: a text is a key, a number is a place of a sequence.
