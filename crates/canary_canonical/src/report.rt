@@ -9,7 +9,7 @@ ghost use Rattle.canary_canonical.specs.Laws.{is_signed_word, keeps_outcome, kee
 
 use canary_condition::outcome::{FailureText, Outcome, Value as Measured};
 use canary_plan::report::Entry;
-use serde_json::{Value, json};
+use serde_json::{Value, json, push};
 use std::alloc::{AllocError, Global};
 
 /// The entry in JSON.
@@ -77,7 +77,7 @@ fn number_values(alloc: Global, numbers: &[i64]) -> Result<Value, AllocError>
 {
     let mut values = Vec::new(alloc);
     for number in numbers {
-        values.push(number_value(*number))?;
+        push(&mut values, number_value(*number))?;
     }
     Ok(Value::Array(values))
 }
