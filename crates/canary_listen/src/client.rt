@@ -45,7 +45,7 @@ pub(crate) enum AfterTurn {
 }
 
 // What a client does in its turn.
-#[derive(Clone, Copy, PartialEq, Eq)]
+#[derive(Clone, Copy, Debug, PartialEq, Eq)]
 pub(crate) enum TurnKind {
     // It sends messages, and takes the replies.
     Both,

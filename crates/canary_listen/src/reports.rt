@@ -8,7 +8,7 @@ use std::net::IpAddr;
 const MAX_LINES_A_SECOND: usize = 64;
 
 // The faults of connections at one address, of one kind.
-#[derive(Clone, Copy)]
+#[derive(Clone, Copy, Debug)]
 struct Line {
     word: &'static str,
     address: IpAddr,

@@ -6,7 +6,7 @@ use crate::limits::Limits;
 use canary_wire::conversation::Cause;
 
 // What a client is waited for.
-#[derive(Clone, Copy, PartialEq, Eq)]
+#[derive(Clone, Copy, Debug, PartialEq, Eq)]
 pub(crate) enum Awaited {
     // The first byte of its next message.
     Message,
@@ -23,7 +23,7 @@ pub(crate) enum Awaited {
 }
 
 // How a client is waited for.
-#[derive(Clone, Copy)]
+#[derive(Clone, Copy, Debug)]
 pub(crate) struct Wait {
     pub(crate) awaited: Awaited,
     // When it began to be waited for so, or its last message was answered, in seconds.
