@@ -13,6 +13,7 @@ with_number_if key (Some n) before = put key (whole_data n) before
 -- with this member
 unfoldable pub with_member : Members → Member → Members
 with_member before (member.Number key n) = put key.now (whole_data n) before
+with_member before (member.LongNumber key n) = put key.now (whole_data n) before
 with_member before (member.NumberOrNull key n) = put key.now (data_or_null whole_data n) before
 with_member before (member.NumberIf key n) = with_number_if key.now n before
 with_member before (member.Text key text) = put key.now (string text.now) before

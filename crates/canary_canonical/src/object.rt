@@ -14,6 +14,8 @@ use std::alloc::{AllocError, Global};
 pub(crate) enum Member<'a> {
     /// A number.
     Number(&'a str, u32),
+    /// A number of 64 bits.
+    LongNumber(&'a str, u64),
     /// A number, or null.
     NumberOrNull(&'a str, Option<u32>),
     /// A number; if there is none, the object has no such member.
@@ -28,11 +30,34 @@ pub(crate) enum Member<'a> {
 pub(crate) fn object_of(alloc: Global, members: &[Member]) -> Result<Value, AllocError>
     ensures { IfOk result (λ value. view value ≡ object (with_members no_members members.now)) }
 {
+    Ok(Value::Object(map_of(alloc, members)?))
+}
+
+/// The object of these members, and of one more under this key.
+pub(crate) fn object_with(
+    alloc: Global,
+    members: &[Member],
+    key: &str,
+    value: Value,
+) -> Result<Value, AllocError>
+    ensures { IfOk result (λ all. view all
+        ≡ object (put key.now (view value) (with_members no_members members.now))) }
+{
+    let mut object = map_of(alloc, members)?;
+    put(&mut object, alloc, key, value)?;
+    Ok(Value::Object(object))
+}
+
+// These members.
+fn map_of(alloc: Global, members: &[Member]) -> Result<Map<String, Value>, AllocError>
+    ensures { IfOk result (λ map. members_view map.entries
+        ≡ with_members no_members members.now) }
+{
     let mut object = Map::new(alloc);
     for member in members {
         put_member(&mut object, alloc, *member)?;
     }
-    Ok(Value::Object(object))
+    Ok(object)
 }
 
 // Puts a member into an object.
@@ -47,6 +72,7 @@ fn put_member(
 {
     match member {
         Member::Number(key, number) => put(object, alloc, key, Value::from(number)),
+        Member::LongNumber(key, number) => put(object, alloc, key, Value::from(number)),
         Member::NumberOrNull(key, number) => put(object, alloc, key, number_or_null(number)),
         Member::NumberIf(key, Some(number)) => put(object, alloc, key, Value::from(number)),
         Member::NumberIf(_, None) => Ok(()),

@@ -8,10 +8,11 @@ ghost use Rattle.canary_plan.specs.Limits.{is_dry_run_name};
 ghost use Rattle.canary_canonical.specs.Texts.{whole_data, data_or_null, list_data, only};
 ghost use Rattle.canary_canonical.specs.Laws.{is_duration, all_of};
 
+use crate::object::object_with;
 use canary_base::durations::Seconds;
 use canary_base::names::Name;
 use canary_plan::template_spec::DryRunName;
-use serde_json::{Value, json, push};
+use serde_json::{Value, push};
 use std::alloc::{AllocError, Global};
 
 /// The number, or null.
@@ -47,7 +48,7 @@ pub fn seconds_or_null(duration: Option<Seconds>) -> Value
 pub fn only(alloc: Global, key: &str, value: Value) -> Result<Value, AllocError>
     ensures { IfOk result (λ object. view object ≡ only key.now (view value)) }
 {
-    json!(in alloc; {key: value})
+    object_with(alloc, &[], key, value)
 }
 
 /// The names of metrics that are dry-run, in order.

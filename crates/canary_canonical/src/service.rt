@@ -9,11 +9,11 @@ ghost use Rattle.canary_canonical.specs.Texts.{step_data, background_data, servi
 ghost use Rattle.canary_canonical.specs.Laws.{is_starting_step, all_of};
 ghost use Rattle.canary_canonical.specs.Laws.{keeps_step, keeps_background, keeps_service};
 
-use crate::object::put_text;
+use crate::object::{Member, object_with, put_text};
 use crate::parts::{names, only, seconds_or_null};
 use canary_plan::service::{Background, ServiceSpec};
 use canary_plan::step::Step;
-use serde_json::{Map, Value, json, push, put};
+use serde_json::{Map, Value, push, put};
 use std::alloc::{AllocError, Global};
 
 /// The service in JSON.
@@ -72,14 +72,15 @@ fn background_or_null(alloc: Global, background: &Option<Background>) -> Result<
 }
 
 // The background analysis in JSON: the step at which it begins, and its templates' names.
-#[tactic(auto, unfolding(crate::specs::Texts::background_data))]
+#[tactic(auto, unfolding(crate::specs::Objects::with_member, crate::specs::Texts::background_data))]
 fn background_value(alloc: Global, background: &Background) -> Result<Value, AllocError>
     ensures value { IfOk result (λ value. view value ≡ background_data background.now) }
     ensures names { IfOk result (λ _. IsTrue (list_all is_name background.now.templates)) }
     ensures step { IfOk result (λ _. IsTrue (is_starting_step background.now.starting_step)) }
 {
+    let members = [Member::Number("startingStep", background.starting_step.get())];
     let templates = names(alloc, background.templates.as_slice())?;
-    json!(in alloc; {"startingStep": background.starting_step.get(), "templates": templates})
+    object_with(alloc, &members, "templates", templates)
 }
 
 // The steps in JSON, in order.
