@@ -1,5 +1,6 @@
 pub mod Items
 mod Members
+mod Values
 mod Kept
 pub mod Regular
 mod Limits

@@ -17,6 +17,7 @@ pub mod command;
 mod direct;
 pub mod form;
 pub mod laws;
+mod object;
 mod parts;
 pub mod plain;
 pub mod reading;

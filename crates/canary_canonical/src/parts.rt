@@ -8,11 +8,11 @@ ghost use Rattle.canary_plan.specs.Limits.{is_dry_run_name};
 ghost use Rattle.canary_canonical.specs.Texts.{whole_data, data_or_null, list_data, only};
 ghost use Rattle.canary_canonical.specs.Laws.{is_duration, all_of};
 
+use crate::object::object_with;
 use canary_base::durations::Seconds;
-use canary_base::lists::Text;
 use canary_base::names::Name;
 use canary_plan::template_spec::DryRunName;
-use serde_json::{Value, json};
+use serde_json::{Value, push};
 use std::alloc::{AllocError, Global};
 
 /// The number, or null.
@@ -25,39 +25,30 @@ pub fn number_or_null(number: Option<u32>) -> Value
     }
 }
 
+/// The seconds of a duration, if there is one.
+pub fn seconds(duration: Option<Seconds>) -> Option<u32>
+    ensures value { result ≡ duration }
+    ensures kept { IsTrue (all_of is_duration duration) }
+{
+    match duration {
+        Some(duration) => Some(duration.get()),
+        None => None,
+    }
+}
+
 /// The duration in seconds, or null.
 pub fn seconds_or_null(duration: Option<Seconds>) -> Value
     ensures value { view result ≡ data_or_null whole_data duration }
     ensures kept { IsTrue (all_of is_duration duration) }
 {
-    match duration {
-        Some(duration) => Value::from(duration.get()),
-        None => Value::Null,
-    }
-}
-
-/// The text, or null.
-pub fn text_or_null(alloc: Global, text: &Option<Text>) -> Result<Value, AllocError>
-    ensures { IfOk result (λ value. view value ≡ data_or_null string text.now) }
-{
-    match text {
-        Some(text) => text_value(alloc, text),
-        None => Ok(Value::Null),
-    }
-}
-
-// The text in JSON.
-fn text_value(alloc: Global, text: &Text) -> Result<Value, AllocError>
-    ensures { IfOk result (λ value. view value ≡ string text.now) }
-{
-    Value::try_from_str(alloc, text.as_str())
+    number_or_null(seconds(duration))
 }
 
 /// An object of this member alone.
 pub fn only(alloc: Global, key: &str, value: Value) -> Result<Value, AllocError>
     ensures { IfOk result (λ object. view object ≡ only key.now (view value)) }
 {
-    json!(in alloc; {key: value})
+    object_with(alloc, &[], key, value)
 }
 
 /// The names of metrics that are dry-run, in order.
@@ -67,7 +58,7 @@ pub fn dry_run_names(alloc: Global, names: &[DryRunName]) -> Result<Value, Alloc
 {
     let mut values = Vec::new(alloc);
     for name in names {
-        values.push(dry_run_name_value(alloc, name)?)?;
+        push(&mut values, dry_run_name_value(alloc, name)?)?;
     }
     Ok(Value::Array(values))
 }
@@ -87,7 +78,7 @@ pub fn names(alloc: Global, names: &[Name]) -> Result<Value, AllocError>
 {
     let mut values = Vec::new(alloc);
     for name in names {
-        values.push(name_value(alloc, name)?)?;
+        push(&mut values, name_value(alloc, name)?)?;
     }
     Ok(Value::Array(values))
 }

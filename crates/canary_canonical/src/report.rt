@@ -7,9 +7,10 @@ ghost use Rattle.canary_canonical.specs.Texts.{signed_data, list_data, result_da
 ghost use Rattle.canary_canonical.specs.Texts.{measured, failed, entry_data};
 ghost use Rattle.canary_canonical.specs.Laws.{is_signed_word, keeps_outcome, keeps_entry};
 
+use crate::object::{Member, object_of, object_with};
 use canary_condition::outcome::{FailureText, Outcome, Value as Measured};
 use canary_plan::report::Entry;
-use serde_json::{Value, json};
+use serde_json::{Value, push};
 use std::alloc::{AllocError, Global};
 
 /// The entry in JSON.
@@ -25,6 +26,7 @@ pub(crate) fn entry_value(alloc: Global, entry: &Entry) -> Result<Value, AllocEr
 }
 
 // The entry, with this result.
+#[tactic(auto, unfolding(crate::specs::Objects::with_member))]
 fn measured_value(alloc: Global, entry: &Entry, outcome: Measured) -> Result<Value, AllocError>
     ensures value { IfOk result (λ value. view value
         ≡ measured entry.now.metric entry.now.ordinal entry.now.taken outcome) }
@@ -32,30 +34,35 @@ fn measured_value(alloc: Global, entry: &Entry, outcome: Measured) -> Result<Val
     ensures taken { IfOk result (λ _. IsTrue (nat_le entry.now.taken 253370764799)) }
     ensures kept { IfOk result (λ _. IsTrue (keeps_outcome (Outcome.Result outcome))) }
 {
+    let members = [
+        Member::Text("metric", entry.metric.as_str()),
+        Member::Number("ordinal", entry.ordinal),
+        Member::LongNumber("taken", entry.taken.get()),
+    ];
     let result = result_value(alloc, outcome)?;
-    json!(in alloc; {
-        "metric": entry.metric.as_str(),
-        "ordinal": entry.ordinal,
-        "result": result,
-        "taken": entry.taken.get()
-    })
+    object_with(alloc, &members, "result", result)
 }
 
 // The entry, with this failure.
-#[tactic(auto, unfolding(crate::specs::Laws::keeps_outcome))]
-fn failed_value(alloc: Global, entry: &Entry, text: &FailureText) -> Result<Value, AllocError>
+#[tactic(auto, unfolding(crate::specs::Objects::with_member, crate::specs::Laws::keeps_outcome))]
+fn failed_value<'a>(
+    alloc: Global,
+    entry: &'a Entry,
+    text: &'a FailureText,
+) -> Result<Value, AllocError>
     ensures value { IfOk result (λ value. view value
         ≡ failed entry.now.metric entry.now.ordinal entry.now.taken text.now) }
     ensures metric { IfOk result (λ _. IsTrue (is_label entry.now.metric)) }
     ensures taken { IfOk result (λ _. IsTrue (nat_le entry.now.taken 253370764799)) }
     ensures kept { IfOk result (λ _. IsTrue (keeps_outcome (Outcome.Failure text.now))) }
 {
-    json!(in alloc; {
-        "failure": text.as_str(),
-        "metric": entry.metric.as_str(),
-        "ordinal": entry.ordinal,
-        "taken": entry.taken.get()
-    })
+    let members = [
+        Member::Text("failure", text.as_str()),
+        Member::Text("metric", entry.metric.as_str()),
+        Member::Number("ordinal", entry.ordinal),
+        Member::LongNumber("taken", entry.taken.get()),
+    ];
+    object_of(alloc, &members)
 }
 
 // The result in JSON: a number, or a list of numbers.
@@ -77,15 +84,15 @@ fn number_values(alloc: Global, numbers: &[i64]) -> Result<Value, AllocError>
 {
     let mut values = Vec::new(alloc);
     for number in numbers {
-        values.push(number_value(*number))?;
+        push(&mut values, number_value(number))?;
     }
     Ok(Value::Array(values))
 }
 
 // The number in JSON. Its contract recalls for the prover that it has 64 bits with its sign.
-fn number_value(number: i64) -> Value
-    ensures value { view result ≡ signed_data number }
-    ensures kept { IsTrue (is_signed_word number) }
+fn number_value(number: &i64) -> Value
+    ensures value { view result ≡ signed_data number.now }
+    ensures kept { IsTrue (is_signed_word number.now) }
 {
-    Value::from(number)
+    Value::from(*number)
 }

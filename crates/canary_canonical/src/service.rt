@@ -1,17 +1,19 @@
 //! Services in JSON.
-ghost use Rattle.std.specs.Prelude.{◌≡◌, IsTrue, IfOk};
+ghost use Rattle.std.specs.Prelude.{◌≡◌, IsTrue, IfOk, OnOk, codes};
 ghost use Rattle.std.specs.List.{list_all};
 ghost use Rattle.canary_base.specs.Names.{is_name};
-ghost use Rattle.serde_json.specs.View.{view};
+ghost use Rattle.serde_json.specs.Data.{put};
+ghost use Rattle.serde_json.specs.View.{view, members_view};
 ghost use Rattle.canary_canonical.specs.Texts.{data_or_null, list_data};
 ghost use Rattle.canary_canonical.specs.Texts.{step_data, background_data, service_data};
 ghost use Rattle.canary_canonical.specs.Laws.{is_starting_step, all_of};
 ghost use Rattle.canary_canonical.specs.Laws.{keeps_step, keeps_background, keeps_service};
 
+use crate::object::{Member, object_with, put_text};
 use crate::parts::{names, only, seconds_or_null};
 use canary_plan::service::{Background, ServiceSpec};
 use canary_plan::step::Step;
-use serde_json::{Value, json};
+use serde_json::{Map, Value, push, put};
 use std::alloc::{AllocError, Global};
 
 /// The service in JSON.
@@ -20,14 +22,40 @@ pub fn service_value(alloc: Global, service: &ServiceSpec) -> Result<Value, Allo
     ensures value { IfOk result (λ value. view value ≡ service_data service.now) }
     ensures kept { IfOk result (λ _. IsTrue (keeps_service service.now)) }
 {
-    let background = background_or_null(alloc, &service.background)?;
-    let steps = step_values(alloc, service.steps.as_slice())?;
-    json!(in alloc; {
-        "analysis": background,
-        "name": service.name.as_str(),
-        "steps": steps,
-        "version": service.version.as_str()
-    })
+    let mut object = Map::new(alloc);
+    put_background(&mut object, alloc, &service.background)?;
+    put_text(&mut object, alloc, "name", service.name.as_str())?;
+    put_steps(&mut object, alloc, service.steps.as_slice())?;
+    put_text(&mut object, alloc, "version", service.version.as_str())?;
+    Ok(Value::Object(object))
+}
+
+// Puts the background analysis into an object, or null if the service has no such analysis.
+fn put_background(
+    object: &mut Map<String, Value>,
+    alloc: Global,
+    background: &Option<Background>,
+) -> Result<(), AllocError>
+    ensures value { OnOk result (members_view object.new.entries ≡ put (codes "analysis")
+        (data_or_null background_data background.now) (members_view object.old.entries)) }
+    ensures kept { OnOk result (IsTrue (all_of keeps_background background.now)) }
+{
+    let value = background_or_null(alloc, background)?;
+    put(object, alloc, "analysis", value)
+}
+
+// Puts the steps into an object.
+fn put_steps(
+    object: &mut Map<String, Value>,
+    alloc: Global,
+    steps: &[Step],
+) -> Result<(), AllocError>
+    ensures value { OnOk result (members_view object.new.entries ≡ put (codes "steps")
+        (list_data step_data steps.now) (members_view object.old.entries)) }
+    ensures kept { OnOk result (IsTrue (list_all keeps_step steps.now)) }
+{
+    let value = step_values(alloc, steps)?;
+    put(object, alloc, "steps", value)
 }
 
 // The background analysis in JSON, or null if the service has no such analysis.
@@ -44,14 +72,15 @@ fn background_or_null(alloc: Global, background: &Option<Background>) -> Result<
 }
 
 // The background analysis in JSON: the step at which it begins, and its templates' names.
-#[tactic(auto, unfolding(crate::specs::Texts::background_data))]
+#[tactic(auto, unfolding(crate::specs::Objects::with_member, crate::specs::Texts::background_data))]
 fn background_value(alloc: Global, background: &Background) -> Result<Value, AllocError>
     ensures value { IfOk result (λ value. view value ≡ background_data background.now) }
     ensures names { IfOk result (λ _. IsTrue (list_all is_name background.now.templates)) }
     ensures step { IfOk result (λ _. IsTrue (is_starting_step background.now.starting_step)) }
 {
+    let members = [Member::Number("startingStep", background.starting_step.get())];
     let templates = names(alloc, background.templates.as_slice())?;
-    json!(in alloc; {"startingStep": background.starting_step.get(), "templates": templates})
+    object_with(alloc, &members, "templates", templates)
 }
 
 // The steps in JSON, in order.
@@ -61,7 +90,7 @@ fn step_values(alloc: Global, steps: &[Step]) -> Result<Value, AllocError>
 {
     let mut values = Vec::new(alloc);
     for step in steps {
-        values.push(step_value(alloc, step)?)?;
+        push(&mut values, step_value(alloc, step)?)?;
     }
     Ok(Value::Array(values))
 }

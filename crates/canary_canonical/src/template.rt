@@ -1,14 +1,16 @@
 //! Templates in JSON.
-ghost use Rattle.std.specs.Prelude.{◌≡◌, IsTrue, IfOk, Some, None};
+ghost use Rattle.std.specs.Prelude.{◌≡◌, IsTrue, IfOk, OnOk, codes};
 ghost use Rattle.std.specs.List.{list_all};
-ghost use Rattle.serde_json.specs.View.{view};
-ghost use Rattle.canary_canonical.specs.Texts.{list_data, metric_data, metric_data_with};
-ghost use Rattle.canary_canonical.specs.Texts.{template_data};
+ghost use Rattle.serde_json.specs.Data.{string, put};
+ghost use Rattle.serde_json.specs.View.{view, members_view};
+ghost use Rattle.canary_plan.specs.Limits.{is_dry_run_name};
+ghost use Rattle.canary_canonical.specs.Texts.{list_data, metric_data, template_data};
 ghost use Rattle.canary_canonical.specs.Laws.{keeps_metric, keeps_template};
 
-use crate::parts::{dry_run_names, number_or_null, seconds_or_null, text_or_null};
-use canary_plan::template_spec::{MetricSpec, TemplateSpec};
-use serde_json::{Value, json};
+use crate::object::{Member, object_of, put_text};
+use crate::parts::{dry_run_names, seconds};
+use canary_plan::template_spec::{DryRunName, MetricSpec, TemplateSpec};
+use serde_json::{Map, Value, push, put};
 use std::alloc::{AllocError, Global};
 
 /// The template in JSON.
@@ -17,9 +19,39 @@ pub fn template_value(alloc: Global, template: &TemplateSpec) -> Result<Value, A
     ensures value { IfOk result (λ value. view value ≡ template_data template.now) }
     ensures kept { IfOk result (λ _. IsTrue (keeps_template template.now)) }
 {
-    let dry_run = dry_run_names(alloc, template.dry_run.as_slice())?;
-    let metrics = metric_values(alloc, template.metrics.as_slice())?;
-    json!(in alloc; {"dryRun": dry_run, "metrics": metrics, "name": template.name.as_str()})
+    let mut object = Map::new(alloc);
+    put_dry_run(&mut object, alloc, template.dry_run.as_slice())?;
+    put_metrics(&mut object, alloc, template.metrics.as_slice())?;
+    put_text(&mut object, alloc, "name", template.name.as_str())?;
+    Ok(Value::Object(object))
+}
+
+// Puts the names of the metrics that are dry-run into an object.
+fn put_dry_run(
+    object: &mut Map<String, Value>,
+    alloc: Global,
+    names: &[DryRunName],
+) -> Result<(), AllocError>
+    ensures value { OnOk result (members_view object.new.entries ≡ put (codes "dryRun")
+        (list_data string names.now) (members_view object.old.entries)) }
+    ensures kept { OnOk result (IsTrue (list_all is_dry_run_name names.now)) }
+{
+    let value = dry_run_names(alloc, names)?;
+    put(object, alloc, "dryRun", value)
+}
+
+// Puts the metrics of a template into an object.
+fn put_metrics(
+    object: &mut Map<String, Value>,
+    alloc: Global,
+    metrics: &[MetricSpec],
+) -> Result<(), AllocError>
+    ensures value { OnOk result (members_view object.new.entries ≡ put (codes "metrics")
+        (list_data metric_data metrics.now) (members_view object.old.entries)) }
+    ensures kept { OnOk result (IsTrue (list_all keeps_metric metrics.now)) }
+{
+    let value = metric_values(alloc, metrics)?;
+    put(object, alloc, "metrics", value)
 }
 
 // The metrics of a template in JSON, in order.
@@ -29,63 +61,28 @@ fn metric_values(alloc: Global, metrics: &[MetricSpec]) -> Result<Value, AllocEr
 {
     let mut values = Vec::new(alloc);
     for metric in metrics {
-        values.push(metric_value(alloc, metric)?)?;
+        push(&mut values, metric_value(alloc, metric)?)?;
     }
     Ok(Value::Array(values))
 }
 
 // The metric in JSON, which has the member `passAfter` only if that was given.
+#[tactic(auto, unfolding(crate::specs::Objects::with_member, crate::specs::Texts::metric_data_with, crate::specs::Laws::keeps_metric))]
 fn metric_value(alloc: Global, metric: &MetricSpec) -> Result<Value, AllocError>
     ensures value { IfOk result (λ value. view value ≡ metric_data metric.now) }
     ensures kept { IfOk result (λ _. IsTrue (keeps_metric metric.now)) }
 {
-    match metric.pass_after {
-        None => value_without_passes(alloc, metric),
-        Some(passes) => value_with_passes(alloc, metric, passes),
-    }
-}
-
-// The metric in JSON, with this number as its member `passAfter`.
-#[tactic(auto, unfolding(crate::specs::Texts::metric_data_with, crate::specs::Laws::keeps_metric))]
-fn value_with_passes(alloc: Global, metric: &MetricSpec, passes: u32) -> Result<Value, AllocError>
-    ensures value { IfOk result (λ value. view value ≡ metric_data_with (Some passes) metric.now) }
-    ensures kept { IfOk result (λ _. IsTrue (keeps_metric metric.now)) }
-{
-    let success = text_or_null(alloc, &metric.success)?;
-    let failure = text_or_null(alloc, &metric.failure)?;
-    let interval = seconds_or_null(metric.interval);
-    let name = metric.name.as_str();
-    json!(in alloc; {
-        "consecutiveErrorLimit": metric.consecutive_error_limit,
-        "count": number_or_null(metric.count),
-        "failureCondition": failure,
-        "failureLimit": metric.failure_limit,
-        "inconclusiveLimit": metric.inconclusive_limit,
-        "initialDelay": metric.initial_delay.get(),
-        "interval": interval,
-        "name": name,
-        "passAfter": passes,
-        "successCondition": success
-    })
-}
-
-// The metric in JSON, without the member `passAfter`.
-#[tactic(auto, unfolding(crate::specs::Texts::metric_data_with, crate::specs::Laws::keeps_metric))]
-fn value_without_passes(alloc: Global, metric: &MetricSpec) -> Result<Value, AllocError>
-    ensures value { IfOk result (λ value. view value ≡ metric_data_with None metric.now) }
-    ensures kept { IfOk result (λ _. IsTrue (keeps_metric metric.now)) }
-{
-    let success = text_or_null(alloc, &metric.success)?;
-    let failure = text_or_null(alloc, &metric.failure)?;
-    json!(in alloc; {
-        "consecutiveErrorLimit": metric.consecutive_error_limit,
-        "count": number_or_null(metric.count),
-        "failureCondition": failure,
-        "failureLimit": metric.failure_limit,
-        "inconclusiveLimit": metric.inconclusive_limit,
-        "initialDelay": metric.initial_delay.get(),
-        "interval": seconds_or_null(metric.interval),
-        "name": metric.name.as_str(),
-        "successCondition": success
-    })
+    let members = [
+        Member::Number("consecutiveErrorLimit", metric.consecutive_error_limit),
+        Member::NumberOrNull("count", metric.count),
+        Member::TextOrNull("failureCondition", &metric.failure),
+        Member::Number("failureLimit", metric.failure_limit),
+        Member::Number("inconclusiveLimit", metric.inconclusive_limit),
+        Member::Number("initialDelay", metric.initial_delay.get()),
+        Member::NumberOrNull("interval", seconds(metric.interval)),
+        Member::Text("name", metric.name.as_str()),
+        Member::NumberIf("passAfter", metric.pass_after),
+        Member::TextOrNull("successCondition", &metric.success),
+    ];
+    object_of(alloc, &members)
 }

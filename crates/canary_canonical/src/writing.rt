@@ -8,6 +8,7 @@ ghost use Rattle.canary_canonical.specs.Readings.{canonical_in};
 ghost use Rattle.canary_canonical.specs.Laws.{KeepsLimits, keeps_template, keeps_service};
 
 use crate::direct::{named_text, report_text};
+use crate::object::{Member, object_of};
 use crate::parts::only;
 use crate::service::service_value;
 use crate::template::template_value;
@@ -17,7 +18,7 @@ use canary_base::names::{Label, Name};
 use canary_plan::command::Command;
 use canary_plan::service::ServiceSpec;
 use canary_plan::template_spec::TemplateSpec;
-use serde_json::{Value, json};
+use serde_json::Value;
 use std::alloc::{AllocError, Global};
 
 /// The canonical text of a command, or `Memory`: JSON with no space, the members of each object in
@@ -85,10 +86,14 @@ fn start_text(alloc: Global, service: &Name, version: &Label) -> Result<String, 
 }
 
 // The parts of a start in JSON: the service, and the version to release.
-#[tactic(auto, unfolding(crate::specs::Texts::start_data))]
+#[tactic(auto, unfolding(crate::specs::Objects::with_member, crate::specs::Texts::start_data))]
 fn start_value(alloc: Global, service: &Name, version: &Label) -> Result<Value, AllocError>
     ensures value { IfOk result (λ value. view value ≡ start_data service.now version.now) }
     ensures kept { IfOk result (λ _. IsTrue (is_name service.now) × IsTrue (is_label version.now)) }
 {
-    json!(in alloc; {"service": service.as_str(), "version": version.as_str()})
+    let members = [
+        Member::Text("service", service.as_str()),
+        Member::Text("version", version.as_str()),
+    ];
+    object_of(alloc, &members)
 }

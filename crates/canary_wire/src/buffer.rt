@@ -11,7 +11,7 @@ use std::io::{ErrorKind, Read};
 const ROOM: usize = 81_920;
 
 // Why a read gave nothing.
-#[derive(Clone, Copy, Debug, PartialEq, Eq)]
+#[derive(Clone, Copy)]
 pub(crate) enum ReadFault {
     // Nothing can be read now, or the reader was interrupted.
     NotNow,

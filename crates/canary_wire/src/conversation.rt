@@ -411,7 +411,7 @@ impl Conversation {
 }
 
 // What came of one step.
-#[derive(Clone, Copy, Debug, PartialEq, Eq)]
+#[derive(Clone, Copy, PartialEq, Eq)]
 pub(crate) enum StepResult {
     // A message was answered, and the next may be held whole.
     Answered,

@@ -15,7 +15,7 @@ pub(crate) const MAX_HEAD: usize = 16_384;
 const MAX_LINES: usize = 64;
 
 // Where the parts of a message are, and what its head asks of the reply.
-#[derive(Clone, Copy, Debug)]
+#[derive(Clone, Copy)]
 pub(crate) struct MessageSpans {
     pub method: Span,
     pub target: Span,
@@ -31,7 +31,7 @@ pub(crate) struct MessageSpans {
 
 // What stands first: a message, a rejection that ends the stream, with whether its reply is its
 // head alone, or less than either.
-#[derive(Clone, Copy, Debug)]
+#[derive(Clone, Copy)]
 pub(crate) enum FirstMessage {
     Message(MessageSpans),
     Rejected(Rejection, bool),

@@ -17,14 +17,14 @@ use httparse::spans::{HeaderSpan, Span};
 pub(crate) const MAX_BODY: usize = 65_536;
 
 // How long a body is, or why its head is rejected.
-#[derive(Clone, Copy, Debug, PartialEq, Eq)]
+#[derive(Clone, Copy)]
 pub(crate) enum Framing {
     Body(usize),
     Rejected(Rejection),
 }
 
 // The values of the fields of one name: none, one, or more.
-#[derive(Clone, Copy, Debug)]
+#[derive(Clone, Copy)]
 pub(crate) enum FramingFields {
     Zero,
     One(Span),

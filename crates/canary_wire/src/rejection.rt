@@ -6,14 +6,14 @@ ghost use Rattle.canary_wire.specs.ReplyTexts.{allow_line, rejection_status, rej
 use http::StatusCode;
 
 // The only method of a route.
-#[derive(Clone, Copy, Debug, PartialEq, Eq)]
+#[derive(Clone, Copy)]
 pub(crate) enum Allowed {
     Put,
     Get,
 }
 
 // Why a message is rejected before the register is asked.
-#[derive(Clone, Copy, Debug, PartialEq, Eq)]
+#[derive(Clone, Copy)]
 pub(crate) enum Rejection {
     // No head of a request, or a `Content-Length` twice or that is no number.
     Malformed,

@@ -18,7 +18,7 @@ use std::alloc::Global;
 use std::str;
 
 // What a route leads to.
-#[derive(Clone, Copy, Debug, PartialEq, Eq)]
+#[derive(Clone, Copy)]
 pub(crate) enum Route {
     // A caller's request.
     Request,

@@ -55,7 +55,7 @@ pub enum ServeFault {
 }
 
 // Whether a stream goes on.
-#[derive(Clone, Copy, Debug, PartialEq, Eq)]
+#[derive(Clone, Copy)]
 pub(crate) enum Turn {
     Continues,
     Ends,
@@ -115,7 +115,7 @@ pub fn serve<R: Read, W: Write, C: Clock, B: Book>(
 }
 
 // Why the turns of a stream ended early.
-#[derive(Clone, Copy, Debug, PartialEq, Eq)]
+#[derive(Clone, Copy)]
 pub(crate) enum TurnFault {
     Read,
     Write,

@@ -1,9 +1,11 @@
 //! What each command does to a service that was passed to a moment, and why it is refused.
-ghost use Rattle.std.specs.Prelude.{◌≡◌, ◌+◌, ◌<◌, ◌≤◌, false, length, Ok, IfOk, IsTrue};
+ghost use Rattle.std.specs.Prelude.{◌≡◌, ◌+◌, ◌<◌, ◌≤◌, false, length, Ok, IfOk, IsTrue, MatchResult, Some, None};
 ghost use Rattle.canary_plan.specs.declared.command.Command.TheVariants as command_of;
 ghost use Rattle.canary_release.specs.Services.{is_in_progress};
 ghost use Rattle.std.specs.FinMap.{get};
+ghost use Rattle.canary_plan.specs.PlanRefusals.{bound_refusal};
 ghost use Rattle.canary_plan.specs.Plans.{bound_of, no_templates, are_fit};
+ghost use Rattle.canary_plan.specs.Refusals.{or_refusal};
 ghost use Rattle.canary_release.specs.Rules.Commands.{is_spent, start_refusal_at, retry_refusal_at};
 ghost use Rattle.canary_release.specs.Rules.Commands.{start_refusal, retry_refusal};
 ghost use Rattle.canary_release.specs.Rules.Commands.{promote_refusal, progress_refusal, begun};
@@ -153,18 +155,47 @@ fn start(
     ensures made { IfOk result (λ acted. IfOk acted (λ r. run_total r.transition ≤ 1000002)) }
 {
     recall_bounds(&transition);
-    let bound = match transition.service.strategy.bind(alloc, templates) {
-        Ok(bound) => bound,
-        Err(CheckFault::Refused(refusal)) => return Ok(Err(refusal)),
-        Err(CheckFault::Memory) => return Err(Memory),
-    };
-    match start_refusal(&transition, version) {
-        Some(refusal) => Ok(Err(refusal)),
-        None => Ok(Ok(CommandResult::to(transition.start(alloc, templates, bound, at, version)?))),
+    let refusal = start_refusal(&transition, version);
+    match bound_for(alloc, templates, &transition, refusal)? {
+        Ok(bound) => {
+            Ok(Ok(CommandResult::to(transition.start(alloc, templates, bound, at, version)?)))
+        }
+        Err(refusal) => Ok(Err(refusal)),
     }
 }
 
-// Why a Start of that version is refused; the caller binds the strategy first.
+// What these templates bind the strategy to, or why the command is refused: that the strategy
+// cannot be bound comes before this refusal.
+fn bound_for(
+    alloc: Global,
+    templates: &Templates,
+    transition: &Transition,
+    refusal: Option<Refusal>,
+) -> Result<Result<Bound, Refusal>, Memory>
+    ensures { let known = get templates.now in let strategy = transition.now.service.strategy
+        in IfOk result (λ bound. MatchResult bound
+        (λ b. (refusal ≡ None) × (bound_refusal known strategy ≡ None)
+        × (b ≡ bound_of known strategy))
+        (λ r. or_refusal (bound_refusal known strategy) refusal ≡ Some r)) }
+{
+    match transition.service.strategy.bind(alloc, templates) {
+        Ok(bound) => Ok(unless_refused(refusal, bound)),
+        Err(CheckFault::Refused(refusal)) => Ok(Err(refusal)),
+        Err(CheckFault::Memory) => Err(Memory),
+    }
+}
+
+// What a strategy is bound to, unless the command is refused.
+fn unless_refused(refusal: Option<Refusal>, bound: Bound) -> Result<Bound, Refusal>
+    ensures { MatchResult result (λ b. (refusal ≡ None) × (b ≡ bound)) (λ r. refusal ≡ Some r) }
+{
+    match refusal {
+        Some(refusal) => Err(refusal),
+        None => Ok(bound),
+    }
+}
+
+// Why a Start of that version is refused, beside that its strategy cannot be bound.
 fn start_refusal(transition: &Transition, version: Label) -> Option<Refusal>
     ensures { result ≡ start_refusal_at (evolution_of transition.now) version }
 {
@@ -201,18 +232,14 @@ fn retry(
     ensures made { IfOk result (λ acted. IfOk acted (λ r. run_total r.transition ≤ 1000002)) }
 {
     recall_bounds(&transition);
-    let bound = match transition.service.strategy.bind(alloc, templates) {
-        Ok(bound) => bound,
-        Err(CheckFault::Refused(refusal)) => return Ok(Err(refusal)),
-        Err(CheckFault::Memory) => return Err(Memory),
-    };
-    match retry_refusal(&transition) {
-        Some(refusal) => Ok(Err(refusal)),
-        None => Ok(Ok(CommandResult::to(transition.retry(alloc, templates, bound, at)?))),
+    let refusal = retry_refusal(&transition);
+    match bound_for(alloc, templates, &transition, refusal)? {
+        Ok(bound) => Ok(Ok(CommandResult::to(transition.retry(alloc, templates, bound, at)?))),
+        Err(refusal) => Ok(Err(refusal)),
     }
 }
 
-// Why a Retry is refused; the caller binds the strategy first.
+// Why a Retry is refused, beside that its strategy cannot be bound.
 fn retry_refusal(transition: &Transition) -> Option<Refusal>
     ensures { result ≡ retry_refusal_at (evolution_of transition.now) }
 {
