@@ -26,11 +26,7 @@ pub(crate) fn list<D: Disk>(alloc: Global, files: &mut Unopened<D>) -> Result<()
 }
 
 // The same of the rows of sqlite_schema, without their root pages.
-fn list_rows<D: Disk>(
-    alloc: Global,
-    files: &mut Unopened<D>,
-    rows: &[Row],
-) -> Result<(), OpenError>
+fn list_rows<D: Disk>(alloc: Global, files: &mut Unopened<D>, rows: &[Row]) -> Result<(), OpenError>
     requires { AreUsable files.old }
     ensures { OnOk result (AreUsable files.new) }
 {
