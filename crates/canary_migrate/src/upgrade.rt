@@ -6,7 +6,8 @@ use canary_tables_file::connect::connect;
 use canary_tables_read::meta::{MetaRow, desk_row};
 use canary_tables_schema::fault::fault_of;
 use canary_tables_schema::recognize::is_desk;
-use sqlite::{Connection, Error, ErrorCode, File, FileStore};
+use sqlite::{Alter, Connection, Error, ErrorCode, File, FileStore};
+use std::alloc::Global;
 
 /// Makes the file of SQLite at a path, which is a desk's of the first schema, one of the present
 /// schema (`migrate`), and answers true; false if it is one already, of which nothing is changed.
@@ -24,17 +25,53 @@ pub fn upgrade<G: JudgingProgress>(
     path: &str,
     progress: &mut G,
 ) -> Result<bool, TableFault> {
-    let mut conn = connect(rt, path).map_err(open_fault)?;
-    if is_current(&mut conn)? {
-        return Ok(false);
+    match connect(rt, path) {
+        Ok(conn) => upgrade_file(rt.alloc(), conn, progress),
+        Err(error) => Err(open_fault(error)),
     }
-    let conn = migrate(rt.alloc(), conn, progress).map_err(|(fault, _left)| fault)?;
-    closed(conn)
+}
+
+// The same of a file that is open, which is closed.
+fn upgrade_file<G: JudgingProgress>(
+    alloc: Global,
+    conn: Connection<FileStore<File>>,
+    progress: &mut G,
+) -> Result<bool, TableFault> {
+    match migrate_unless_current(alloc, conn, progress) {
+        Ok(Some(conn)) => closed(conn),
+        Ok(None) => Ok(false),
+        Err(fault) => Err(fault),
+    }
+}
+
+// Migrates a database, unless it is of the present schema: then there is no connection.
+fn migrate_unless_current<S: Alter + Drop, G: JudgingProgress>(
+    alloc: Global,
+    mut conn: Connection<S>,
+    progress: &mut G,
+) -> Result<Option<Connection<S>>, TableFault> {
+    match is_current(&mut conn) {
+        Ok(true) => Ok(None),
+        Ok(false) => migrated(alloc, conn, progress),
+        Err(fault) => Err(fault),
+    }
+}
+
+// Migrates a database.
+fn migrated<S: Alter + Drop, G: JudgingProgress>(
+    alloc: Global,
+    conn: Connection<S>,
+    progress: &mut G,
+) -> Result<Option<Connection<S>>, TableFault> {
+    match migrate(alloc, conn, progress) {
+        Ok(conn) => Ok(Some(conn)),
+        Err((fault, _)) => Err(fault),
+    }
 }
 
 // Whether the tables are a desk's of the present schema. Without its row of meta they are of no
 // schema; with others beside it they are none that a desk leaves.
-fn is_current(conn: &mut Connection<FileStore<File>>) -> Result<bool, TableFault> {
+fn is_current<S: Alter>(conn: &mut Connection<S>) -> Result<bool, TableFault> {
     if !conn.is_autocommit() || !is_desk(conn.schema()) {
         return Ok(false);
     }

@@ -15,6 +15,7 @@ use canary_tables_schema::fault::fault_of;
 use canary_tables_schema::recognize::is_empty;
 use canary_tables_schema::reopen::open_desk;
 use sqlite::{Alter, Connection, Error, ErrorCode, File, FileStore};
+use std::alloc::Global;
 
 impl TableBook<FileStore<File>> {
     /// Opens the file of SQLite at a path as a book, or makes it (`connect` of canary_tables_file).
@@ -50,7 +51,7 @@ fn open_desk_file<G: JudgingProgress>(
     progress: &mut G,
 ) -> Result<Option<TableBook<FileStore<File>>>, TableFault> {
     match open_store(rt, path) {
-        Ok(Some(store)) => adopt_store(rt, store, progress),
+        Ok(Some(store)) => adopt_store(rt.alloc(), store, progress),
         Ok(None) => Ok(None),
         Err(error) => Err(open_fault(error)),
     }
@@ -58,23 +59,23 @@ fn open_desk_file<G: JudgingProgress>(
 
 // Makes the book of a store that was just opened, if it has a desk's tables.
 fn adopt_store<S: Alter + Drop, G: JudgingProgress>(
-    rt: &HostRuntime,
+    alloc: Global,
     store: S,
     progress: &mut G,
 ) -> Result<Option<TableBook<S>>, TableFault>
     requires { IsClean (S.Store.view store) → IsFresh (S.Store.view store) }
 {
-    match open_desk(rt.alloc(), store) {
-        Ok(Some((conn, is_whole))) => adopt_connection(rt, conn, is_whole, progress),
+    match open_desk(alloc, store) {
+        Ok(Some((conn, is_whole))) => adopt_connection(alloc, conn, is_whole, progress),
         Ok(None) => Ok(None),
         Err(fault) => Err(fault.into()),
     }
 }
 
-// Gives a connection a clock, and makes the book of its database, which has a desk's tables.
+// Makes the book of a connection to a database that has a desk's tables.
 fn adopt_connection<S: Alter + Drop, G: JudgingProgress>(
-    rt: &HostRuntime,
-    mut conn: Connection<S>,
+    alloc: Global,
+    conn: Connection<S>,
     is_whole: bool,
     progress: &mut G,
 ) -> Result<Option<TableBook<S>>, TableFault>
@@ -83,8 +84,7 @@ fn adopt_connection<S: Alter + Drop, G: JudgingProgress>(
     requires whole { IsUsable (state S.Store conn)
         → (IsTrue is_whole ↔ HasWholeTallies (state S.Store conn).now) }
 {
-    conn.set_clock(rt);
-    match TableBook::adopt_opened(rt.alloc(), conn, is_whole, progress) {
+    match TableBook::adopt_opened(alloc, conn, is_whole, progress) {
         Ok(book) => Ok(Some(book)),
         Err((fault, _)) => Err(fault),
     }
@@ -96,11 +96,28 @@ fn open_file<G: JudgingProgress>(
     path: &str,
     progress: &mut G,
 ) -> Result<TableBook<FileStore<File>>, TableFault> {
-    let conn = connect(rt, path).map_err(open_fault)?;
-    if is_empty(conn.schema()) {
-        return TableBook::create(rt.alloc(), conn).map_err(|(fault, _conn)| fault);
+    match connect(rt, path) {
+        Ok(conn) => book_of(rt.alloc(), conn, progress),
+        Err(error) => Err(open_fault(error)),
     }
-    TableBook::adopt(rt.alloc(), conn, progress).map_err(|(fault, _left)| fault)
+}
+
+// The book of a database that was just opened: an empty one becomes a desk's, any other is adopted.
+fn book_of<S: Alter + Drop, G: JudgingProgress>(
+    alloc: Global,
+    conn: Connection<S>,
+    progress: &mut G,
+) -> Result<TableBook<S>, TableFault> {
+    if is_empty(conn.schema()) {
+        TableBook::create(alloc, conn).map_err(fault_alone)
+    } else {
+        TableBook::adopt(alloc, conn, progress).map_err(fault_alone)
+    }
+}
+
+// Why there is no book, without what is left of the connection.
+fn fault_alone<L: Drop>(failed: (TableFault, L)) -> TableFault {
+    failed.0
 }
 
 // Why a file could not be opened.

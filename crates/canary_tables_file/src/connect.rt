@@ -1,5 +1,5 @@
 //! Opening the file at a path as a database of SQLite.
-ghost use Rattle.std.specs.Prelude.{codes, ◌≡◌, ◌==◌, IsTrue, IfOk, IfErr, IsErrAnd, Ok};
+ghost use Rattle.std.specs.Prelude.{codes, ◌≡◌, ◌==◌, IsTrue, IfOk, IfErr};
 ghost use Rattle.std.specs.List.{starts_with};
 ghost use Rattle.sqlite.specs.Files.{file_state, IsOpened};
 ghost use Rattle.sqlite.specs.Held.{IsNew};
@@ -12,10 +12,11 @@ use crate::make::make;
 use crate::options::options;
 use crate::pages::{is_blank, page_size};
 use sqlite::{
-    Alter, Connection, Error, ErrorCode, File, FileFrom, FileStore, Files, Options, Start, Unknown,
+    Connection, Error, ErrorCode, File, FileFrom, FileStore, Files, Options, Start, Unknown,
 };
 use sqlite_disk::Disk;
 use sqlite_std_file::OpenError;
+use std::alloc::Global;
 use std::hash::{BuildHasher, RandomState};
 use std::io::ErrorKind;
 
@@ -42,12 +43,12 @@ pub fn connect(rt: &HostRuntime, path: &str) -> Result<Connection<FileStore<File
 {
     let seed = seed(rt)?;
     let files = whole_files(rt, path, seed)?;
-    connection(rt, files, seed)
+    connection(rt.alloc(), files, seed)
 }
 
-// The connection to files, with a clock.
+// The connection to files.
 fn connection<D: Disk + Drop>(
-    rt: &HostRuntime,
+    alloc: Global,
     mut files: Files<D>,
     seed: u64,
 ) -> Result<Connection<FileStore<D>>, Error>
@@ -60,14 +61,14 @@ fn connection<D: Disk + Drop>(
         (λ c. HasCleanDisk (file_state c) → (file_state c).IsShielded) }
 {
     match page_size(&mut files) {
-        Ok(size) => connection_by(rt, files, options(size, seed)),
+        Ok(size) => connection_by(alloc, files, options(size, seed)),
         Err(error) => Err(error),
     }
 }
 
 // The same with these options.
 fn connection_by<D: Disk + Drop>(
-    rt: &HostRuntime,
+    alloc: Global,
     files: Files<D>,
     options: Options,
 ) -> Result<Connection<FileStore<D>>, Error>
@@ -79,22 +80,8 @@ fn connection_by<D: Disk + Drop>(
     ensures guarded { IfOk result
         (λ c. HasCleanDisk (file_state c) → (file_state c).IsShielded) }
 {
-    with_clock(rt, Connection::open_files(rt.alloc(), files, options))
-}
-
-// The connection, if it was opened, with a clock, which changes nothing else.
-fn with_clock<S: Alter + Drop, L: Drop>(
-    rt: &HostRuntime,
-    opened: Result<Connection<S>, (Error, L)>,
-) -> Result<Connection<S>, Error>
-    ensures ok { IfOk result (λ conn. opened ≡ Ok conn) }
-    ensures err { IfErr result (λ e. IsErrAnd opened (λ failed. failed.0 ≡ e)) }
-{
-    match opened {
-        Ok(mut conn) => {
-            conn.set_clock(rt);
-            Ok(conn)
-        }
+    match Connection::open_files(alloc, files, options) {
+        Ok(conn) => Ok(conn),
         Err((error, _)) => Err(error),
     }
 }

@@ -7,7 +7,10 @@
 //!
 //! In use (canary_tables, src/open.rt):
 //!
-//!     let conn = connect(rt, path).map_err(open_fault)?;
+//!     match connect(rt, path) {
+//!         Ok(conn) => book_of(rt.alloc(), conn, progress),
+//!         Err(error) => Err(open_fault(error)),
+//!     }
 #![tactic(auto)]
 
 pub mod connect;

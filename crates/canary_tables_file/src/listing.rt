@@ -15,9 +15,8 @@ use std::alloc::{AllocError, Global};
 // text.
 const DESCRIBED: [usize; 5] = [0, 1, 2, 3, 5];
 
-// Gives the files the schema that they list, or answers false if it has more than tables and
-// indexes.
-pub(crate) fn list<D: Disk>(alloc: Global, files: &mut Unopened<D>) -> Result<bool, OpenError>
+// Gives the files the schema that they list. `Refused` if it has more than tables and indexes.
+pub(crate) fn list<D: Disk>(alloc: Global, files: &mut Unopened<D>) -> Result<(), OpenError>
     requires { AreUsable files.old }
     ensures { OnOk result (AreUsable files.new) }
 {
@@ -27,18 +26,16 @@ pub(crate) fn list<D: Disk>(alloc: Global, files: &mut Unopened<D>) -> Result<bo
 }
 
 // The same of the rows of sqlite_schema, without their root pages.
-fn list_rows<D: Disk>(
-    alloc: Global,
-    files: &mut Unopened<D>,
-    rows: &[Row],
-) -> Result<bool, OpenError>
+fn list_rows<D: Disk>(alloc: Global, files: &mut Unopened<D>, rows: &[Row]) -> Result<(), OpenError>
     requires { AreUsable files.old }
     ensures { OnOk result (AreUsable files.new) }
 {
     let layouts = layouts(alloc, rows).map_err(no_memory)?;
-    files
-        .list_schema(rows, layouts.as_slice())
-        .map_err(no_memory)
+    match files.list_schema(rows, layouts.as_slice()) {
+        Ok(true) => Ok(()),
+        Ok(false) => Err(OpenError::Refused),
+        Err(refused) => Err(no_memory(refused)),
+    }
 }
 
 // An allocation was refused.

@@ -79,8 +79,7 @@ fn store_over<D: Disk + Drop>(
         (λ store. IsTrue (view store).is_clean → is_shielded store)) }
 {
     match list(alloc, &mut unopened) {
-        Ok(true) => opened(unopened),
-        Ok(false) => Ok(None),
+        Ok(()) => opened(unopened),
         Err(error) => unless_refused(error),
     }
 }
