@@ -162,17 +162,9 @@ pub(crate) fn no_json(
 {
     let warnings = warned.warnings(alloc)?;
     let mut lines = Lines::new(alloc);
-    lines.tell_no_json(alloc, fault.line(), fault.column())?;
-    tell_instead(&mut lines, instead_of_text(text))?;
-    found(alloc, lines, DEPTH, warnings)
-}
-
-// Adds to the last finding what to write instead, if that is known.
-fn tell_instead(lines: &mut Lines, what: Option<&str>) -> Result<(), Memory> {
-    match what {
-        Some(what) => lines.instead(what),
-        None => Ok(()),
-    }
+    lines.tell_no_json(fault.line(), fault.column());
+    lines.instead_if(instead_of_text(text));
+    found(lines, DEPTH, warnings)
 }
 
 // What is found in a manifest, by its kind; `text` is what it was read from.
@@ -196,13 +188,9 @@ fn other_kind(alloc: Global, manifest: &Value) -> Result<CheckReport, Memory>
     ensures { IfOk result (λ findings. findings.is_taken ≡ false) }
 {
     let mut lines = Lines::new(alloc);
-    lines.tell(
-        &JsonPlace::root(alloc),
-        "kind",
-        "AnalysisTemplate or Rollout",
-    )?;
-    tell_instead(&mut lines, instead_of_manifest(manifest))?;
-    found(alloc, lines, DEPTH, None)
+    lines.tell(JsonPlace::at(""), "kind", "AnalysisTemplate or Rollout");
+    lines.instead_if(instead_of_manifest(manifest));
+    found(lines, DEPTH, None)
 }
 
 // Whether its `kind` is that text; or it has none, and of these two keys its `spec` has the first
@@ -236,8 +224,8 @@ fn check_template(alloc: Global, text: &[u8], manifest: &Value) -> Result<CheckR
         return Ok(CheckReport::none(warnings));
     }
     let mut lines = Lines::new(alloc);
-    tell_template(alloc, &mut lines, &JsonPlace::root(alloc), manifest)?;
-    found(alloc, lines, DEPTH, warnings)
+    tell_template(&mut lines, JsonPlace::at(""), manifest);
+    found(lines, DEPTH, warnings)
 }
 
 // What is warned of an AnalysisTemplate, its length and its metrics, if there is anything.
@@ -245,8 +233,8 @@ fn template_warnings(alloc: Global, text: &[u8], manifest: &Value) -> Result<Opt
     ensures { IfOk result (λ w. IfSome w (λ lines. 3 < length (string_bytes lines))) }
 {
     let mut lines = Lines::new(alloc);
-    warn_of_length(alloc, &mut lines, "manifest", text.len())?;
-    warn_of_template(alloc, &mut lines, &JsonPlace::root(alloc), manifest)?;
+    warn_of_length(&mut lines, "manifest", text.len());
+    warn_of_template(&mut lines, JsonPlace::at(""), manifest);
     lines.warnings(alloc)
 }
 
@@ -258,8 +246,8 @@ fn check_rollout(alloc: Global, text: &[u8], manifest: &Value) -> Result<CheckRe
         IsTrue findings.is_quiet → IsTrue (is_request_attended (service_body text.now))) }
 {
     let mut lines = Lines::new(alloc);
-    warn_of_length(alloc, &mut lines, "manifest", text.len())?;
-    warn_of_ignored(alloc, &mut lines, &JsonPlace::root(alloc), manifest)?;
+    warn_of_length(&mut lines, "manifest", text.len());
+    warn_of_ignored(&mut lines, JsonPlace::at(""), manifest);
     let front = "{\"service\":{\"version\":\"v1\",\"manifest\":";
     let body = body_of(alloc, front, text, "}}")?;
     check_service(alloc, manifest, body.as_slice(), lines)
@@ -297,7 +285,7 @@ fn check_command(
     ensures attended { IfOk result (λ findings.
         IsTrue findings.is_quiet → IsTrue (is_command_attended command.now)) }
 {
-    warn_of_command(alloc, &mut warned, &JsonPlace::root(alloc), command)?;
+    warn_of_command(&mut warned, JsonPlace::at(""), command);
     if is_command_taken(alloc, command)? {
         return Ok(CheckReport::none(warned.warnings(alloc)?));
     }
@@ -312,8 +300,8 @@ fn rollout_found(alloc: Global, manifest: &Value, warned: Lines) -> Result<Check
 {
     let warnings = warned.warnings(alloc)?;
     let mut lines = Lines::new(alloc);
-    tell_rollout(alloc, &mut lines, &JsonPlace::root(alloc), manifest)?;
-    found(alloc, lines, DEPTH, warnings)
+    tell_rollout(&mut lines, JsonPlace::at(""), manifest);
+    found(lines, DEPTH, warnings)
 }
 
 /// What was found, in lines, or a general finding where they have none; or `Memory`.
