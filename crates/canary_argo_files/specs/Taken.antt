@@ -1,9 +1,19 @@
 -- Which of the manifests that are made a desk takes.
-use Rattle.std.specs.Prelude.{Bool, List, string_bytes}
+use Rattle.std.specs.Prelude.{Bool, List, [], ◌∷◌, string_bytes}
 use Rattle.std.specs.List.{list_all}
-use Rattle.canary_check.specs.Taken.{is_taken}
+use Rattle.canary_check.specs.Taken.{is_taken, Known}
+use Rattle.canary_check.specs.Attempts.{with_template, is_bound}
 use Rattle.canary_convert.specs.declared.work.Made.{Made}
 
 -- each of them, by the contract of canary_check
 abbrev pub are_taken : List Made → Bool
 are_taken made = list_all (λ m. is_taken (string_bytes m.json)) made
+
+-- these templates, and those of the manifests
+abbrev pub known_of : Known → List Made → Known
+known_of known [] = known
+known_of known (m ∷ made) = known_of (with_template known (string_bytes m.json)) made
+
+-- a desk with these templates refuses no attempt of these services as it is bound
+abbrev pub are_bound : Known → List Made → Bool
+are_bound known made = list_all (λ m. is_bound known (string_bytes m.json)) made

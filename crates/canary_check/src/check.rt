@@ -149,6 +149,19 @@ pub fn check(alloc: Global, text: &[u8]) -> Result<CheckReport, Memory>
     }
 }
 
+/// What is warned of the members of this Rollout that the desk ignores, though they change in Argo
+/// Rollouts what becomes of a release. Nothing is found.
+///
+/// # Errors
+/// `Memory` where an allocation was refused.
+pub fn check_ignored(alloc: Global, manifest: &Value) -> Result<CheckReport, Memory>
+    ensures { IfOk result (λ findings. IsTrue findings.is_taken) }
+{
+    let mut lines = Lines::new(alloc);
+    warn_of_ignored(&mut lines, JsonPlace::at(""), manifest);
+    Ok(CheckReport::none(lines.warnings()?))
+}
+
 /// What is found in a text that is no JSON, or `Memory`.
 pub(crate) fn no_json(
     alloc: Global,
@@ -160,7 +173,7 @@ pub(crate) fn no_json(
     ensures quiet { IfOk result (λ findings.
         IsTrue findings.is_quiet → warned.told ≡ 0) }
 {
-    let warnings = warned.warnings(alloc)?;
+    let warnings = warned.warnings()?;
     let mut lines = Lines::new(alloc);
     lines.tell_no_json(fault.line(), fault.column());
     lines.instead_if(instead_of_text(text));
@@ -235,7 +248,7 @@ fn template_warnings(alloc: Global, text: &[u8], manifest: &Value) -> Result<Opt
     let mut lines = Lines::new(alloc);
     warn_of_length(&mut lines, "manifest", text.len());
     warn_of_template(&mut lines, JsonPlace::at(""), manifest);
-    lines.warnings(alloc)
+    lines.warnings()
 }
 
 // What is found in a Rollout, by the body that registers it under some version.
@@ -287,7 +300,7 @@ fn check_command(
 {
     warn_of_command(&mut warned, JsonPlace::at(""), command);
     if is_command_taken(alloc, command)? {
-        return Ok(CheckReport::none(warned.warnings(alloc)?));
+        return Ok(CheckReport::none(warned.warnings()?));
     }
     rollout_found(alloc, manifest, warned)
 }
@@ -298,7 +311,7 @@ fn rollout_found(alloc: Global, manifest: &Value, warned: Lines) -> Result<Check
     ensures quiet { IfOk result (λ findings.
         IsTrue findings.is_quiet → warned.told ≡ 0) }
 {
-    let warnings = warned.warnings(alloc)?;
+    let warnings = warned.warnings()?;
     let mut lines = Lines::new(alloc);
     tell_rollout(&mut lines, JsonPlace::at(""), manifest);
     found(lines, DEPTH, warnings)
@@ -306,7 +319,6 @@ fn rollout_found(alloc: Global, manifest: &Value, warned: Lines) -> Result<Check
 
 /// What was found, in lines, or a general finding where they have none; or `Memory`.
 pub(crate) fn found(
-    alloc: Global,
     lines: Lines,
     general: &str,
     warnings: Option<String>,
@@ -316,7 +328,7 @@ pub(crate) fn found(
     ensures taken { IfOk result (λ findings. findings.is_taken ≡ false) }
     ensures quiet { IfOk result (λ findings. findings.is_quiet ≡ is_none warnings) }
 {
-    let text = lines.finish(alloc, general)?;
+    let text = lines.finish(general)?;
     Ok(CheckReport {
         lines: Some(text),
         warnings,
@@ -337,8 +349,8 @@ fn is_body_taken(alloc: Global, front: &str, text: &[u8], end: &str) -> Result<b
     }
 }
 
-// This text between a front and an end.
-fn body_of(alloc: Global, front: &str, text: &[u8], end: &str) -> Result<Vec<u8>, Memory>
+/// This text between a front and an end, or `Memory`.
+pub(crate) fn body_of(alloc: Global, front: &str, text: &[u8], end: &str) -> Result<Vec<u8>, Memory>
     ensures { IfOk result (λ body. body.items ≡ front.now ++ text.now ++ end.now) }
 {
     let mut body = Vec::new(alloc);

@@ -154,10 +154,12 @@ impl Lines {
 
     /// The findings, with a general one in place of none; or `Memory`. They are never as short as
     /// `ok` is.
-    pub(crate) fn finish(self, alloc: Global, general: &str) -> Result<String, Memory>
+    pub(crate) fn finish(self, general: &str) -> Result<String, Memory>
         requires { 3 < length general.now }
-        ensures { IfOk result (λ text. 3 < length (string_bytes text)) }
+        ensures long { IfOk result (λ text. 3 < length (string_bytes text)) }
+        ensures kept { IfOk result (λ _. self.is_refused ≡ false) }
     {
+        let alloc = self.alloc;
         let text = self.with_more()?;
         if text.len() > 3 {
             return Ok(text);
@@ -166,7 +168,8 @@ impl Lines {
     }
 
     /// The warnings, if there are any; or `Memory`. They are never as short as `ok` is.
-    pub(crate) fn warnings(self, alloc: Global) -> Result<Option<String>, Memory>
+    pub(crate) fn warnings(self) -> Result<Option<String>, Memory>
+        ensures kept { IfOk result (λ _. self.is_refused ≡ false) }
         ensures long { IfOk result (λ text. IfSome text (λ t. 3 < length (string_bytes t))) }
         ensures none { IfOk result (λ text. IsTrue (is_none text) → self.told ≡ 0) }
     {
@@ -176,7 +179,7 @@ impl Lines {
         if self.told == 0 {
             return Ok(None);
         }
-        Ok(Some(self.finish(alloc, NO_LINE)?))
+        Ok(Some(self.finish(NO_LINE)?))
     }
 
     // The lines, and a last one that counts what was left out.

@@ -60,7 +60,7 @@ fn check_command(
 {
     warn_of_command(&mut warned, JsonPlace::at("service.manifest"), command);
     if is_asked_taken(alloc, command)? {
-        return Ok(CheckReport::none(warned.warnings(alloc)?));
+        return Ok(CheckReport::none(warned.warnings()?));
     }
     not_taken(alloc, body, warned)
 }
@@ -84,7 +84,7 @@ fn body_not_taken(alloc: Global, body: &Value, warned: Lines) -> Result<CheckRep
     ensures quiet { IfOk result (λ findings.
         IsTrue findings.is_quiet → warned.told ≡ 0) }
 {
-    let warnings = warned.warnings(alloc)?;
+    let warnings = warned.warnings()?;
     let mut lines = Lines::new(alloc);
     tell_body(&mut lines, body);
     found(lines, COMMAND, warnings)
