@@ -56,8 +56,8 @@ impl<'a> ArgumentValue<'a> {
     /// What it lacks, and what to write.
     pub(crate) fn lack(self) -> Lack {
         match self {
-            ArgumentValue::Value(_) => lack("", ""),
-            ArgumentValue::Late(_) => lack("is known only as the agent measures", ": write a constant"),
+            ArgumentValue::Value(_) => lack_of_any("", ""),
+            ArgumentValue::Late(_) => lack_of_any("is known only as the agent measures", ": write a constant"),
             ArgumentValue::Nothing => lack_of_rollout(
                 "has no value for Rollout ",
                 ": give it one in the args of its analysis",
@@ -66,9 +66,9 @@ impl<'a> ArgumentValue<'a> {
                 "is a field that Rollout ",
                 " has not, or that has no text: correct its fieldPath",
             ),
-            ArgumentValue::Nested => lack("has a value with {{args. in it", ": write that value out"),
+            ArgumentValue::Nested => lack_of_any("has a value with {{args. in it", ": write that value out"),
             ArgumentValue::Unlisted =>
-                lack("is no argument of the template", ": add it to its spec.args"),
+                lack_of_any("is no argument of the template", ": add it to its spec.args"),
         }
     }
 }
@@ -83,7 +83,7 @@ pub(crate) struct Lack {
 }
 
 // What an argument lacks in every Rollout.
-fn lack(what: &'static str, instead: &'static str) -> Lack {
+fn lack_of_any(what: &'static str, instead: &'static str) -> Lack {
     Lack {
         what,
         is_of_rollout: false,

@@ -116,17 +116,19 @@ fn push_argument(
             true
         }
         lacking => {
-            tell_lack(work, case, place, name, lacking.lack());
+            tell_lack(work, place, name, lacking.lack(), case.service());
             false
         }
     }
 }
 
 // Adds what an argument lacks, at the text that has a place of it.
-fn tell_lack(work: &mut Conversion, case: &Case, place: ManifestPlace, name: &str, lack: Lack) {
-    let rollout = if lack.is_of_rollout { case.service() } else { "" };
-    let parts = &["{{args.", name, "}} ", lack.what, rollout, lack.instead];
-    work.tell(place, parts);
+fn tell_lack(work: &mut Conversion, place: ManifestPlace, name: &str, lack: Lack, rollout: &str) {
+    let rollout = if lack.is_of_rollout { rollout } else { "" };
+    work.tell(
+        place,
+        &["{{args.", name, "}} ", lack.what, rollout, lack.instead],
+    );
 }
 
 // Appends a value: a text as it is in `Plain`, else escaped without quotes; any other as JSON.
