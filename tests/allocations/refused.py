@@ -505,8 +505,8 @@ def try_page_of_served(trial, share):
             desk.kill()
 
 
-# Manifests of Argo's: an argument of two kinds, a dry run, a decimal and a job, which become two
-# templates, a service and a plan.
+# Manifests of Argo's: arguments of two kinds, a dry run, a decimal and a job. They become a template,
+# a service and a plan.
 ARGO = """{"kind":"List","items":[{"kind":"AnalysisTemplate","metadata":{"name":"t"},"spec":{
 "args":[{"name":"limit","value":"0.5"},{"name":"hash","valueFrom":{"podTemplateHashValue":
 "Latest"}}],"dryRun":[{"metricName":"m"}],"metrics":[{"name":"m","interval":"1m","count":2,

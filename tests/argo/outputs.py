@@ -165,7 +165,7 @@ def try_left(trial):
 # How a file in the folder is given as one that is read, and what leads to it then.
 READ_AS = {
     "its name": lambda name: [name],
-    "another spelling": lambda name: [f"./other/../{name}"],
+    "another spelling": lambda name: [os.path.join(".", "other", "..", name)],
     "a link": lambda name: [linked(name, os.symlink, os.path.abspath(name))],
     "another name of it": lambda name: [linked(name, os.link, name)],
     "standard input": lambda name: ["-"],
