@@ -55,13 +55,23 @@ fn fill(
     known: &Templates,
 ) -> Result<(), Memory> {
     report.found.add_all(alloc, &manifests.found)?;
-    add_placed(alloc, &mut report.found, manifests, made.findings.as_slice())?;
+    add_placed(
+        alloc,
+        &mut report.found,
+        manifests,
+        made.findings.as_slice(),
+    )?;
     report.found.count(made.more_findings);
     add_placed(alloc, &mut report.notes, manifests, made.notes.as_slice())?;
     report.notes.count(made.more_notes);
     add_checked(alloc, report, manifests, made.templates.as_slice())?;
     add_checked(alloc, report, manifests, made.services.as_slice())?;
-    add_ignored(alloc, &mut report.warnings, manifests, made.services.as_slice())?;
+    add_ignored(
+        alloc,
+        &mut report.warnings,
+        manifests,
+        made.services.as_slice(),
+    )?;
     if report.found.is_empty() {
         return add_of_all(alloc, &mut report.found, manifests, made, known);
     }

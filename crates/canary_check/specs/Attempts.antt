@@ -1,14 +1,13 @@
 -- Which Rollouts the desk refuses as an attempt begins, on a desk with the templates of other
 -- manifests.
-use Rattle.std.specs.Prelude.{ℕ, List, Bool, true, false, not, Option, Some, None, is_none, if◌then◌else◌}
+use Rattle.std.specs.Prelude.{ℕ, List, Bool, true, ◌||◌, None, is_none, if◌then◌else◌}
 use Rattle.std.specs.FinMap as map
 use Rattle.canary_plan.specs.declared.template_spec.TemplateSpec.{TemplateSpec}
-use Rattle.canary_plan.specs.declared.refusal.Refusal.{Refusal}
-use Rattle.canary_plan.specs.declared.refusal.Refusal.TheVariants.{UnknownTemplate}
 use Rattle.canary_plan.specs.declared.command.Command.{Command}
 use Rattle.canary_plan.specs.declared.command.Command.TheVariants as command
-use Rattle.canary_plan.specs.Plans.{template_of}
+use Rattle.canary_plan.specs.Plans.{template_of, has_unknown}
 use Rattle.canary_plan.specs.PlanRefusals.{template_refusal}
+use Rattle.canary_plan.specs.Commands.{names_looked_up}
 use Rattle.canary_manifest.specs.Readings.{Reading, unsupported, unreadable, readable}
 use Rattle.canary_manifest.specs.Commands.{body_reading}
 use Rattle.canary_check.specs.Taken.{Known, refusal_on, template_body, service_body}
@@ -38,14 +37,10 @@ with_template known text = with_reading known (body_reading (template_body text)
 
 -- ---- attempts on such a desk
 
--- it is another reason than a template that is not there
-abbrev pub is_of_known : Option Refusal → Bool
-is_of_known None = false
-is_of_known (Some UnknownTemplate) = false
-is_of_known (Some other) = true
-
 abbrev pub is_command_bound : Known → Command → Bool
-is_command_bound known (command.Service spec) = not (is_of_known (refusal_on known spec))
+is_command_bound known (command.Service spec) =
+    has_unknown (map.get known) (names_looked_up None (command.Service spec))
+    || is_none (refusal_on known spec)
 is_command_bound known other = true
 
 abbrev pub is_reading_bound : Known → Reading Command → Bool

@@ -1,21 +1,23 @@
 //! What the desk refuses of a Rollout as an attempt begins, on a desk that has the templates of
 //! other manifests.
-ghost use Rattle.std.specs.Prelude.{◌≡◌, ◌++◌, false, not, IfOk, IsTrue};
+ghost use Rattle.std.specs.Prelude.{◌≡◌, ◌++◌, ◌||◌, false, IfOk, is_none};
+ghost use Rattle.std.specs.FinMap as map;
+ghost use Rattle.canary_plan.specs.Plans.{has_unknown};
+ghost use Rattle.canary_plan.specs.Commands.{names_looked_up};
 ghost use Rattle.canary_manifest.specs.Commands.{body_reading};
 ghost use Rattle.canary_check.specs.Taken.{refusal_on};
 ghost use Rattle.canary_check.specs.Attempts.{with_spec, with_command, with_reading, with_template};
-ghost use Rattle.canary_check.specs.Attempts.{is_of_known, is_command_bound, is_reading_bound};
-ghost use Rattle.canary_check.specs.Attempts.{is_bound};
+ghost use Rattle.canary_check.specs.Attempts.{is_command_bound, is_reading_bound, is_bound};
 
 use crate::alone::refusal_on;
 use crate::binding::tell_spec;
 use crate::check::{CheckReport, body_of, found};
 use crate::lines::Lines;
 use canary_base::error::Memory;
+use canary_base::names::Name;
 use canary_manifest::command::{WireFault, command_from_json};
 use canary_plan::command::Command;
 use canary_plan::fault::BindFault;
-use canary_plan::refusal::Refusal;
 use canary_plan::service::ServiceSpec;
 use canary_plan::template::Template;
 use canary_plan::template_spec::TemplateSpec;
@@ -112,28 +114,48 @@ fn check_body(
 }
 
 // What is refused of the attempts of the service that this command registers.
-fn check_command(
-    alloc: Global,
-    known: &Templates,
-    command: &Command,
-) -> Result<CheckReport, Memory>
+fn check_command(alloc: Global, known: &Templates, command: &Command) -> Result<CheckReport, Memory>
     ensures { IfOk result (λ findings.
         findings.is_taken ≡ is_command_bound known.now command.now) }
 {
     match command {
-        Command::Service(spec) => check_spec(alloc, known, spec),
+        Command::Service(spec) => check_spec(alloc, known, command, spec),
         _ => Ok(CheckReport::none(None)),
     }
 }
 
-// The same of this service.
-fn check_spec(alloc: Global, known: &Templates, spec: &ServiceSpec) -> Result<CheckReport, Memory>
+// The same of this service, which the command registers.
+fn check_spec(
+    alloc: Global,
+    known: &Templates,
+    command: &Command,
+    spec: &ServiceSpec,
+) -> Result<CheckReport, Memory>
+    ensures { IfOk result (λ findings. findings.is_taken
+        ≡ (has_unknown (map.get known.now) (names_looked_up None command.now)
+        || is_none (refusal_on known.now spec.now))) }
+{
+    let names = command.names_looked_up(alloc, None)?;
+    if has_unknown(known, names.as_slice()) {
+        return Ok(CheckReport::none(None));
+    }
+    check_bound(alloc, known, spec)
+}
+
+// Whether there is no template of one of these names.
+fn has_unknown(known: &Templates, names: &[Name]) -> bool
+    ensures { result ≡ has_unknown (map.get known.now) names.now }
+{
+    names.iter().any(|name| known.get(*name).is_none())
+}
+
+// What is refused of the attempts of a service whose templates are known.
+fn check_bound(alloc: Global, known: &Templates, spec: &ServiceSpec) -> Result<CheckReport, Memory>
     ensures { IfOk result (λ findings.
-        findings.is_taken ≡ not (is_of_known (refusal_on known.now spec.now))) }
+        findings.is_taken ≡ is_none (refusal_on known.now spec.now)) }
 {
     match refusal_on(alloc, known, spec)? {
         None => Ok(CheckReport::none(None)),
-        Some(Refusal::UnknownTemplate) => Ok(CheckReport::none(None)),
         Some(_) => attempt_refused(alloc, known, spec),
     }
 }

@@ -3,7 +3,8 @@
 //! A finding is a line, behind which more may follow that begin with four spaces: a text with a
 //! caret, and what to write instead. Each is short, and there are 100 at most: those beyond are
 //! counted in a last line. Warnings are such lines, too.
-ghost use Rattle.std.specs.Prelude.{◌≡◌, ◌<◌, IfOk, IfSome, IsTrue, is_none, length, string_bytes};
+ghost use Rattle.std.specs.Prelude.{◌≡◌, ◌<◌, false, IfOk, IfSome, IsTrue, is_none, length};
+ghost use Rattle.std.specs.Prelude.{string_bytes};
 
 use crate::excerpt::write_excerpt;
 use crate::json_place::JsonPlace;

@@ -1,6 +1,7 @@
 //! `argo`: what manifests of Argo Rollouts become, without a desk.
 ghost use Rattle.canary_cli.specs.Performed.{IsNoClient};
 
+use crate::file::seat::Identity;
 use crate::perform::ProgramExit;
 use canary_argo_files::found::FileFindings;
 use canary_argo_files::reading::{FileReadFault, Manifests, STANDARD_INPUT, read_files};
@@ -12,9 +13,8 @@ use canary_convert::work::Made;
 use canary_page_html::shown::{TextKind, shown};
 use canary_programs::fault::Fault;
 use canary_programs::show::show;
-use std::fs::{self, create_dir_all};
+use std::fs::create_dir_all;
 use std::io::{self, Read, Write};
-use std::os::unix::fs::MetadataExt;
 
 const NOTE: &str = "canary: note: ";
 
@@ -119,8 +119,22 @@ fn keep_inputs<F: Write>(
     errors: &mut F,
 ) -> Result<(), Fault> {
     let made = &translated.made;
-    keep_each(rt, folder, made.templates.as_slice(), "template", inputs, errors)?;
-    keep_each(rt, folder, made.services.as_slice(), "rollout", inputs, errors)?;
+    keep_each(
+        rt,
+        folder,
+        made.templates.as_slice(),
+        "template",
+        inputs,
+        errors,
+    )?;
+    keep_each(
+        rt,
+        folder,
+        made.services.as_slice(),
+        "rollout",
+        inputs,
+        errors,
+    )?;
     keep_input(rt, folder, "plan", inputs, errors)
 }
 
@@ -158,11 +172,16 @@ fn keep_input<F: Write>(
 
 // Whether the file of this name is one of these, where all links lead.
 fn is_input(rt: &HostRuntime, path: &str, inputs: &[Text]) -> bool {
-    let Some(found) = file_at(rt, path) else {
-        return false;
-    };
+    match Identity::of(rt, path) {
+        Some(found) => is_any(rt, found, inputs),
+        None => false,
+    }
+}
+
+// Whether this file is one of those.
+fn is_any(rt: &HostRuntime, found: Identity, inputs: &[Text]) -> bool {
     for input in inputs {
-        if file_at(rt, place_of(input.as_str())) == Some(found) {
+        if Identity::of(rt, place_of(input.as_str())) == Some(found) {
             return true;
         }
     }
@@ -175,14 +194,6 @@ fn place_of(input: &str) -> &str {
         INPUT_FILE
     } else {
         input
-    }
-}
-
-// The file of this name, where all links lead: its device and its number there.
-fn file_at(rt: &HostRuntime, name: &str) -> Option<(u64, u64)> {
-    match fs::metadata(rt, name) {
-        Ok(found) => Some((found.dev(), found.ino())),
-        Err(_) => None,
     }
 }
 

@@ -57,7 +57,10 @@ impl<'a> ArgumentValue<'a> {
     pub(crate) fn lack(self) -> Lack {
         match self {
             ArgumentValue::Value(_) => lack_of_any("", ""),
-            ArgumentValue::Late(_) => lack_of_any("is known only as the agent measures", ": write a constant"),
+            ArgumentValue::Late(_) => lack_of_any(
+                "is known only as the agent measures",
+                ": write a constant",
+            ),
             ArgumentValue::Nothing => lack_of_rollout(
                 "has no value for Rollout ",
                 ": give it one in the args of its analysis",
@@ -66,9 +69,14 @@ impl<'a> ArgumentValue<'a> {
                 "is a field that Rollout ",
                 " has not, or that has no text: correct its fieldPath",
             ),
-            ArgumentValue::Nested => lack_of_any("has a value with {{args. in it", ": write that value out"),
-            ArgumentValue::Unlisted =>
-                lack_of_any("is no argument of the template", ": add it to its spec.args"),
+            ArgumentValue::Nested => lack_of_any(
+                "has a value with {{args. in it",
+                ": write that value out",
+            ),
+            ArgumentValue::Unlisted => lack_of_any(
+                "is no argument of the template",
+                ": add it to its spec.args",
+            ),
         }
     }
 }
