@@ -1,6 +1,6 @@
 //! What the desk refuses of a Rollout as an attempt begins, on a desk that has the templates of
 //! other manifests.
-ghost use Rattle.std.specs.Prelude.{◌≡◌, ◌++◌, ◌||◌, false, IfOk, is_none};
+ghost use Rattle.std.specs.Prelude.{◌≡◌, ◌++◌, ◌||◌, false, IfOk, IsTrue, OnErr, is_none};
 ghost use Rattle.std.specs.FinMap as map;
 ghost use Rattle.canary_plan.specs.Plans.{has_unknown};
 ghost use Rattle.canary_plan.specs.Commands.{names_looked_up};
@@ -31,9 +31,10 @@ const UNBOUND: &str = "spec.strategy.canary: expected analyses that the desk bin
 /// the desk takes.
 ///
 /// # Errors
-/// `Memory` where an allocation was refused.
+/// `Memory` where an allocation was refused; the templates are then as before.
 pub fn add_template(alloc: Global, known: &mut Templates, text: &[u8]) -> Result<(), Memory>
-    ensures { IfOk result (λ _. known.new ≡ with_template known.old text.now) }
+    ensures ok { IfOk result (λ _. known.new ≡ with_template known.old text.now) }
+    ensures err { OnErr result (known.new ≡ known.old) }
 {
     add_body(alloc, known, "{\"template\":", text, "}")
 }
@@ -46,8 +47,9 @@ fn add_body(
     text: &[u8],
     end: &str,
 ) -> Result<(), Memory>
-    ensures { IfOk result (λ _. known.new
+    ensures ok { IfOk result (λ _. known.new
         ≡ with_reading known.old (body_reading (front.now ++ text.now ++ end.now))) }
+    ensures err { OnErr result (known.new ≡ known.old) }
 {
     let body = body_of(alloc, front, text, end)?;
     match command_from_json(alloc, body.as_slice()) {
@@ -60,7 +62,8 @@ fn add_body(
 
 // Adds the template that this command registers; of any other command nothing.
 fn add_command(alloc: Global, known: &mut Templates, command: &Command) -> Result<(), Memory>
-    ensures { IfOk result (λ _. known.new ≡ with_command known.old command.now) }
+    ensures ok { IfOk result (λ _. known.new ≡ with_command known.old command.now) }
+    ensures err { OnErr result (known.new ≡ known.old) }
 {
     match command {
         Command::Template(spec) => add_spec(alloc, known, spec),
@@ -70,7 +73,8 @@ fn add_command(alloc: Global, known: &mut Templates, command: &Command) -> Resul
 
 // Adds the template that is asked for, unless it is refused.
 fn add_spec(alloc: Global, known: &mut Templates, spec: &TemplateSpec) -> Result<(), Memory>
-    ensures { IfOk result (λ _. known.new ≡ with_spec known.old spec.now) }
+    ensures ok { IfOk result (λ _. known.new ≡ with_spec known.old spec.now) }
+    ensures err { OnErr result (known.new ≡ known.old) }
 {
     match Template::bind(alloc, spec, 1) {
         Ok(template) => known.insert(spec.name, template),
@@ -82,12 +86,13 @@ fn add_spec(alloc: Global, known: &mut Templates, spec: &TemplateSpec) -> Result
 /// What keeps a desk with these templates from starting an attempt of the Rollout of this text: in
 /// an analysis two metrics of one name, or more than 32; in that of a step a metric that ends by
 /// no count. Nothing is found in a Rollout that names another template, or that the desk does not
-/// read: `check` says that.
+/// read: `check` says that. Nothing is warned of.
 ///
 /// # Errors
 /// `Memory` where an allocation was refused.
 pub fn check_attempt(alloc: Global, known: &Templates, text: &[u8]) -> Result<CheckReport, Memory>
-    ensures { IfOk result (λ findings. findings.is_taken ≡ is_bound known.now text.now) }
+    ensures taken { IfOk result (λ findings. findings.is_taken ≡ is_bound known.now text.now) }
+    ensures quiet { IfOk result (λ findings. IsTrue findings.is_quiet) }
 {
     let front = "{\"service\":{\"version\":\"v1\",\"manifest\":";
     check_body(alloc, known, front, text, "}}")
@@ -101,8 +106,9 @@ fn check_body(
     text: &[u8],
     end: &str,
 ) -> Result<CheckReport, Memory>
-    ensures { IfOk result (λ findings. findings.is_taken
+    ensures taken { IfOk result (λ findings. findings.is_taken
         ≡ is_reading_bound known.now (body_reading (front.now ++ text.now ++ end.now))) }
+    ensures quiet { IfOk result (λ findings. IsTrue findings.is_quiet) }
 {
     let body = body_of(alloc, front, text, end)?;
     match command_from_json(alloc, body.as_slice()) {
@@ -115,8 +121,9 @@ fn check_body(
 
 // What is refused of the attempts of the service that this command registers.
 fn check_command(alloc: Global, known: &Templates, command: &Command) -> Result<CheckReport, Memory>
-    ensures { IfOk result (λ findings.
+    ensures taken { IfOk result (λ findings.
         findings.is_taken ≡ is_command_bound known.now command.now) }
+    ensures quiet { IfOk result (λ findings. IsTrue findings.is_quiet) }
 {
     match command {
         Command::Service(spec) => check_spec(alloc, known, command, spec),
@@ -131,9 +138,10 @@ fn check_spec(
     command: &Command,
     spec: &ServiceSpec,
 ) -> Result<CheckReport, Memory>
-    ensures { IfOk result (λ findings. findings.is_taken
+    ensures taken { IfOk result (λ findings. findings.is_taken
         ≡ (has_unknown (map.get known.now) (names_looked_up None command.now)
         || is_none (refusal_on known.now spec.now))) }
+    ensures quiet { IfOk result (λ findings. IsTrue findings.is_quiet) }
 {
     let names = command.names_looked_up(alloc, None)?;
     if has_unknown(known, names.as_slice()) {
@@ -151,8 +159,9 @@ fn has_unknown(known: &Templates, names: &[Name]) -> bool
 
 // What is refused of the attempts of a service whose templates are known.
 fn check_bound(alloc: Global, known: &Templates, spec: &ServiceSpec) -> Result<CheckReport, Memory>
-    ensures { IfOk result (λ findings.
+    ensures taken { IfOk result (λ findings.
         findings.is_taken ≡ is_none (refusal_on known.now spec.now)) }
+    ensures quiet { IfOk result (λ findings. IsTrue findings.is_quiet) }
 {
     match refusal_on(alloc, known, spec)? {
         None => Ok(CheckReport::none(None)),
@@ -166,7 +175,8 @@ fn attempt_refused(
     known: &Templates,
     spec: &ServiceSpec,
 ) -> Result<CheckReport, Memory>
-    ensures { IfOk result (λ findings. findings.is_taken ≡ false) }
+    ensures taken { IfOk result (λ findings. findings.is_taken ≡ false) }
+    ensures quiet { IfOk result (λ findings. IsTrue findings.is_quiet) }
 {
     let mut lines = Lines::new(alloc);
     tell_spec(&mut lines, known, spec);

@@ -184,7 +184,9 @@ impl Lines {
     }
 
     // The lines, and a last one that counts what was left out.
-    fn with_more(mut self) -> Result<String, Memory> {
+    fn with_more(mut self) -> Result<String, Memory>
+        ensures { IfOk result (λ _. self.is_refused ≡ false) }
+    {
         let more = self.more;
         if more > 0 {
             self.put("and ");
@@ -275,7 +277,8 @@ impl Lines {
 
     // A number.
     fn put_number(&mut self, number: u64)
-        ensures { self.new.told ≡ self.old.told }
+        ensures told { self.new.told ≡ self.old.told }
+        ensures kept { self.new.is_refused ≡ false → self.old.is_refused ≡ false }
     {
         if write!(self.text, "{number}").is_err() {
             self.is_refused = true;
@@ -284,7 +287,8 @@ impl Lines {
 
     // A text.
     fn put(&mut self, text: &str)
-        ensures { self.new.told ≡ self.old.told }
+        ensures told { self.new.told ≡ self.old.told }
+        ensures kept { self.new.is_refused ≡ false → self.old.is_refused ≡ false }
     {
         if self.text.push_str(text).is_err() {
             self.is_refused = true;

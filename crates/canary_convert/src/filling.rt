@@ -123,12 +123,19 @@ fn push_argument(
 }
 
 // Adds what an argument lacks, at the text that has a place of it.
-fn tell_lack(work: &mut Conversion, place: ManifestPlace, name: &str, lack: Lack, rollout: &str) {
-    let rollout = if lack.is_of_rollout { rollout } else { "" };
-    work.tell(
-        place,
-        &["{{args.", name, "}} ", lack.what, rollout, lack.instead],
-    );
+fn tell_lack<'a>(
+    work: &mut Conversion,
+    place: ManifestPlace,
+    name: &'a str,
+    lack: Lack,
+    rollout: &'a str,
+) {
+    if lack.is_of_rollout {
+        let parts = &["{{args.", name, "}} ", lack.what, rollout, lack.instead];
+        work.tell(place, parts);
+    } else {
+        work.tell(place, &["{{args.", name, "}} ", lack.what, lack.instead]);
+    }
 }
 
 // Appends a value: a text as it is in `Plain`, else escaped without quotes; any other as JSON.
