@@ -1,7 +1,8 @@
 //! What files of manifests become.
 ghost use Rattle.std.specs.Prelude.{◌≡◌, false, IfOk, IsTrue};
 ghost use Rattle.std.specs.FinMap as map;
-ghost use Rattle.canary_argo_files.specs.Taken.{are_taken, known_of, are_bound};
+ghost use Rattle.canary_argo_files.specs.Taken.{are_taken, with_made, known_of};
+ghost use Rattle.canary_argo_files.specs.Taken.{is_made_bound, are_bound};
 
 use crate::found::FileFindings;
 use crate::reading::Manifests;
@@ -103,9 +104,17 @@ fn known_of(alloc: Global, made: &[Made]) -> Result<Templates, Memory>
 {
     let mut known = Templates::new(alloc);
     for manifest in made {
-        add_template(alloc, &mut known, manifest.json.as_bytes())?;
+        add_made(alloc, &mut known, manifest)?;
     }
     Ok(known)
+}
+
+// Adds the template that this manifest registers, if a desk takes it.
+#[tactic(auto, unfolding(crate::specs::Taken::with_made))]
+fn add_made(alloc: Global, known: &mut Templates, manifest: &Made) -> Result<(), Memory>
+    ensures { IfOk result (λ _. known.new ≡ with_made known.old manifest.now) }
+{
+    add_template(alloc, known, manifest.json.as_bytes())
 }
 
 // Whether a desk with these templates refuses no attempt of these services as it is bound.
@@ -113,11 +122,19 @@ fn are_bound(alloc: Global, known: &Templates, made: &[Made]) -> Result<bool, Me
     ensures { IfOk result (λ are. are ≡ are_bound known.now made.now) }
 {
     for manifest in made {
-        if !check_attempt(alloc, known, manifest.json.as_bytes())?.is_ok() {
+        if !is_bound(alloc, known, manifest)? {
             return Ok(false);
         }
     }
     Ok(true)
+}
+
+// Whether a desk with these templates refuses no attempt of this service as it is bound.
+#[tactic(auto, unfolding(crate::specs::Taken::is_made_bound))]
+fn is_bound(alloc: Global, known: &Templates, manifest: &Made) -> Result<bool, Memory>
+    ensures { IfOk result (λ is. is ≡ is_made_bound known.now manifest.now) }
+{
+    Ok(check_attempt(alloc, known, manifest.json.as_bytes())?.is_ok())
 }
 
 // The documents: none if a file was not read to its end, since others may need what it has.

@@ -1,0 +1,13 @@
+-- The templates of manifests, one after another.
+use Rattle.std.proofs.Common.{◌≡◌, ℕ, suc, ◌+◌, ◌<◌, List, ◌∷◌, length, drop, get_or, refl, sym, add-one}
+use Rattle.std.proofs.Math.Seq.{drop-cons}
+use Rattle.canary_check.specs.Taken.{Known}
+use Rattle.canary_convert.specs.declared.work.Made.{Made}
+use Rattle.canary_argo_files.specs.Taken.{with_made, known_of}
+
+-- one manifest more
+pub one_more : (known new : Known) (made : List Made) (i : ℕ) (m : Made) → m ≡ get_or made i m → i < length made
+    → new ≡ with_made known m → known_of known (drop i made) ≡ known_of new (drop (i + 1) made)
+one_more known new made i m is within set =
+    let front : drop i made ≡ get_or made i m ∷ drop (suc i) made = drop-cons made i m within in
+    rw (front, sym is, add-one, set) refl
