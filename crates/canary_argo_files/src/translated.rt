@@ -130,7 +130,6 @@ fn are_bound(alloc: Global, known: &Templates, made: &[Made]) -> Result<bool, Me
 }
 
 // Whether a desk with these templates refuses no attempt of this service as it is bound.
-#[tactic(auto, unfolding(crate::specs::Taken::is_made_bound))]
 fn is_bound(alloc: Global, known: &Templates, manifest: &Made) -> Result<bool, Memory>
     ensures { IfOk result (λ is. is ≡ is_made_bound known.now manifest.now) }
 {

@@ -116,26 +116,31 @@ fn push_argument(
             true
         }
         lacking => {
-            tell_lack(work, place, name, lacking.lack(), case.service());
+            tell_lack(work, case, place, name, lacking.lack());
             false
         }
     }
 }
 
 // Adds what an argument lacks, at the text that has a place of it.
-fn tell_lack<'a>(
+fn tell_lack(work: &mut Conversion, case: &Case, place: ManifestPlace, name: &str, lack: Lack) {
+    if lack.is_of_rollout {
+        tell_parts(work, place, name, lack.what, case.service(), lack.instead);
+    } else {
+        tell_parts(work, place, name, lack.what, "", lack.instead);
+    }
+}
+
+// The same in parts, with the name of the Rollout or none between the two.
+fn tell_parts<'a>(
     work: &mut Conversion,
     place: ManifestPlace,
     name: &'a str,
-    lack: Lack,
+    what: &'a str,
     rollout: &'a str,
+    instead: &'a str,
 ) {
-    if lack.is_of_rollout {
-        let parts = &["{{args.", name, "}} ", lack.what, rollout, lack.instead];
-        work.tell(place, parts);
-    } else {
-        work.tell(place, &["{{args.", name, "}} ", lack.what, lack.instead]);
-    }
+    work.tell(place, &["{{args.", name, "}} ", what, rollout, instead]);
 }
 
 // Appends a value: a text as it is in `Plain`, else escaped without quotes; any other as JSON.
