@@ -505,7 +505,66 @@ def try_page_of_served(trial, share):
             desk.kill()
 
 
-CASES = (try_lines, try_stream, try_tables, try_file, try_opened, try_serve, try_import, try_shown,
+# Manifests of Argo's: arguments of two kinds, a dry run, a decimal and a job. They become a template,
+# a service and a plan.
+ARGO = """{"kind":"List","items":[{"kind":"AnalysisTemplate","metadata":{"name":"t"},"spec":{
+"args":[{"name":"limit","value":"0.5"},{"name":"hash","valueFrom":{"podTemplateHashValue":
+"Latest"}}],"dryRun":[{"metricName":"m"}],"metrics":[{"name":"m","interval":"1m","count":2,
+"successCondition":"result[0] < {{args.limit}} || isNaN(result[0])","provider":{"prometheus":
+{"query":"up{{args.hash}}"}}},{"name":"j","provider":{"job":{"spec":{}}}}]}},{"kind":"Rollout",
+"metadata":{"name":"web"},"spec":{"strategy":{"canary":{"steps":[{"setWeight":10},{"analysis":
+{"templates":[{"templateName":"t"}]}}]}}}}]}
+"""
+ARGO_SHOWN = b"""template t-for-web
+  m.e6nf
+    success: (result < 500000 && result != -9223372036854775808) || result == -9223372036854775808
+  j
+    success: result == 1
+service web
+measure m.e6nf of web by prometheus
+measure j of web by job
+"""
+
+
+def files_in(folder):
+    """What stands in a folder, by names; nothing if there is none."""
+    names = sorted(os.listdir(folder)) if os.path.isdir(folder) else []
+    return {name: read(os.path.join(folder, name)) for name in names}
+
+
+def try_argo(trial, share):
+    """Argo's manifests are translated, or memory runs out on the way: a file that is written is the
+    whole translation, and what is found is whole lines."""
+    made = trial.copy + "-made"
+    with open(trial.rows, "w", encoding="utf-8") as source:
+        source.write(ARGO)
+    words = ["argo", "--out", made, trial.rows]
+    shutil.rmtree(made, ignore_errors=True)
+    expect("argo", trial.run(words), (0, ARGO_SHOWN, b""))
+    whole = files_in(made)
+    expect("argo: its files", sorted(whole),
+           ["plan.json", "t-for-web.template.json", "web.rollout.json"])
+
+    def refuse(number):
+        shutil.rmtree(made, ignore_errors=True)
+        row = f"argo: when allocation {number} is refused"
+        found = trial.run(words, number)
+        asked = trial.asked()
+        if not is_cut_short(found, ARGO_SHOWN):
+            expect(row, found, (0, ARGO_SHOWN, b""))
+            expect(f"{row}: its files", files_in(made), whole)
+        for name, text in files_in(made).items():
+            expect(f"{row}: {name}", text, whole.get(name))
+        return asked
+
+    EACH.refuse_each("argo", refuse)
+    refused = os.path.join(ROOT, "examples/argo/refused.yaml")
+    wanted = trial.run(["argo", refused])
+    expect("argo of what is not translated", (wanted[0], wanted[2]), (1, b""))
+    try_line(trial, "argo of what is not translated", ["argo", refused], wanted, share)
+
+
+CASES = (try_lines, try_argo, try_stream, try_tables, try_file, try_opened, try_serve, try_import, try_shown,
          try_client, try_page, try_backup, try_succeed, try_page_of_served)
 
 

@@ -6,6 +6,7 @@ import sys
 import time
 import traceback
 
+import attempts
 import examples
 import hostile
 import inputs
@@ -15,7 +16,7 @@ import told
 from asked import Trial, Wrong
 
 STRACE_PARTS = ("try_empty_name",)
-MODULES = (examples, told, outputs, inputs, hostile, pairs)
+MODULES = (examples, told, attempts, outputs, inputs, hostile, pairs)
 
 
 def parts_of(module):

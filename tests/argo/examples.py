@@ -27,10 +27,12 @@ def want_json(trial, file, status, made):
     expect(f"argo --json {file}: what else there is", found, {})
 
 
-def want_text(trial, file, status, text, notes):
+def want_text(trial, file, status, text, made):
     done = run(trial.program, ["argo", file], cwd=trial.examples)
+    errors = (in_lines(file, made.notes, "canary: note: ")
+              + in_lines(file, made.warnings, "canary: warning: "))
     expect(f"argo {file}", (done.status, done.output.decode(), done.errors.decode()),
-           (status, text, in_lines(file, notes, "canary: note: ")))
+           (status, text, errors))
 
 
 def try_examples(trial):
@@ -42,15 +44,16 @@ def try_examples(trial):
         with faults:
             want_json(trial, file, 0, {
                 "findings": [], "notes": in_json(file, made.notes), "plan": made.plan,
-                "services": made.services, "templates": made.templates})
+                "services": made.services, "templates": made.templates,
+                "warnings": in_json(file, made.warnings)})
         with faults:
-            want_text(trial, file, 0, made.text(), made.notes)
+            want_text(trial, file, 0, made.text(), made)
     for file, made in REFUSED.items():
         with faults:
             want_json(trial, file, 1, {
                 "findings": in_json(file, made.findings), "notes": in_json(file, made.notes),
-                "plan": [], "services": [], "templates": []})
+                "plan": [], "services": [], "templates": [], "warnings": []})
         with faults:
-            want_text(trial, file, 1, in_lines(file, made.findings), made.notes)
+            want_text(trial, file, 1, in_lines(file, made.findings), made)
     faults.end()
     return f"{len(files)} files, {sum(len(it.findings) for it in REFUSED.values())} findings"

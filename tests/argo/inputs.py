@@ -4,7 +4,7 @@ import json
 import os
 
 from asked import Faults, expect, folder_in, read, run, timed, write
-from outputs import EXAMPLE, example, want_files
+from outputs import EXAMPLE, JOB, example, want_files
 from wanted import TAKEN
 
 CLOSED = [closed for count in range(1, 4) for closed in itertools.combinations(range(3), count)]
@@ -12,8 +12,6 @@ CLOSED = [closed for count in range(1, 4) for closed in itertools.combinations(r
 MARKS = [*range(0x20), *range(0x7f, 0xa0), 0x61c, 0x200e, 0x200f, *range(0x2028, 0x202f),
          *range(0x2066, 0x206a)]
 NOTHING = "no Rollout is here, and no AnalysisTemplate that needs none"
-JOB = {"kind": "AnalysisTemplate", "metadata": {"name": "smoke"},
-       "spec": {"metrics": [{"name": "smoke", "provider": {"job": {"spec": {}}}}]}}
 MOST_FILE, MOST_YAML = 16 * 2 ** 20, 2 ** 20
 
 
@@ -238,7 +236,7 @@ def try_closed(trial):
                 if 2 not in closed:
                     last = done.errors.decode().splitlines()[-1]
                     expect(f"{row}: the last line of errors", last[:13], {
-                        0: "canary: note:", 1: "canary: file" if is_unread else "canary: write",
+                        0: "canary: warni", 1: "canary: file" if is_unread else "canary: write",
                     }[wanted])
     for row, output in (("/dev/full", "/dev/full"), ("a folder", place)):
         with faults:

@@ -3,6 +3,7 @@ import json
 import os
 import shutil
 import stat
+import subprocess
 
 from asked import Faults, expect, folder_in, read, run, write
 from wanted import REFUSED, TAKEN
@@ -12,6 +13,8 @@ OTHER_USER = 65534
 # The files of success-rate.yaml.
 NAMES = ["guestbook.rollout.json", "plan.json", "success-rate.template.json"]
 EXAMPLE = "success-rate.yaml"
+JOB = {"kind": "AnalysisTemplate", "metadata": {"name": "smoke"},
+       "spec": {"metrics": [{"name": "smoke", "provider": {"job": {"spec": {}}}}]}}
 
 
 def example(trial, name=EXAMPLE):
@@ -157,6 +160,55 @@ def try_left(trial):
                 expect(f"{kind} at {name}: what else is made", more, set())
     faults.end()
     return f"{len(LEFT) * len(NAMES)} others left"
+
+
+# How a file in the folder is given as one that is read, and what leads to it then.
+READ_AS = {
+    "its name": lambda name: [name],
+    "another spelling": lambda name: [os.path.join(".", "other", "..", name)],
+    "a link": lambda name: [linked(name, os.symlink, os.path.abspath(name))],
+    "another name of it": lambda name: [linked(name, os.link, name)],
+    "standard input": lambda name: ["-"],
+}
+
+
+def linked(name, plant, target):
+    """A link of that kind, beside the folder."""
+    plant(target, "linked.yaml")
+    return "linked.yaml"
+
+
+def want_kept(trial, row, words, name, stdin):
+    """The file of that name was read: nothing is written, and a line says why."""
+    before = state_of(".")
+    done = run(trial.program, ["argo", "--out", "out", *words], stdin=stdin)
+    line = f"canary: out/{name} is one of the files that argo read\ncanary: file\n"
+    expect(row, tuple(done), (1, b"", line.encode()))
+    expect(f"{row}: what is there", state_of("."), before)
+
+
+def try_inputs_kept(trial):
+    """A file that was read is never written over, and then nothing is written."""
+    place, faults, here = os.path.join(trial.folder, "inputs-kept"), Faults(), os.getcwd()
+    for kind, words_of in READ_AS.items():
+        for name in NAMES:
+            os.chdir(ready(place))
+            file = shutil.copy(example(trial), os.path.join("out", name))
+            with faults, open(file, "rb") as stdin:
+                want_kept(trial, f"{name} by {kind}", words_of(file), name, stdin)
+    os.chdir(ready(place))
+    write("out/plan.json", json.dumps(JOB))
+    with faults:
+        want_kept(trial, "one of several", [example(trial), "out/plan.json"], "plan.json",
+                  subprocess.DEVNULL)
+    write("plan.json", json.dumps(JOB))
+    with faults:
+        done = run(trial.program, ["argo", "--out", "out", "plan.json"])
+        expect("a file of such a name elsewhere", done.status, 0)
+        expect("a file of such a name elsewhere: it", json.loads(read("plan.json")), JOB)
+    os.chdir(here)
+    faults.end()
+    return f"{len(READ_AS) * len(NAMES) + 2} files that were read"
 
 
 FOLDERS = {

@@ -99,7 +99,7 @@ def want_refused(trial, faults):
     found = tell(trial, "refused", lines)
     findings = by_row(found.pop("findings"))
     with faults:
-        expect("what is made of what is refused", found, NOTHING | {"notes": []})
+        expect("what is made of what is refused", found, NOTHING | {"notes": [], "warnings": []})
         expect("lines without a row", sorted(set(findings) - set(range(len(rows)))), [])
     for at, (condition, byte, words) in enumerate(rows):
         wanted = finding_of(at, lines, byte, words.strip())
@@ -155,8 +155,9 @@ def column_of(document, path):
 
 
 def want_places(title, documents, found):
-    """What is found or noted is in the file of its document, at its place in the one line."""
-    told_of = [*found["findings"], *found["notes"]]
+    """What is found, noted or warned of is in the file of its document, at its place in the one
+    line."""
+    told_of = [*found["findings"], *found["notes"], *found["warnings"]]
     places = [(it["path"], it["line"], it["column"]) for it in told_of]
     expect(f"{title}: the places", places, [
         (it["path"], 1, column_of(documents[int(it["file"][:-5])], it["path"]))
@@ -181,6 +182,7 @@ def shown(found, more):
                         text_in_json(it["late"])]) for it in found["plan"]]
     lines += [line_for("finding", it) for it in found["findings"]]
     lines += [line_for("note", it) for it in found["notes"]]
+    lines += [line_for("warning", it) for it in found["warnings"]]
     return "".join(f"\n{line}" for line in lines)
 
 

@@ -4,24 +4,29 @@ REFUSED what is found, each with line, column, path and text."""
 NAN = ("NaN without isNaN is a failure here, an Error; Argo takes comparisons with it as false: "
        "write isNaN(result) where NaN is to count (said once, for all metrics)")
 # What conditions have that is refused, with what to write.
-TEXT = "a text: have the query give 1 or 0, and compare with 1"
-TRUTH = "a truth: have the query give 1 or 0, and write == 1"
+TEXT = "a text: have what is asked give 1 or 0, and write result == 1"
+TRUTH = "a truth: have what is asked give 1 or 0, and write result == 1"
 FUNCTION = "this function: do it in the query"
 NUMBER = "this number: write 15 digits at most, as 0.95"
 PLACE = "this place of a list: write result[0], up to result[15]; with len(result), to [14]"
 NAN_NUMBER = -9223372036854775808
+# What is warned of steps that wait for nobody.
+NOBODY = ("no step after weight {} waits for anybody: a version reaches 100 % even if nothing is "
+          "measured: put an analysis step, or pause: {{}}, {}")
 
 
 class Taken:
     """A file that is translated: the desk's templates with their metrics, its services with their
-    strategies, how an agent measures, and the line and column of the note on NaN, if there is
-    one."""
+    strategies, how an agent measures, and the lines and columns of the note on NaN and of steps
+    that wait for nobody, if there are such, with the first weight and where a step is to be put."""
 
-    def __init__(self, templates, services, plan, nan=None, dry=()):
+    def __init__(self, templates, services, plan, nan=None, dry=(), nobody=None):
         self.templates = [template(name, metrics, dry) for name, metrics in templates.items()]
         self.services = [service(name, canary) for name, canary in services.items()]
         self.plan = [planned(*row) for row in plan]
         self.notes = [(*nan, "spec.metrics[0]", NAN)] if nan else []
+        self.warnings = [(*nobody[:2], "spec.strategy.canary.steps", NOBODY.format(*nobody[2:]))
+                         ] if nobody else []
 
     def text(self):
         """What is printed of it."""
@@ -117,7 +122,7 @@ TAKEN = {
         [("guestbook", "success-rate.e6f", "success-rate", "success-rate",
           prometheus("http://prometheus.example.com:9090",
                      REQUESTS.format("guestbook-svc.default.svc.cluster.local")))],
-        nan=(11, 5)),
+        nan=(11, 5), nobody=(58, 7, 20, "before setWeight 40")),
     "web.yaml": Taken(
         {"success-rate": [
             {"name": "success-rate.e6f", "successCondition": "result >= 950000",
@@ -148,7 +153,8 @@ TAKEN = {
         {"web": {"steps": [weight(25), pause("15m"), weight(75), pause("15m")],
                  "analysis": named("error-share")}},
         [("web", "error-share.e6nl1", "error-share", "error-share",
-          prometheus("http://prometheus:9090", ERRORS))]),
+          prometheus("http://prometheus:9090", ERRORS))],
+        nobody=(31, 14, 25, "before setWeight 75")),
     "web-jsonpath.yaml": Taken(
         {"judge": [
             {"name": "score.e6", "successCondition": "result >= 92500000",
@@ -192,7 +198,8 @@ TAKEN = {
              "successCondition": f"(result <= 10000 && result != {NAN_NUMBER})",
              "interval": "5m", "count": 3, "failureLimit": 3}]},
         {"loq": {"steps": [weight(50), pause("20m")], "analysis": named("loq-error-rate")}},
-        [("loq", "error-rate.e6s", "loq-error-rate", "error-rate", LOQ)]),
+        [("loq", "error-rate.e6s", "loq-error-rate", "error-rate", LOQ)],
+        nobody=(32, 14, 50, "at the end")),
     "several-templates.yaml": Taken(
         {"apdex-for-profile": [
             {"name": "apdex.e6", "successCondition": "result >= 850000", "interval": "1m",
@@ -206,15 +213,16 @@ TAKEN = {
          ("profile", "restarts.e6f", "restarts", "restarts",
           prometheus("http://prometheus:9090", RESTARTS),
           {"stable-hash": {"podTemplateHashValue": "Stable"}})],
-        nan=(8, 5)),
+        nan=(8, 5), nobody=(41, 14, 20, "before setWeight 50")),
 }
 
 
 class Refused:
-    """A file in which something is found, and where the note on NaN stands, if there is one."""
+    """A file in which something is found, and where the note on NaN stands, if there is one.
+    Nothing is warned of."""
 
     def __init__(self, findings, nan=None):
-        self.findings = findings
+        self.findings, self.warnings = findings, []
         self.notes = [(*nan, NAN)] if nan else []
 
 
@@ -263,8 +271,8 @@ REFUSED = {
         (70, 5, "spec.metrics[19]", PLACE),
         success(20, 74, "{{args.threshold}} is no argument of the template: "
                         "add it to its spec.args"),
-        success(21, 77, "{{args.limit}} has no value: "
-                        "give it one in the args of the Rollout's analysis"),
+        success(21, 77, "{{args.limit}} has no value for Rollout nothing: "
+                        "give it one in the args of its analysis"),
         success(22, 80, "{{args.hash}} is known only as the agent measures: write a constant"),
         (82, 11, "spec.metrics[23].name",
          "a name that ends as that of a translated metric: write another one"),

@@ -21,7 +21,7 @@ pub enum UnsupportedSyntax {
     Pipe,
     /// `? :` or `??`.
     Choice,
-    /// `{{args.NAME}}` that has no value.
+    /// `{`, but for that of `{{args.NAME}}`, which is filled in before.
     Argument,
     /// `in`.
     In,
@@ -65,6 +65,9 @@ pub enum UnsupportedSyntax {
     Length,
 }
 
+// What to write in place of a text.
+const A_TEXT: &str = "a text: have what is asked give 1 or 0, and write result == 1";
+
 impl UnsupportedSyntax {
     /// What it is, and what to write.
     pub fn text(self) -> &'static str {
@@ -72,15 +75,16 @@ impl UnsupportedSyntax {
             UnsupportedSyntax::Byte => "no condition of Argo has that here",
             UnsupportedSyntax::Number => "this number: write 15 digits at most, as 0.95",
             UnsupportedSyntax::Arithmetic => "arithmetic: do it in the query",
-            UnsupportedSyntax::Text => "a text: have the query give 1 or 0, and compare with 1",
+            UnsupportedSyntax::Text => A_TEXT,
             UnsupportedSyntax::Member => "a member: put the path into the provider's jsonPath",
             UnsupportedSyntax::Pipe => "a pipe: do it in the query",
             UnsupportedSyntax::Choice => "a choice: write default(result, 0) for ??, and no ? :",
             UnsupportedSyntax::Argument =>
-                "an argument without a value: give it one in the Rollout's args",
+                "an argument is written {{args.NAME}}, and named in the template's args",
             UnsupportedSyntax::In => "in: write result == 1 || result == 2, and so on",
-            UnsupportedSyntax::Matching => "a text: have the query give 1 or 0, and compare with 1",
-            UnsupportedSyntax::Truth => "a truth: have the query give 1 or 0, and write == 1",
+            UnsupportedSyntax::Matching => A_TEXT,
+            UnsupportedSyntax::Truth =>
+                "a truth: have what is asked give 1 or 0, and write result == 1",
             UnsupportedSyntax::Nil =>
                 "nil: write default(result, 0) at each value, or leave it out",
             UnsupportedSyntax::Function => "this function: do it in the query",
@@ -104,7 +108,8 @@ impl UnsupportedSyntax {
             UnsupportedSyntax::DefaultPlace => {
                 "default of a place, which gives the whole result in Argo: write default(result, 0)"
             }
-            UnsupportedSyntax::Length => "this condition is too long: write it shorter",
+            UnsupportedSyntax::Length =>
+                "this condition is too long, or nests too deep: write it shorter",
         }
     }
 }

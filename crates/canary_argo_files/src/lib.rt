@@ -2,7 +2,8 @@
 //! an agent has to measure, and what is not translated, with file, line and column.
 //!
 //! Callers may rest on this: nothing is translated if anything is found; and of each manifest that
-//! is made canary_check finds nothing, so a desk takes it.
+//! is made canary_check finds nothing, so a desk takes it, and starts attempts of each service once
+//! it has the templates that are made.
 //!
 //! In use (canary_cli, src/argo.rt):
 //!
@@ -15,5 +16,6 @@
 pub mod found;
 mod placing;
 pub mod reading;
+mod report;
 pub mod shown;
 pub mod translated;

@@ -78,8 +78,8 @@ fn push_planned(alloc: Global, text: &mut String, planned: &Planned) -> Result<(
     Ok(())
 }
 
-/// All in one value in JSON, with `findings`, `notes`, `plan`, `services` and `templates`; or
-/// `Memory`.
+/// All in one value in JSON, with `findings`, `notes`, `plan`, `services`, `templates` and
+/// `warnings`; or `Memory`.
 pub fn json_of(
     alloc: Global,
     manifests: &Manifests,
@@ -95,6 +95,8 @@ pub fn json_of(
     push_manifests(&mut out, counted(translated, &translated.made.services))?;
     out.push_str(",\"templates\":")?;
     push_manifests(&mut out, counted(translated, &translated.made.templates))?;
+    out.push_str(",\"warnings\":")?;
+    translated.warnings.push_json(alloc, &mut out, manifests)?;
     out.push_str("}")?;
     let mut line = shown(alloc, out.as_str(), TextKind::Json)?;
     line.push_str("\n")?;

@@ -1,19 +1,20 @@
 //! What files of manifests become.
 ghost use Rattle.std.specs.Prelude.{◌≡◌, false, IfOk, IsTrue};
-ghost use Rattle.canary_argo_files.specs.Taken.{are_taken};
+ghost use Rattle.std.specs.FinMap as map;
+ghost use Rattle.canary_argo_files.specs.Taken.{are_taken, with_made, known_of};
+ghost use Rattle.canary_argo_files.specs.Taken.{is_made_bound, are_bound};
 
 use crate::found::FileFindings;
-use crate::placing::found_at;
 use crate::reading::Manifests;
+use crate::report::{FilesReport, report_of};
 use canary_base::error::Memory;
+use canary_check::attempt::{add_template, check_attempt};
 use canary_check::check::check;
 use canary_convert::conversion::{Converted, convert};
-use canary_convert::finding::Finding;
 use canary_convert::source::Source;
 use canary_convert::work::Made;
+use canary_plan::templates::Templates;
 use std::alloc::Global;
-
-const NOTHING: &str = "no Rollout is here, and no AnalysisTemplate that needs none";
 
 /// What files of manifests become.
 #[derive(Drop)]
@@ -24,7 +25,9 @@ pub struct Translated {
     pub found: FileFindings,
     /// What has to be known of the translation.
     pub notes: FileFindings,
-    // Whether a desk takes each manifest that is made.
+    /// What is translated, though it may not be what was meant.
+    pub warnings: FileFindings,
+    // Whether a desk takes each manifest that is made, and attempts of each service.
     are_taken: bool,
 }
 
@@ -37,35 +40,50 @@ impl Translated {
     }
 }
 
-/// What these files become, and what is found in them; or `Memory`. If nothing is found, the check
-/// of a manifest finds nothing in what is made, so a desk takes it.
+/// What these files become, what is found in them, and what is warned of; or `Memory`. If nothing
+/// is found, the check of a manifest finds nothing in what is made, so a desk takes it; and a desk
+/// with the templates that are made refuses no attempt of a service as it is bound.
 pub fn translate(alloc: Global, manifests: &Manifests) -> Result<Translated, Memory>
     ensures templates { IfOk result (λ t.
         IsTrue t.are_taken → IsTrue (are_taken t.made.templates.items)) }
     ensures services { IfOk result (λ t.
         IsTrue t.are_taken → IsTrue (are_taken t.made.services.items)) }
+    ensures attempts { IfOk result (λ t. IsTrue t.are_taken
+        → IsTrue (are_bound (known_of map.empty t.made.templates.items) t.made.services.items)) }
 {
     let made = convert(alloc, sources_of(manifests))?;
-    let mut found = FileFindings::new(alloc);
-    found.add_all(alloc, &manifests.found)?;
-    add_placed(alloc, &mut found, manifests, made.findings.as_slice())?;
-    found.count(made.more_findings);
-    add_checked(alloc, &mut found, manifests, made.templates.as_slice())?;
-    add_checked(alloc, &mut found, manifests, made.services.as_slice())?;
-    if is_empty(&made) && found.is_empty() {
-        found.add(found_at(alloc, manifests, 0, "", NOTHING)?)?;
-    }
-    let mut notes = FileFindings::new(alloc);
-    add_placed(alloc, &mut notes, manifests, made.notes.as_slice())?;
-    notes.count(made.more_notes);
-    let are_taken = are_taken(alloc, made.templates.as_slice())?
-        && are_taken(alloc, made.services.as_slice())?;
+    let known = known_of(alloc, made.templates.as_slice())?;
+    let are_taken = are_all_taken(alloc, &made, &known)?;
+    let report = report_of(alloc, manifests, &made, &known)?;
+    let FilesReport {
+        found,
+        notes,
+        warnings,
+    } = report;
     Ok(Translated {
         made,
         found,
         notes,
+        warnings,
         are_taken,
     })
+}
+
+// Whether a desk takes each manifest that is made, and one with these templates the attempts of
+// each service.
+fn are_all_taken(alloc: Global, made: &Converted, known: &Templates) -> Result<bool, Memory>
+    ensures templates { IfOk result (λ are.
+        IsTrue are → IsTrue (are_taken made.now.templates.items)) }
+    ensures services { IfOk result (λ are.
+        IsTrue are → IsTrue (are_taken made.now.services.items)) }
+    ensures attempts { IfOk result (λ are.
+        IsTrue are → IsTrue (are_bound known.now made.now.services.items)) }
+{
+    Ok(
+        are_taken(alloc, made.templates.as_slice())?
+            && are_taken(alloc, made.services.as_slice())?
+            && are_bound(alloc, known, made.services.as_slice())?,
+    )
 }
 
 // Whether a desk takes each of these manifests.
@@ -80,113 +98,49 @@ fn are_taken(alloc: Global, made: &[Made]) -> Result<bool, Memory>
     Ok(true)
 }
 
+// The templates of a desk to which these manifests are registered.
+fn known_of(alloc: Global, made: &[Made]) -> Result<Templates, Memory>
+    ensures { IfOk result (λ known. known ≡ known_of map.empty made.now) }
+{
+    let mut known = Templates::new(alloc);
+    for manifest in made {
+        add_made(alloc, &mut known, manifest)?;
+    }
+    Ok(known)
+}
+
+// Adds the template that this manifest registers, if a desk takes it.
+#[tactic(auto, unfolding(crate::specs::Taken::with_made))]
+fn add_made(alloc: Global, known: &mut Templates, manifest: &Made) -> Result<(), Memory>
+    ensures { IfOk result (λ _. known.new ≡ with_made known.old manifest.now) }
+{
+    add_template(alloc, known, manifest.json.as_bytes())
+}
+
+// Whether a desk with these templates refuses no attempt of these services as it is bound.
+fn are_bound(alloc: Global, known: &Templates, made: &[Made]) -> Result<bool, Memory>
+    ensures { IfOk result (λ are. are ≡ are_bound known.now made.now) }
+{
+    for manifest in made {
+        if !is_bound(alloc, known, manifest)? {
+            return Ok(false);
+        }
+    }
+    Ok(true)
+}
+
+// Whether a desk with these templates refuses no attempt of this service as it is bound.
+fn is_bound(alloc: Global, known: &Templates, manifest: &Made) -> Result<bool, Memory>
+    ensures { IfOk result (λ is. is ≡ is_made_bound known.now manifest.now) }
+{
+    Ok(check_attempt(alloc, known, manifest.json.as_bytes())?.is_ok())
+}
+
 // The documents: none if a file was not read to its end, since others may need what it has.
 fn sources_of(manifests: &Manifests) -> &[Source] {
     if manifests.found.is_empty() {
         manifests.sources.as_slice()
     } else {
         &[]
-    }
-}
-
-// Whether nothing was made.
-fn is_empty(made: &Converted) -> bool {
-    made.templates.is_empty() && made.services.is_empty()
-}
-
-// Adds what was found in the documents, with its places.
-fn add_placed(
-    alloc: Global,
-    list: &mut FileFindings,
-    manifests: &Manifests,
-    findings: &[Finding],
-) -> Result<(), Memory> {
-    for finding in findings {
-        let text = text_of(alloc, finding)?;
-        let (source, path) = (finding.source as usize, finding.path.as_str());
-        list.add(found_at(alloc, manifests, source, path, text.as_str())?)?;
-    }
-    Ok(())
-}
-
-// What it is, with the byte of a condition, from 1.
-fn text_of(alloc: Global, finding: &Finding) -> Result<String, Memory> {
-    let text = finding.text.as_str();
-    match finding.at {
-        Some(at) => Ok(format!(in alloc; "byte {}: {text}", at.saturating_add(1))?),
-        None => Ok(String::from_str(alloc, text)?),
-    }
-}
-
-// Adds what the check of each of these manifests finds. Its parts have the places of those of the
-// document that it was made of.
-fn add_checked(
-    alloc: Global,
-    list: &mut FileFindings,
-    manifests: &Manifests,
-    made: &[Made],
-) -> Result<(), Memory> {
-    for manifest in made {
-        let findings = check(alloc, manifest.json.as_bytes())?;
-        if !findings.is_ok() {
-            add_lines(alloc, list, manifests, manifest, findings.text())?;
-        }
-    }
-    Ok(())
-}
-
-// Adds the findings of these lines. A line that begins with four spaces belongs to the one before.
-fn add_lines(
-    alloc: Global,
-    list: &mut FileFindings,
-    manifests: &Manifests,
-    made: &Made,
-    lines: &str,
-) -> Result<(), Memory> {
-    for line in lines.lines() {
-        if line.starts_with("    ") {
-            list.add_to_last(alloc, line)?;
-        } else if list.has_room() {
-            add_line(alloc, list, manifests, made, line)?;
-        } else {
-            list.count(1);
-        }
-    }
-    Ok(())
-}
-
-// Adds what a line of a check finds.
-fn add_line(
-    alloc: Global,
-    list: &mut FileFindings,
-    manifests: &Manifests,
-    made: &Made,
-    line: &str,
-) -> Result<(), Memory> {
-    let (path, text) = split(line);
-    let whole = path_in(alloc, made.path.as_str(), path)?;
-    list.add(found_at(alloc, manifests, made.source as usize, whole.as_str(), text)?)
-}
-
-// The path in a source of what stands at a path of a document there.
-fn path_in(alloc: Global, document: &str, path: &str) -> Result<String, Memory> {
-    let point = if document.is_empty() || path.is_empty() {
-        ""
-    } else {
-        "."
-    };
-    Ok(format!(in alloc; "{document}{point}{path}")?)
-}
-
-// The path that a line of a check begins with, and what follows it.
-fn split(line: &str) -> (&str, &str) {
-    let end = line.find(|c: char| c == ':' || c == ' ' || c == ',');
-    match end {
-        Some(end) => {
-            let (path, rest) = line.split_at(end);
-            let text = rest.strip_prefix(": ").or(rest.strip_prefix(" "));
-            (path, text.unwrap_or(rest))
-        }
-        None => ("", line),
     }
 }

@@ -60,12 +60,17 @@ with_stand_ins known [] = known
 with_stand_ins known (name ∷ names) =
     with_stand_ins (map.insert known name (template_of (stand_in name) 1)) names
 
--- why a service is refused, or else why no attempt of it can be bound, where the templates of these
--- names are there, with one metric of its own each
+-- why a service is refused, or else why no attempt of it can be bound, on a desk with these
+-- templates
+abbrev pub refusal_on : Known → ServiceSpec → Option Refusal
+refusal_on known spec =
+    or_refusal
+    (strategy_refusal (map.get known) spec)
+    (bound_refusal (map.get known) (strategy_of spec))
+
+-- the same where the templates of these names are there, with one metric of its own each
 abbrev pub refusal_among : List (List ℕ) → ServiceSpec → Option Refusal
-refusal_among names spec =
-    let known = map.get (with_stand_ins map.empty names) in
-    or_refusal (strategy_refusal known spec) (bound_refusal known (strategy_of spec))
+refusal_among names spec = refusal_on (with_stand_ins map.empty names) spec
 
 -- ---- manifests
 

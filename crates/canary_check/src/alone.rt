@@ -8,7 +8,7 @@ ghost use Rattle.canary_plan.specs.PlanRefusals.{template_refusal, bound_refusal
 ghost use Rattle.std.specs.FinMap as map;
 ghost use Rattle.canary_plan.specs.Commands.{names_looked_up};
 ghost use Rattle.canary_check.specs.Taken.{plain_metric, stand_in, with_stand_ins};
-ghost use Rattle.canary_check.specs.Taken.{refusal_among, is_command_taken};
+ghost use Rattle.canary_check.specs.Taken.{refusal_on, refusal_among, is_command_taken};
 ghost use Rattle.canary_check.specs.Taken.{is_asked_taken, names_twice, names_metric};
 ghost use Rattle.std.specs.List.{list_any};
 
@@ -105,8 +105,20 @@ pub(crate) fn refusal_among(
     ensures { IfOk result (λ found. found ≡ refusal_among names.now spec.now) }
 {
     let known = stand_ins(alloc, names)?;
-    match Strategy::check(alloc, spec, &known) {
-        Ok(strategy) => bound_refusal(alloc, &strategy, &known),
+    refusal_on(alloc, &known, spec)
+}
+
+/// Why a service is refused, or else why no attempt of it can be bound, on a desk with these
+/// templates; or `Memory`.
+pub(crate) fn refusal_on(
+    alloc: Global,
+    known: &Templates,
+    spec: &ServiceSpec,
+) -> Result<Option<Refusal>, Memory>
+    ensures { IfOk result (λ found. found ≡ refusal_on known.now spec.now) }
+{
+    match Strategy::check(alloc, spec, known) {
+        Ok(strategy) => bound_refusal(alloc, &strategy, known),
         Err(CheckFault::Refused(refusal)) => Ok(Some(refusal)),
         Err(CheckFault::Memory) => Err(Memory),
     }

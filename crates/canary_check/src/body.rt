@@ -5,11 +5,9 @@ use crate::members::{is_known, key_shown, tell_label, tell_members, tell_name};
 use crate::report::tell_report;
 use crate::rollout::tell_rollout;
 use crate::template::tell_template;
-use canary_base::error::Memory;
 use canary_canonical::form::only_member;
 use canary_manifest::member::member_of;
 use serde_json::Value;
-use std::alloc::Global;
 
 const BODY: &str = "an object with exactly one member, whose key is the command";
 
@@ -30,84 +28,75 @@ pub(crate) fn is_command(key: &str) -> bool {
     is_known(&SERVICE_ALONE, key) || is_known(&WITH_MORE, key)
 }
 
-/// Adds what is found in the body, or `Memory`.
-pub(crate) fn tell_body(alloc: Global, lines: &mut Lines, body: &Value) -> Result<(), Memory> {
+/// Adds what is found in the body.
+pub(crate) fn tell_body(lines: &mut Lines, body: &Value) {
     match only_member(body) {
-        Some((kind, value)) => tell_command(alloc, lines, kind, value),
-        None => tell_no_command(alloc, lines, body),
+        Some((kind, value)) => tell_command(lines, kind, value),
+        None => tell_no_command(lines, body),
     }
 }
 
 // Adds that a body is no object of one member, and for a bare manifest what to write instead.
-fn tell_no_command(alloc: Global, lines: &mut Lines, body: &Value) -> Result<(), Memory> {
-    lines.tell(&JsonPlace::root(alloc), "body", BODY)?;
+fn tell_no_command(lines: &mut Lines, body: &Value) {
+    lines.tell(JsonPlace::at(""), "body", BODY);
     match member_of(body, "kind") {
         Some(_) => lines.instead(MANIFEST),
-        None => Ok(()),
+        None => {}
     }
 }
 
 // Adds what is found in the value of a command of that kind, or that no command has that kind.
-fn tell_command(alloc: Global, lines: &mut Lines, kind: &str, value: &Value) -> Result<(), Memory> {
+fn tell_command(lines: &mut Lines, kind: &str, value: &Value) {
     match kind {
-        "template" => tell_template(alloc, lines, &JsonPlace::at(alloc, kind)?, value),
-        "service" => tell_service(alloc, lines, &JsonPlace::at(alloc, kind)?, value),
-        "start" => tell_start(lines, &JsonPlace::at(alloc, kind)?, value),
-        "report" => tell_report(alloc, lines, &JsonPlace::at(alloc, kind)?, value),
-        _ if is_known(&SERVICE_ALONE, kind) => {
-            tell_named(lines, &JsonPlace::at(alloc, kind)?, value)
-        }
-        _ => tell_kind(alloc, lines, kind),
+        "template" => tell_template(lines, JsonPlace::at(kind), value),
+        "service" => tell_service(lines, JsonPlace::at(kind), value),
+        "start" => tell_start(lines, JsonPlace::at(kind), value),
+        "report" => tell_report(lines, JsonPlace::at(kind), value),
+        _ if is_known(&SERVICE_ALONE, kind) => { tell_named(lines, JsonPlace::at(kind), value) }
+        _ => tell_kind(lines, kind),
     }
 }
 
 // Adds that no command has this key.
-fn tell_kind(alloc: Global, lines: &mut Lines, kind: &str) -> Result<(), Memory> {
+fn tell_kind(lines: &mut Lines, kind: &str) {
     let key = match key_shown(kind) {
         "" => "body",
         key => key,
     };
-    lines.tell(&JsonPlace::root(alloc), key, COMMANDS)
+    lines.tell(JsonPlace::at(""), key, COMMANDS)
 }
 
 // Adds what is found in the registration of a service: its version, and its Rollout.
-fn tell_service(
-    alloc: Global,
-    lines: &mut Lines,
-    place: &JsonPlace,
-    value: &Value,
-) -> Result<(), Memory> {
+fn tell_service(lines: &mut Lines, place: JsonPlace, value: &Value) {
     tell_members(
         lines,
         place,
         value,
         &["manifest", "version"],
         "no member but manifest and version",
-    )?;
-    tell_label(lines, place, value, "version")?;
+    );
+    tell_label(lines, place, value, "version");
     match value.get("manifest") {
-        Some(manifest) => {
-            tell_rollout(alloc, lines, &place.member(alloc, "manifest")?, manifest)
-        }
+        Some(manifest) => { tell_rollout(lines, place.member("manifest"), manifest) }
         None => lines.tell(place, "manifest", "a Rollout"),
     }
 }
 
 // Adds what is found in the start of a release: the service's name, and the new version.
-fn tell_start(lines: &mut Lines, place: &JsonPlace, value: &Value) -> Result<(), Memory> {
+fn tell_start(lines: &mut Lines, place: JsonPlace, value: &Value) {
     tell_members(
         lines,
         place,
         value,
         &["service", "version"],
         "no member but service and version",
-    )?;
-    tell_name(lines, place, value, "service")?;
+    );
+    tell_name(lines, place, value, "service");
     tell_label(lines, place, value, "version")
 }
 
 // Adds what is found in a command of a service alone.
-fn tell_named(lines: &mut Lines, place: &JsonPlace, value: &Value) -> Result<(), Memory> {
-    tell_members(lines, place, value, &["service"], "no member but service")?;
+fn tell_named(lines: &mut Lines, place: JsonPlace, value: &Value) {
+    tell_members(lines, place, value, &["service"], "no member but service");
     tell_name(lines, place, value, "service")
 }

@@ -149,6 +149,19 @@ pub fn check(alloc: Global, text: &[u8]) -> Result<CheckReport, Memory>
     }
 }
 
+/// What is warned of the members of this Rollout that the desk ignores, though they change in Argo
+/// Rollouts what becomes of a release. Nothing is found.
+///
+/// # Errors
+/// `Memory` where an allocation was refused.
+pub fn check_ignored(alloc: Global, manifest: &Value) -> Result<CheckReport, Memory>
+    ensures { IfOk result (λ findings. IsTrue findings.is_taken) }
+{
+    let mut lines = Lines::new(alloc);
+    warn_of_ignored(&mut lines, JsonPlace::at(""), manifest);
+    Ok(CheckReport::none(lines.warnings()?))
+}
+
 /// What is found in a text that is no JSON, or `Memory`.
 pub(crate) fn no_json(
     alloc: Global,
@@ -160,19 +173,11 @@ pub(crate) fn no_json(
     ensures quiet { IfOk result (λ findings.
         IsTrue findings.is_quiet → warned.told ≡ 0) }
 {
-    let warnings = warned.warnings(alloc)?;
+    let warnings = warned.warnings()?;
     let mut lines = Lines::new(alloc);
-    lines.tell_no_json(alloc, fault.line(), fault.column())?;
-    tell_instead(&mut lines, instead_of_text(text))?;
-    found(alloc, lines, DEPTH, warnings)
-}
-
-// Adds to the last finding what to write instead, if that is known.
-fn tell_instead(lines: &mut Lines, what: Option<&str>) -> Result<(), Memory> {
-    match what {
-        Some(what) => lines.instead(what),
-        None => Ok(()),
-    }
+    lines.tell_no_json(fault.line(), fault.column());
+    lines.instead_if(instead_of_text(text));
+    found(lines, DEPTH, warnings)
 }
 
 // What is found in a manifest, by its kind; `text` is what it was read from.
@@ -196,13 +201,9 @@ fn other_kind(alloc: Global, manifest: &Value) -> Result<CheckReport, Memory>
     ensures { IfOk result (λ findings. findings.is_taken ≡ false) }
 {
     let mut lines = Lines::new(alloc);
-    lines.tell(
-        &JsonPlace::root(alloc),
-        "kind",
-        "AnalysisTemplate or Rollout",
-    )?;
-    tell_instead(&mut lines, instead_of_manifest(manifest))?;
-    found(alloc, lines, DEPTH, None)
+    lines.tell(JsonPlace::at(""), "kind", "AnalysisTemplate or Rollout");
+    lines.instead_if(instead_of_manifest(manifest));
+    found(lines, DEPTH, None)
 }
 
 // Whether its `kind` is that text; or it has none, and of these two keys its `spec` has the first
@@ -236,8 +237,8 @@ fn check_template(alloc: Global, text: &[u8], manifest: &Value) -> Result<CheckR
         return Ok(CheckReport::none(warnings));
     }
     let mut lines = Lines::new(alloc);
-    tell_template(alloc, &mut lines, &JsonPlace::root(alloc), manifest)?;
-    found(alloc, lines, DEPTH, warnings)
+    tell_template(&mut lines, JsonPlace::at(""), manifest);
+    found(lines, DEPTH, warnings)
 }
 
 // What is warned of an AnalysisTemplate, its length and its metrics, if there is anything.
@@ -245,9 +246,9 @@ fn template_warnings(alloc: Global, text: &[u8], manifest: &Value) -> Result<Opt
     ensures { IfOk result (λ w. IfSome w (λ lines. 3 < length (string_bytes lines))) }
 {
     let mut lines = Lines::new(alloc);
-    warn_of_length(alloc, &mut lines, "manifest", text.len())?;
-    warn_of_template(alloc, &mut lines, &JsonPlace::root(alloc), manifest)?;
-    lines.warnings(alloc)
+    warn_of_length(&mut lines, "manifest", text.len());
+    warn_of_template(&mut lines, JsonPlace::at(""), manifest);
+    lines.warnings()
 }
 
 // What is found in a Rollout, by the body that registers it under some version.
@@ -258,8 +259,8 @@ fn check_rollout(alloc: Global, text: &[u8], manifest: &Value) -> Result<CheckRe
         IsTrue findings.is_quiet → IsTrue (is_request_attended (service_body text.now))) }
 {
     let mut lines = Lines::new(alloc);
-    warn_of_length(alloc, &mut lines, "manifest", text.len())?;
-    warn_of_ignored(alloc, &mut lines, &JsonPlace::root(alloc), manifest)?;
+    warn_of_length(&mut lines, "manifest", text.len());
+    warn_of_ignored(&mut lines, JsonPlace::at(""), manifest);
     let front = "{\"service\":{\"version\":\"v1\",\"manifest\":";
     let body = body_of(alloc, front, text, "}}")?;
     check_service(alloc, manifest, body.as_slice(), lines)
@@ -297,9 +298,9 @@ fn check_command(
     ensures attended { IfOk result (λ findings.
         IsTrue findings.is_quiet → IsTrue (is_command_attended command.now)) }
 {
-    warn_of_command(alloc, &mut warned, &JsonPlace::root(alloc), command)?;
+    warn_of_command(&mut warned, JsonPlace::at(""), command);
     if is_command_taken(alloc, command)? {
-        return Ok(CheckReport::none(warned.warnings(alloc)?));
+        return Ok(CheckReport::none(warned.warnings()?));
     }
     rollout_found(alloc, manifest, warned)
 }
@@ -310,15 +311,14 @@ fn rollout_found(alloc: Global, manifest: &Value, warned: Lines) -> Result<Check
     ensures quiet { IfOk result (λ findings.
         IsTrue findings.is_quiet → warned.told ≡ 0) }
 {
-    let warnings = warned.warnings(alloc)?;
+    let warnings = warned.warnings()?;
     let mut lines = Lines::new(alloc);
-    tell_rollout(alloc, &mut lines, &JsonPlace::root(alloc), manifest)?;
-    found(alloc, lines, DEPTH, warnings)
+    tell_rollout(&mut lines, JsonPlace::at(""), manifest);
+    found(lines, DEPTH, warnings)
 }
 
 /// What was found, in lines, or a general finding where they have none; or `Memory`.
 pub(crate) fn found(
-    alloc: Global,
     lines: Lines,
     general: &str,
     warnings: Option<String>,
@@ -328,7 +328,7 @@ pub(crate) fn found(
     ensures taken { IfOk result (λ findings. findings.is_taken ≡ false) }
     ensures quiet { IfOk result (λ findings. findings.is_quiet ≡ is_none warnings) }
 {
-    let text = lines.finish(alloc, general)?;
+    let text = lines.finish(general)?;
     Ok(CheckReport {
         lines: Some(text),
         warnings,
@@ -349,8 +349,8 @@ fn is_body_taken(alloc: Global, front: &str, text: &[u8], end: &str) -> Result<b
     }
 }
 
-// This text between a front and an end.
-fn body_of(alloc: Global, front: &str, text: &[u8], end: &str) -> Result<Vec<u8>, Memory>
+/// This text between a front and an end, or `Memory`.
+pub(crate) fn body_of(alloc: Global, front: &str, text: &[u8], end: &str) -> Result<Vec<u8>, Memory>
     ensures { IfOk result (λ body. body.items ≡ front.now ++ text.now ++ end.now) }
 {
     let mut body = Vec::new(alloc);

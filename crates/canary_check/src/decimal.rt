@@ -3,7 +3,6 @@
 use crate::forms;
 use crate::instead::{ends_operand, is_word_byte};
 use crate::lines::Lines;
-use canary_base::error::Memory;
 use canary_condition::explanation::{Explained, Why};
 use canary_manifest::member::member_of;
 use serde_json::Value;
@@ -67,9 +66,8 @@ fn is_number_byte(byte: u8) -> bool {
 }
 
 impl<'a> DecimalLiteral<'a> {
-    /// Adds to the last finding what to write in its place, in conditions that have these numbers;
-    /// or `Memory`.
-    pub(crate) fn tell(self, lines: &mut Lines, numbers: ConditionNumbers) -> Result<(), Memory> {
+    /// Adds to the last finding what to write in its place, in conditions that have these numbers.
+    pub(crate) fn tell(self, lines: &mut Lines, numbers: ConditionNumbers) {
         match unit_of(numbers.decimals) {
             Some(unit) => self.tell_in(lines, unit, numbers),
             None => lines.instead(forms::DECIMAL),
@@ -77,12 +75,7 @@ impl<'a> DecimalLiteral<'a> {
     }
 
     // Adds the number as it is in that unit, and that other numbers for that result are in it, too.
-    fn tell_in(
-        self,
-        lines: &mut Lines,
-        unit: &'a str,
-        numbers: ConditionNumbers,
-    ) -> Result<(), Memory> {
+    fn tell_in(self, lines: &mut Lines, unit: &'a str, numbers: ConditionNumbers) {
         let (whole, part, zeros) = self.without_point(numbers.decimals);
         let (others, in_unit) = match numbers.count {
             0 | 1 => ("", ""),

@@ -2,11 +2,9 @@
 //! a release. docs/API.md has the whole list, and which of them do no harm.
 use crate::json_place::JsonPlace;
 use crate::lines::Lines;
-use canary_base::error::Memory;
 use canary_manifest::member::{is_true, member_of};
 use canary_manifest::rollout::canary_of;
 use serde_json::Value;
-use std::alloc::Global;
 
 // When a member means something.
 enum When {
@@ -79,55 +77,39 @@ const ROUTING: [Ignored; 1] = [Ignored {
     instead: "the desk ignores it, and weights are percent: write each setWeight as a part of 100",
 }];
 
-/// Warns of each such member of the Rollout there, or `Memory`.
-pub(crate) fn warn_of_ignored(
-    alloc: Global,
-    lines: &mut Lines,
-    place: &JsonPlace,
-    manifest: &Value,
-) -> Result<(), Memory> {
+/// Warns of each such member of the Rollout there.
+pub(crate) fn warn_of_ignored(lines: &mut Lines, place: JsonPlace, manifest: &Value) {
     if let Some(spec) = member_of(manifest, "spec") {
-        warn_of_each(lines, &place.member(alloc, "spec")?, spec, &SPEC)?;
+        warn_of_each(lines, place.member("spec"), spec, &SPEC);
     }
     match canary_of(manifest) {
         Some(canary) => {
-            let place = place.member(alloc, "spec.strategy.canary")?;
-            warn_of_each(lines, &place, canary, &CANARY)?;
-            warn_of_routing(alloc, lines, &place, canary)
+            let place = place.member("spec.strategy.canary");
+            warn_of_each(lines, place, canary, &CANARY);
+            warn_of_routing(lines, place, canary)
         }
-        None => Ok(()),
+        None => {}
     }
 }
 
 // Warns of such members in the `trafficRouting` of a canary strategy, if it has one.
-fn warn_of_routing(
-    alloc: Global,
-    lines: &mut Lines,
-    canary_place: &JsonPlace,
-    canary: &Value,
-) -> Result<(), Memory> {
+fn warn_of_routing(lines: &mut Lines, canary_place: JsonPlace, canary: &Value) {
     match member_of(canary, "trafficRouting") {
         Some(routing) => {
-            let place = canary_place.member(alloc, "trafficRouting")?;
-            warn_of_each(lines, &place, routing, &ROUTING)
+            let place = canary_place.member("trafficRouting");
+            warn_of_each(lines, place, routing, &ROUTING)
         }
-        None => Ok(()),
+        None => {}
     }
 }
 
 // Warns of each of these members that the object has, if what it holds means something.
-fn warn_of_each(
-    lines: &mut Lines,
-    place: &JsonPlace,
-    value: &Value,
-    known: &[Ignored],
-) -> Result<(), Memory> {
+fn warn_of_each(lines: &mut Lines, place: JsonPlace, value: &Value, known: &[Ignored]) {
     for ignored in known {
         if member_of(value, ignored.key).is_some_and(|held| ignored.when.is_met(held)) {
-            lines.warn(place, ignored.key, ignored.instead)?;
+            lines.warn(place, ignored.key, ignored.instead);
         }
     }
-    Ok(())
 }
 
 impl When {

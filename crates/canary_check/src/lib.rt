@@ -16,6 +16,8 @@
 #![tactic(auto)]
 
 mod alone;
+pub mod attempt;
+mod binding;
 mod body;
 pub mod check;
 mod condition;

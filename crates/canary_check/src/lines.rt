@@ -3,7 +3,8 @@
 //! A finding is a line, behind which more may follow that begin with four spaces: a text with a
 //! caret, and what to write instead. Each is short, and there are 100 at most: those beyond are
 //! counted in a last line. Warnings are such lines, too.
-ghost use Rattle.std.specs.Prelude.{◌≡◌, ◌<◌, IfOk, IfSome, IsTrue, is_none, length, string_bytes};
+ghost use Rattle.std.specs.Prelude.{◌≡◌, ◌<◌, false, IfOk, IfSome, IsTrue, is_none, length};
+ghost use Rattle.std.specs.Prelude.{string_bytes};
 
 use crate::excerpt::write_excerpt;
 use crate::json_place::JsonPlace;
@@ -19,130 +20,148 @@ const EXPECTED: &str = ": expected ";
 
 const MISSING: &str = ": missing; expected ";
 
-/// Findings so far.
+/// Findings so far. If memory is refused, that is remembered, and said at the end.
 #[derive(Drop)]
 pub(crate) struct Lines {
+    pub(crate) alloc: Global,
     text: String,
     // How many findings the text has.
     told: u32,
     // How many came after these.
     more: u64,
+    is_refused: bool,
 }
 
 impl Lines {
     /// No findings.
     pub(crate) fn new(alloc: Global) -> Lines {
         Lines {
+            alloc,
             text: String::new(alloc),
             told: 0,
             more: 0,
+            is_refused: false,
         }
     }
 
     /// Adds what is expected under a key of the object there, or with an empty key of the object
-    /// itself; or `Memory`.
-    pub(crate) fn tell(&mut self, place: &JsonPlace, key: &str, what: &str) -> Result<(), Memory> {
-        if !self.has_room() {
-            return Ok(());
+    /// itself.
+    pub(crate) fn tell(&mut self, place: JsonPlace, key: &str, what: &str) {
+        if self.has_room() {
+            self.put_place(place, key);
+            self.put_end(EXPECTED, what);
         }
-        place.write(&mut self.text, key)?;
-        self.push_end(EXPECTED, what)
     }
 
     /// The same of a member that is not there.
-    pub(crate) fn tell_missing(
-        &mut self,
-        place: &JsonPlace,
-        key: &str,
-        what: &str,
-    ) -> Result<(), Memory> {
-        if !self.has_room() {
-            return Ok(());
+    pub(crate) fn tell_missing(&mut self, place: JsonPlace, key: &str, what: &str) {
+        if self.has_room() {
+            self.put_place(place, key);
+            self.put_end(MISSING, what);
         }
-        place.write(&mut self.text, key)?;
-        self.push_end(MISSING, what)
     }
 
-    /// Adds what is expected at a byte of the text that stands there, or `Memory`.
-    pub(crate) fn tell_byte(
-        &mut self,
-        alloc: Global,
-        place: &JsonPlace,
-        key: &str,
-        byte: u32,
-        what: &str,
-    ) -> Result<(), Memory> {
-        if !self.has_room() {
-            return Ok(());
+    /// Adds what is expected at a byte of the text that stands there.
+    pub(crate) fn tell_byte(&mut self, place: JsonPlace, key: &str, byte: u32, what: &str) {
+        if self.has_room() {
+            self.put_place(place, key);
+            self.put(", byte ");
+            self.put_number(byte as u64);
+            self.put_end(EXPECTED, what);
         }
-        let at = format!(in alloc; ", byte {byte}")?;
-        place.write(&mut self.text, key)?;
-        self.text.push_str(at.as_str())?;
-        self.push_end(EXPECTED, what)
     }
 
-    /// Adds that a text is no JSON, at or just before this line and column, each from 1; or
-    /// `Memory`.
-    pub(crate) fn tell_no_json(
-        &mut self,
-        alloc: Global,
-        line: usize,
-        column: usize,
-    ) -> Result<(), Memory> {
-        if !self.has_room() {
-            return Ok(());
+    /// Adds that a text is no JSON, at or just before this line and column, each from 1.
+    pub(crate) fn tell_no_json(&mut self, line: usize, column: usize) {
+        if self.has_room() {
+            self.put("near line ");
+            self.put_number(line as u64);
+            self.put(", column ");
+            self.put_number(column as u64);
+            self.put_end(EXPECTED, JSON);
         }
-        let at = format!(in alloc; "near line {line}, column {column}")?;
-        self.text.push_str(at.as_str())?;
-        self.push_end(EXPECTED, JSON)
     }
 
-    /// Adds to the last finding the text of which it speaks, with a caret under that byte; or
-    /// `Memory`.
-    pub(crate) fn quote(&mut self, text: &[u8], at: usize) -> Result<(), Memory> {
-        if self.more > 0 {
-            return Ok(());
+    /// Adds to the last finding the text of which it speaks, with a caret under that byte.
+    pub(crate) fn quote(&mut self, text: &[u8], at: usize) {
+        if self.more == 0 && write_excerpt(&mut self.text, text, at).is_err() {
+            self.is_refused = true;
         }
-        write_excerpt(&mut self.text, text, at)
     }
 
-    /// Adds to the last finding what to write or to do instead, or `Memory`.
-    pub(crate) fn instead(&mut self, what: &str) -> Result<(), Memory> {
-        self.instead_in_parts(&[what])
+    /// Adds to the last finding what to write or to do instead.
+    pub(crate) fn instead(&mut self, what: &str) {
+        self.instead_in_parts(&[what]);
+    }
+
+    /// The same, if it is known.
+    pub(crate) fn instead_if(&mut self, what: Option<&str>) {
+        if let Some(what) = what {
+            self.instead(what);
+        }
     }
 
     /// The same, in parts that follow one another.
-    pub(crate) fn instead_in_parts(&mut self, parts: &[&str]) -> Result<(), Memory> {
+    pub(crate) fn instead_in_parts(&mut self, parts: &[&str]) {
         if self.more > 0 {
-            return Ok(());
+            return;
         }
-        self.text.push_str("    instead: ")?;
+        self.put("    instead: ");
         for part in parts {
-            self.text.push_str(part)?;
+            self.put(part);
         }
-        self.text.push_str("\n")?;
-        Ok(())
+        self.put("\n");
     }
 
     /// Adds a warning of the member under a key of the object there, or with an empty key of the
-    /// object itself; or `Memory`.
-    pub(crate) fn warn(&mut self, place: &JsonPlace, key: &str, what: &str) -> Result<(), Memory>
+    /// object itself.
+    pub(crate) fn warn(&mut self, place: JsonPlace, key: &str, what: &str)
         ensures { 0 < self.new.told }
     {
-        if !self.has_room() {
-            return Ok(());
+        if self.has_room() {
+            self.put_place(place, key);
+            self.put_end(": ", what);
         }
-        place.write(&mut self.text, key)?;
-        self.push_end(": ", what)
+    }
+
+    /// The same, in words that were made, if memory was not refused for them.
+    pub(crate) fn warn_made(&mut self, place: JsonPlace, key: &str, what: Result<String, Memory>)
+        ensures { 0 < self.new.told }
+    {
+        match what {
+            Ok(what) => self.warn(place, key, what.as_str()),
+            Err(_) => {
+                self.is_refused = true;
+                self.warn(place, key, "");
+            }
+        }
+    }
+
+    /// Whether that is so. If memory was refused to find out, it is not, and that is remembered.
+    pub(crate) fn holds(&mut self, answer: Result<bool, Memory>) -> bool {
+        match answer {
+            Ok(holds) => holds,
+            Err(_) => {
+                self.is_refused = true;
+                false
+            }
+        }
+    }
+
+    /// Remembers that memory was refused.
+    pub(crate) fn refuse(&mut self) {
+        self.is_refused = true;
     }
 
     /// The findings, with a general one in place of none; or `Memory`. They are never as short as
     /// `ok` is.
-    pub(crate) fn finish(self, alloc: Global, general: &str) -> Result<String, Memory>
+    pub(crate) fn finish(self, general: &str) -> Result<String, Memory>
         requires { 3 < length general.now }
-        ensures { IfOk result (λ text. 3 < length (string_bytes text)) }
+        ensures long { IfOk result (λ text. 3 < length (string_bytes text)) }
+        ensures kept { IfOk result (λ _. self.is_refused ≡ false) }
     {
-        let text = self.with_more(alloc)?;
+        let alloc = self.alloc;
+        let text = self.with_more()?;
         if text.len() > 3 {
             return Ok(text);
         }
@@ -150,25 +169,34 @@ impl Lines {
     }
 
     /// The warnings, if there are any; or `Memory`. They are never as short as `ok` is.
-    pub(crate) fn warnings(self, alloc: Global) -> Result<Option<String>, Memory>
+    pub(crate) fn warnings(self) -> Result<Option<String>, Memory>
+        ensures kept { IfOk result (λ _. self.is_refused ≡ false) }
         ensures long { IfOk result (λ text. IfSome text (λ t. 3 < length (string_bytes t))) }
         ensures none { IfOk result (λ text. IsTrue (is_none text) → self.told ≡ 0) }
     {
+        if self.is_refused {
+            return Err(Memory);
+        }
         if self.told == 0 {
             return Ok(None);
         }
-        Ok(Some(self.finish(alloc, NO_LINE)?))
+        Ok(Some(self.finish(NO_LINE)?))
     }
 
     // The lines, and a last one that counts what was left out.
-    fn with_more(self, alloc: Global) -> Result<String, Memory> {
-        let Lines { text, more, .. } = self;
-        let mut text = text;
+    fn with_more(mut self) -> Result<String, Memory>
+        ensures { IfOk result (λ _. self.is_refused ≡ false) }
+    {
+        let more = self.more;
         if more > 0 {
-            let last = format!(in alloc; "and {more} more\n")?;
-            text.push_str(last.as_str())?;
+            self.put("and ");
+            self.put_number(more);
+            self.put(" more\n");
         }
-        Ok(text)
+        if self.is_refused {
+            return Err(Memory);
+        }
+        Ok(self.text)
     }
 
     // Whether a finding more is told; else it is counted alone.
@@ -183,14 +211,88 @@ impl Lines {
         false
     }
 
-    // Ends a line that has its place: `front` introduces `what`. It counts no finding.
-    fn push_end(&mut self, front: &str, what: &str) -> Result<(), Memory>
+    // ---- parts of a line, which count no finding
+
+    // Ends a line that has its place: `front` introduces `what`.
+    fn put_end(&mut self, front: &str, what: &str)
         ensures { self.new.told ≡ self.old.told }
     {
-        self.text.push_str(front)?;
-        self.text.push_str(what)?;
-        self.text.push_str("\n")?;
-        Ok(())
+        self.put(front);
+        self.put(what);
+        self.put("\n");
+    }
+
+    // Where the member under that key is, or with an empty key the object itself.
+    fn put_place(&mut self, place: JsonPlace, key: &str)
+        ensures { self.new.told ≡ self.old.told }
+    {
+        let is_behind = self.put_key(false, place.root);
+        let is_behind = self.put_key(is_behind, place.outer);
+        let is_behind = self.put_key(is_behind, place.part);
+        let is_behind = self.put_item(is_behind, place.list, place.index);
+        let is_behind = self.put_key(is_behind, place.inner);
+        let is_behind = self.put_item(is_behind, place.inner_list, place.inner_index);
+        self.put_key(is_behind, key);
+        self.put_whose(place.metric);
+    }
+
+    // That key, if there is one, behind others or not; whether there is any so far.
+    fn put_key(&mut self, is_behind: bool, key: &str) -> bool
+        ensures { self.new.told ≡ self.old.told }
+    {
+        if key.is_empty() {
+            return is_behind;
+        }
+        if is_behind {
+            self.put(".");
+        }
+        self.put(key);
+        true
+    }
+
+    // The same of an item of the list under that key.
+    fn put_item(&mut self, is_behind: bool, key: &str, index: usize) -> bool
+        ensures { self.new.told ≡ self.old.told }
+    {
+        if key.is_empty() {
+            return is_behind;
+        }
+        self.put_key(is_behind, key);
+        self.put("[");
+        self.put_number(index as u64);
+        self.put("]");
+        true
+    }
+
+    // Whose it is, if it is of a metric that has a name.
+    fn put_whose(&mut self, metric: &str)
+        ensures { self.new.told ≡ self.old.told }
+    {
+        if !metric.is_empty() {
+            self.put(" (metric \"");
+            self.put(metric);
+            self.put("\")");
+        }
+    }
+
+    // A number.
+    fn put_number(&mut self, number: u64)
+        ensures told { self.new.told ≡ self.old.told }
+        ensures kept { self.new.is_refused ≡ false → self.old.is_refused ≡ false }
+    {
+        if write!(self.text, "{number}").is_err() {
+            self.is_refused = true;
+        }
+    }
+
+    // A text.
+    fn put(&mut self, text: &str)
+        ensures told { self.new.told ≡ self.old.told }
+        ensures kept { self.new.is_refused ≡ false → self.old.is_refused ≡ false }
+    {
+        if self.text.push_str(text).is_err() {
+            self.is_refused = true;
+        }
     }
 }
 

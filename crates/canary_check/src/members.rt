@@ -1,7 +1,6 @@
 //! What is found in the members of any object.
 use crate::json_place::JsonPlace;
 use crate::lines::Lines;
-use canary_base::error::Memory;
 use canary_base::names::Label;
 use canary_canonical::form::{label_at, name_at};
 use canary_manifest::member::member_of;
@@ -21,35 +20,34 @@ pub(crate) fn key_shown(key: &str) -> &str {
     }
 }
 
-/// Adds each member of an object whose key is none of these, or `Memory`. Of what is no object the
+/// Adds each member of an object whose key is none of these. Of what is no object the
 /// members that lack are told elsewhere.
 pub(crate) fn tell_members(
     lines: &mut Lines,
-    place: &JsonPlace,
+    place: JsonPlace,
     value: &Value,
     known: &[&str],
     what: &str,
-) -> Result<(), Memory> {
+) {
     match value.as_object() {
         Some(members) => tell_foreign(lines, place, members, known, what),
-        None => Ok(()),
+        None => {}
     }
 }
 
 // The same of these members of an object. A key that is no label is not shown.
 fn tell_foreign(
     lines: &mut Lines,
-    place: &JsonPlace,
+    place: JsonPlace,
     members: &Map<String, Value>,
     known: &[&str],
     what: &str,
-) -> Result<(), Memory> {
+) {
     for (key, _) in members.iter() {
         if !is_known(known, key.as_str()) {
-            lines.tell(place, key_shown(key.as_str()), what)?;
+            lines.tell(place, key_shown(key.as_str()), what);
         }
     }
-    Ok(())
 }
 
 /// Whether the key is one of these.
@@ -57,42 +55,32 @@ pub(crate) fn is_known(known: &[&str], key: &str) -> bool {
     known.iter().any(|name| *name == key)
 }
 
-/// Adds what is expected under that key, and if nothing is there, that it is missing; or `Memory`.
+/// Adds what is expected under that key, and if nothing is there, that it is missing.
 pub(crate) fn tell_wrong(
     lines: &mut Lines,
-    place: &JsonPlace,
+    place: JsonPlace,
     value: &Value,
     key: &str,
     what: &str,
-) -> Result<(), Memory> {
+) {
     match member_of(value, key) {
         Some(_) => lines.tell(place, key, what),
         None => lines.tell_missing(place, key, what),
     }
 }
 
-/// Adds that the member of that key is no name, or `Memory`.
-pub(crate) fn tell_name(
-    lines: &mut Lines,
-    place: &JsonPlace,
-    value: &Value,
-    key: &str,
-) -> Result<(), Memory> {
+/// Adds that the member of that key is no name.
+pub(crate) fn tell_name(lines: &mut Lines, place: JsonPlace, value: &Value, key: &str) {
     match name_at(value, key) {
-        Some(_) => Ok(()),
+        Some(_) => {}
         None => tell_wrong(lines, place, value, key, NAME),
     }
 }
 
-/// Adds that the member of that key is no label, or `Memory`.
-pub(crate) fn tell_label(
-    lines: &mut Lines,
-    place: &JsonPlace,
-    value: &Value,
-    key: &str,
-) -> Result<(), Memory> {
+/// Adds that the member of that key is no label.
+pub(crate) fn tell_label(lines: &mut Lines, place: JsonPlace, value: &Value, key: &str) {
     match label_at(value, key) {
-        Some(_) => Ok(()),
+        Some(_) => {}
         None => tell_wrong(lines, place, value, key, LABEL),
     }
 }

@@ -26,84 +26,58 @@ pub(crate) fn metric_name(metric: &Value) -> Option<Label> {
     label_in(member_of(metric, "name")?)
 }
 
-/// Adds what is found in a metric, but for what its template refuses; or `Memory`.
-pub(crate) fn tell_metric(
-    alloc: Global,
-    lines: &mut Lines,
-    place: &JsonPlace,
-    metric: &Value,
-) -> Result<(), Memory> {
+/// Adds what is found in a metric, but for what its template refuses.
+pub(crate) fn tell_metric(lines: &mut Lines, place: JsonPlace, metric: &Value) {
     if metric_name(metric).is_none() {
-        tell_wrong(lines, place, metric, "name", LABEL)?;
+        tell_wrong(lines, place, metric, "name", LABEL);
     }
-    tell_condition(alloc, lines, place, metric, "successCondition")?;
-    tell_condition(alloc, lines, place, metric, "failureCondition")?;
-    tell_times(alloc, lines, place, metric)?;
-    tell_limits(lines, place, metric)
+    tell_condition(lines, place, metric, "successCondition");
+    tell_condition(lines, place, metric, "failureCondition");
+    tell_times(lines, place, metric);
+    tell_limits(lines, place, metric);
 }
 
 // Adds why the condition under that key has no reading, if it has none.
-fn tell_condition(
-    alloc: Global,
-    lines: &mut Lines,
-    place: &JsonPlace,
-    metric: &Value,
-    key: &str,
-) -> Result<(), Memory> {
-    match condition_at(alloc, metric, key) {
-        Ok(None) => Ok(()),
-        Ok(Some(text)) => tell_text(alloc, lines, place, metric, key, text.as_str()),
+fn tell_condition(lines: &mut Lines, place: JsonPlace, metric: &Value, key: &str) {
+    match condition_at(lines.alloc, metric, key) {
+        Ok(None) => {}
+        Ok(Some(text)) => tell_text(lines, place, metric, key, text.as_str()),
         Err(FormFault::Unreadable) => lines.tell(place, key, "a condition in a text"),
-        Err(FormFault::Memory) => Err(Memory),
+        Err(FormFault::Memory) => lines.refuse(),
     }
 }
 
 // Adds at which byte a text stops being a condition, if it does, and what to write instead.
-fn tell_text(
-    alloc: Global,
-    lines: &mut Lines,
-    place: &JsonPlace,
-    metric: &Value,
-    key: &str,
-    text: &str,
-) -> Result<(), Memory> {
+fn tell_text(lines: &mut Lines, place: JsonPlace, metric: &Value, key: &str, text: &str) {
     let Some(explained) = explain(text) else {
-        return Ok(());
+        return;
     };
-    lines.tell_byte(alloc, place, key, explained.at, expected(explained.why))?;
-    lines.quote(text.as_bytes(), explained.at as usize)?;
+    lines.tell_byte(place, key, explained.at, expected(explained.why));
+    lines.quote(text.as_bytes(), explained.at as usize);
     if let Some(decimal) = decimal_at(text, explained) {
         return decimal.tell(lines, numbers_of(metric));
     }
-    match instead(text.as_bytes(), explained) {
-        Some(what) => lines.instead(what),
-        None => Ok(()),
-    }
+    lines.instead_if(instead(text.as_bytes(), explained));
 }
 
 // Adds what is found in when, how often and until when a metric is measured.
-fn tell_times(
-    alloc: Global,
-    lines: &mut Lines,
-    place: &JsonPlace,
-    metric: &Value,
-) -> Result<(), Memory> {
+fn tell_times(lines: &mut Lines, place: JsonPlace, metric: &Value) {
     if duration_at(metric, "interval").is_none() {
-        lines.tell(place, "interval", DURATION)?;
+        lines.tell(place, "interval", DURATION);
     }
     if delay_at(metric, "initialDelay").is_none() {
-        lines.tell(place, "initialDelay", DURATION)?;
+        lines.tell(place, "initialDelay", DURATION);
     }
     if count_at(metric, "count").is_none() {
-        lines.tell(place, "count", LIMIT)?;
+        lines.tell(place, "count", LIMIT);
     }
     if count_at(metric, "passAfter").is_none() {
-        lines.tell(place, "passAfter", LIMIT)?;
+        lines.tell(place, "passAfter", LIMIT);
     }
-    if needs_interval(alloc, metric)? {
-        lines.tell(place, "interval", "an interval, since the count is above 1")?;
+    let needs_interval = needs_interval(lines.alloc, metric);
+    if lines.holds(needs_interval) {
+        lines.tell(place, "interval", "an interval, since the count is above 1");
     }
-    Ok(())
 }
 
 // Whether the desk wants an interval beside its count.
@@ -119,33 +93,27 @@ fn needs_interval(alloc: Global, metric: &Value) -> Result<bool, Memory> {
 }
 
 // Adds which limits of a metric are invalid, and which the desk does not support.
-fn tell_limits(lines: &mut Lines, place: &JsonPlace, metric: &Value) -> Result<(), Memory> {
+fn tell_limits(lines: &mut Lines, place: JsonPlace, metric: &Value) {
     if member_of(metric, "failureLimit").is_some_and(is_negative) {
-        lines.tell(place, "failureLimit", "no limit below 0 (unsupported)")?;
+        lines.tell(place, "failureLimit", "no limit below 0 (unsupported)");
     } else {
-        tell_limit(lines, place, metric, "failureLimit")?;
+        tell_limit(lines, place, metric, "failureLimit");
     }
-    tell_limit(lines, place, metric, "inconclusiveLimit")?;
-    tell_limit(lines, place, metric, "consecutiveErrorLimit")?;
+    tell_limit(lines, place, metric, "inconclusiveLimit");
+    tell_limit(lines, place, metric, "consecutiveErrorLimit");
     if member_of(metric, "consecutiveSuccessLimit").is_some() {
         lines.tell(
             place,
             "consecutiveSuccessLimit",
             "no such limit (unsupported)",
-        )?;
+        );
     }
-    Ok(())
 }
 
 // Adds that the limit under that key is invalid; an absent one is fine.
-fn tell_limit(
-    lines: &mut Lines,
-    place: &JsonPlace,
-    metric: &Value,
-    key: &str,
-) -> Result<(), Memory> {
+fn tell_limit(lines: &mut Lines, place: JsonPlace, metric: &Value, key: &str) {
     match limit_at(metric, key, 0) {
-        Some(_) => Ok(()),
+        Some(_) => {}
         None => lines.tell(place, key, LIMIT),
     }
 }

@@ -2,12 +2,10 @@
 use crate::json_place::JsonPlace;
 use crate::lines::Lines;
 use crate::members::{tell_label, tell_members, tell_name};
-use canary_base::error::Memory;
 use canary_canonical::form::{label_at, moment_in, number_at};
 use canary_canonical::plain::MAX_ENTRIES;
 use canary_condition::outcome::{MAX_FAILURE_BYTES, MAX_VALUES};
 use serde_json::Value;
-use std::alloc::Global;
 
 // The greatest number of a run, and the greatest ordinal of a measurement.
 const GREATEST: u32 = 1_000_000_000;
@@ -28,66 +26,50 @@ const RESULT: &str = "a signed whole number of 64 bits, or a list of 1 to 16 of 
 
 const FAILURE: &str = "a text of 1 to 200 bytes";
 
-/// Adds what is found in the report there, or `Memory`.
-pub(crate) fn tell_report(
-    alloc: Global,
-    lines: &mut Lines,
-    place: &JsonPlace,
-    value: &Value,
-) -> Result<(), Memory> {
-    tell_members(lines, place, value, &["service", "run", "entries"], MEMBERS)?;
-    tell_name(lines, place, value, "service")?;
-    tell_number(lines, place, value, "run")?;
+/// Adds what is found in the report there.
+pub(crate) fn tell_report(lines: &mut Lines, place: JsonPlace, value: &Value) {
+    tell_members(lines, place, value, &["service", "run", "entries"], MEMBERS);
+    tell_name(lines, place, value, "service");
+    tell_number(lines, place, value, "run");
     match value.get("entries").and_then(|entries| entries.as_array()) {
-        Some(list) => tell_entries(alloc, lines, place, list),
+        Some(list) => tell_entries(lines, place, list),
         None => lines.tell(place, "entries", ENTRIES),
     }
 }
 
 // Adds that no number from 1 to 1,000,000,000 is under that key.
-fn tell_number(
-    lines: &mut Lines,
-    place: &JsonPlace,
-    value: &Value,
-    key: &str,
-) -> Result<(), Memory> {
+fn tell_number(lines: &mut Lines, place: JsonPlace, value: &Value, key: &str) {
     match number_at(value, key, GREATEST) {
-        Some(number) if number > 0 => Ok(()),
+        Some(number) if number > 0 => {}
         _ => lines.tell(place, key, NUMBER),
     }
 }
 
 // Adds that there are no entries or too many, and what is found in each.
-fn tell_entries(
-    alloc: Global,
-    lines: &mut Lines,
-    place: &JsonPlace,
-    list: &Vec<Value>,
-) -> Result<(), Memory> {
+fn tell_entries(lines: &mut Lines, place: JsonPlace, list: &Vec<Value>) {
     if list.is_empty() || list.len() > MAX_ENTRIES {
-        lines.tell(place, "entries", ENTRIES)?;
+        lines.tell(place, "entries", ENTRIES);
     }
     for (index, entry) in list.iter().enumerate() {
-        let place = place.item(alloc, "entries", index)?;
-        tell_entry(lines, &place, entry)?;
-        tell_if_repeated(lines, &place, list, index)?;
+        let place = place.item("entries", index);
+        tell_entry(lines, place, entry);
+        tell_if_repeated(lines, place, list, index);
     }
-    Ok(())
 }
 
 // Adds what is found in an entry by itself.
-fn tell_entry(lines: &mut Lines, place: &JsonPlace, entry: &Value) -> Result<(), Memory> {
+fn tell_entry(lines: &mut Lines, place: JsonPlace, entry: &Value) {
     tell_members(
         lines,
         place,
         entry,
         &["metric", "ordinal", "taken", "result", "failure"],
         ENTRY_MEMBERS,
-    )?;
-    tell_label(lines, place, entry, "metric")?;
-    tell_number(lines, place, entry, "ordinal")?;
+    );
+    tell_label(lines, place, entry, "metric");
+    tell_number(lines, place, entry, "ordinal");
     if entry.get("taken").and_then(moment_in).is_none() {
-        lines.tell(place, "taken", TAKEN)?;
+        lines.tell(place, "taken", TAKEN);
     }
     match (entry.get("result"), entry.get("failure")) {
         (Some(result), None) => tell_result(lines, place, result),
@@ -97,14 +79,14 @@ fn tell_entry(lines: &mut Lines, place: &JsonPlace, entry: &Value) -> Result<(),
 }
 
 // Adds that a result is invalid, and what to report instead.
-fn tell_result(lines: &mut Lines, place: &JsonPlace, measured: &Value) -> Result<(), Memory> {
+fn tell_result(lines: &mut Lines, place: JsonPlace, measured: &Value) {
     if is_result(measured) {
-        return Ok(());
+        return;
     }
-    lines.tell(place, "result", RESULT)?;
+    lines.tell(place, "result", RESULT);
     match instead_of_result(measured) {
         Some(what) => lines.instead(what),
-        None => Ok(()),
+        None => {}
     }
 }
 
@@ -132,24 +114,18 @@ fn instead_of_result(measured: &Value) -> Option<&'static str> {
 }
 
 // Adds that a failure is no text of 1 to 200 bytes.
-fn tell_failure(lines: &mut Lines, place: &JsonPlace, failure: &Value) -> Result<(), Memory> {
+fn tell_failure(lines: &mut Lines, place: JsonPlace, failure: &Value) {
     match failure.as_str() {
-        Some(text) if !text.is_empty() && text.len() <= MAX_FAILURE_BYTES => Ok(()),
+        Some(text) if !text.is_empty() && text.len() <= MAX_FAILURE_BYTES => {}
         _ => lines.tell(place, "failure", FAILURE),
     }
 }
 
 // Adds that an entry before this one names its metric.
-fn tell_if_repeated(
-    lines: &mut Lines,
-    place: &JsonPlace,
-    list: &Vec<Value>,
-    index: usize,
-) -> Result<(), Memory> {
+fn tell_if_repeated(lines: &mut Lines, place: JsonPlace, list: &Vec<Value>, index: usize) {
     if index < MAX_ENTRIES && is_repeated(list, index) {
         return lines.tell(place, "metric", "a metric that no entry before it names");
     }
-    Ok(())
 }
 
 // Whether an entry before that index names the same metric; an invalid name is never repeated.

@@ -38,7 +38,7 @@ pub fn check_request(alloc: Global, body: &[u8]) -> Result<CheckReport, Memory>
     ensures attended { IfOk result (λ findings.
         IsTrue findings.is_quiet → IsTrue (is_request_attended body.now)) }
 {
-    let warned = warned_of(alloc, body)?;
+    let warned = warned_of(alloc, body);
     match command_from_json(alloc, body) {
         Ok(command) => check_command(alloc, body, &command, warned),
         Err(WireFault::Unreadable) => not_taken(alloc, body, warned),
@@ -58,10 +58,9 @@ fn check_command(
     ensures attended { IfOk result (λ findings.
         IsTrue findings.is_quiet → IsTrue (is_command_attended command.now)) }
 {
-    let place = JsonPlace::at(alloc, "service.manifest")?;
-    warn_of_command(alloc, &mut warned, &place, command)?;
+    warn_of_command(&mut warned, JsonPlace::at("service.manifest"), command);
     if is_asked_taken(alloc, command)? {
-        return Ok(CheckReport::none(warned.warnings(alloc)?));
+        return Ok(CheckReport::none(warned.warnings()?));
     }
     not_taken(alloc, body, warned)
 }
@@ -85,41 +84,35 @@ fn body_not_taken(alloc: Global, body: &Value, warned: Lines) -> Result<CheckRep
     ensures quiet { IfOk result (λ findings.
         IsTrue findings.is_quiet → warned.told ≡ 0) }
 {
-    let warnings = warned.warnings(alloc)?;
+    let warnings = warned.warnings()?;
     let mut lines = Lines::new(alloc);
-    tell_body(alloc, &mut lines, body)?;
-    found(alloc, lines, COMMAND, warnings)
+    tell_body(&mut lines, body);
+    found(lines, COMMAND, warnings)
 }
 
 // What is warned of a body, but for the steps of a service.
-fn warned_of(alloc: Global, body: &[u8]) -> Result<Lines, Memory> {
+fn warned_of(alloc: Global, body: &[u8]) -> Lines {
     let mut lines = Lines::new(alloc);
-    warn_of_length(alloc, &mut lines, "body", body.len())?;
+    warn_of_length(&mut lines, "body", body.len());
     match Value::from_slice(alloc, body) {
-        Ok(value) => warn_of_body(alloc, &mut lines, &value)?,
-        Err(fault) if fault.is_memory() => return Err(Memory),
+        Ok(value) => warn_of_body(&mut lines, &value),
+        Err(fault) if fault.is_memory() => lines.refuse(),
         Err(_) => (),
     }
-    Ok(lines)
+    lines
 }
 
 // Warns of the manifest that a body has, of a template or of a service.
-fn warn_of_body(alloc: Global, lines: &mut Lines, body: &Value) -> Result<(), Memory> {
+fn warn_of_body(lines: &mut Lines, body: &Value) {
     match only_member(body) {
         Some(("template", manifest)) => {
-            warn_of_template(alloc, lines, &JsonPlace::at(alloc, "template")?, manifest)
+            warn_of_template(lines, JsonPlace::at("template"), manifest);
         }
-        Some(("service", service)) => match member_of(service, "manifest") {
-            Some(manifest) => {
-                warn_of_ignored(
-                    alloc,
-                    lines,
-                    &JsonPlace::at(alloc, "service.manifest")?,
-                    manifest,
-                )
+        Some(("service", service)) => {
+            if let Some(manifest) = member_of(service, "manifest") {
+                warn_of_ignored(lines, JsonPlace::at("service.manifest"), manifest);
             }
-            None => Ok(()),
-        },
-        _ => Ok(()),
+        }
+        _ => {}
     }
 }

@@ -26,181 +26,141 @@ pub(crate) const RETENTION: &str = "leave it out: the desk keeps every measureme
 
 const DRY_RUN: &str = "the name of a metric of the template, or .* for all";
 
-/// Adds what is found in an AnalysisTemplate there, or `Memory`.
-pub(crate) fn tell_template(
-    alloc: Global,
-    lines: &mut Lines,
-    place: &JsonPlace,
-    manifest: &Value,
-) -> Result<(), Memory> {
-    tell_other_kind(lines, place, manifest, "AnalysisTemplate")?;
-    tell_metadata(lines, place, manifest)?;
+/// Adds what is found in an AnalysisTemplate there.
+pub(crate) fn tell_template(lines: &mut Lines, place: JsonPlace, manifest: &Value) {
+    tell_other_kind(lines, place, manifest, "AnalysisTemplate");
+    tell_metadata(lines, place, manifest);
     match member_of(manifest, "spec") {
-        Some(spec) => tell_spec(alloc, lines, &place.member(alloc, "spec")?, spec),
+        Some(spec) => tell_spec(lines, place.member("spec"), spec),
         None => lines.tell(place, "spec.metrics", METRICS),
     }
 }
 
-/// Adds that a manifest says another kind, if it says one; or `Memory`.
-pub(crate) fn tell_other_kind(
-    lines: &mut Lines,
-    place: &JsonPlace,
-    manifest: &Value,
-    wanted: &str,
-) -> Result<(), Memory> {
+/// Adds that a manifest says another kind, if it says one.
+pub(crate) fn tell_other_kind(lines: &mut Lines, place: JsonPlace, manifest: &Value, wanted: &str) {
     match member_of(manifest, "kind") {
         Some(kind) if is_other_text(kind, wanted) => tell_kind(lines, place, kind, wanted),
-        _ => Ok(()),
+        _ => {}
     }
 }
 
 // Adds the kind that is wanted, and of some other kinds what to do instead.
-fn tell_kind(
-    lines: &mut Lines,
-    place: &JsonPlace,
-    kind: &Value,
-    wanted: &str,
-) -> Result<(), Memory> {
-    lines.tell(place, "kind", wanted)?;
-    match kind.as_str().and_then(instead_of_kind) {
-        Some(what) => lines.instead(what),
-        None => Ok(()),
-    }
+fn tell_kind(lines: &mut Lines, place: JsonPlace, kind: &Value, wanted: &str) {
+    lines.tell(place, "kind", wanted);
+    lines.instead_if(kind.as_str().and_then(instead_of_kind));
 }
 
-/// Adds that a manifest has no name, or `Memory`.
-pub(crate) fn tell_metadata(
-    lines: &mut Lines,
-    place: &JsonPlace,
-    manifest: &Value,
-) -> Result<(), Memory> {
+/// Adds that a manifest has no name.
+pub(crate) fn tell_metadata(lines: &mut Lines, place: JsonPlace, manifest: &Value) {
     match member_of(manifest, "metadata").and_then(|metadata| member_of(metadata, "name")) {
-        Some(name) if name_in(name).is_some() => Ok(()),
+        Some(name) if name_in(name).is_some() => {}
         Some(_) => lines.tell(place, "metadata.name", NAME),
         None => lines.tell_missing(place, "metadata.name", NAME),
     }
 }
 
 // Adds what is found in a template's `spec`: what is unsupported, its metrics, its dry runs.
-fn tell_spec(
-    alloc: Global,
-    lines: &mut Lines,
-    place: &JsonPlace,
-    spec: &Value,
-) -> Result<(), Memory> {
-    tell_if_filled(lines, place, spec, "templates", TEMPLATES)?;
-    tell_if_filled(lines, place, spec, "measurementRetention", RETENTION)?;
+fn tell_spec(lines: &mut Lines, place: JsonPlace, spec: &Value) {
+    tell_if_filled(lines, place, spec, "templates", TEMPLATES);
+    tell_if_filled(lines, place, spec, "measurementRetention", RETENTION);
     match member_of(spec, "metrics").and_then(|metrics| metrics.as_array()) {
-        Some(list) => tell_metrics(alloc, lines, place, spec, list),
+        Some(list) => tell_metrics(lines, place, spec, list),
         None => lines.tell(place, "metrics", METRICS),
     }
 }
 
-/// Adds that a list which is to be empty or absent is neither, and what to write instead; or
-/// `Memory`.
+/// Adds that a list which is to be empty or absent is neither, and what to write instead.
 pub(crate) fn tell_if_filled(
     lines: &mut Lines,
-    place: &JsonPlace,
+    place: JsonPlace,
     value: &Value,
     key: &str,
     instead: &str,
-) -> Result<(), Memory> {
+) {
     if member_of(value, key).is_some_and(is_no_empty_list) {
-        lines.tell(place, key, "none or an empty list (others are unsupported)")?;
-        lines.instead(instead)?;
+        lines.tell(place, key, "none or an empty list (others are unsupported)");
+        lines.instead(instead);
     }
-    Ok(())
 }
 
 // Adds what is found in each metric, in their number and names, and then in the dry runs.
-fn tell_metrics(
-    alloc: Global,
-    lines: &mut Lines,
-    place: &JsonPlace,
-    spec: &Value,
-    list: &Vec<Value>,
-) -> Result<(), Memory> {
+fn tell_metrics(lines: &mut Lines, place: JsonPlace, spec: &Value, list: &Vec<Value>) {
     if list.len() < MIN_METRICS || list.len() > MAX_METRICS {
-        lines.tell(place, "metrics", METRICS)?;
+        lines.tell(place, "metrics", METRICS);
     }
-    let mut names = Vec::new(alloc);
+    let mut names = Vec::new(lines.alloc);
     for (index, metric) in list.iter().enumerate() {
-        let place = metric_place(alloc, place, index, metric)?;
-        tell_metric(alloc, lines, &place, metric)?;
-        names = with_name(alloc, lines, &place, names, metric)?;
+        let place = metric_place(place, index, metric);
+        tell_metric(lines, place, metric);
+        add_name(lines, place, &mut names, metric);
     }
-    tell_dry_run(alloc, lines, place, spec, names.as_slice())
+    tell_dry_run(lines, place, spec, names.as_slice());
 }
 
-/// The place of a metric in the list of a template's `spec`, or `Memory`.
-pub(crate) fn metric_place(
-    alloc: Global,
-    place: &JsonPlace,
+/// The place of a metric in the list of a template's `spec`.
+pub(crate) fn metric_place<'a>(
+    place: JsonPlace<'a>,
     index: usize,
-    metric: &Value,
-) -> Result<JsonPlace, Memory> {
-    let place = place.item(alloc, "metrics", index)?;
+    metric: &'a Value,
+) -> JsonPlace<'a> {
+    let place = place.item("metrics", index);
+    place.of_metric(name_shown(metric))
+}
+
+// The name of a metric, empty if it has none.
+fn name_shown(metric: &Value) -> &str {
     match metric_name(metric) {
-        Some(name) => place.of_metric(alloc, name.as_str()),
-        None => Ok(place),
+        Some(_) => member_of(metric, "name")
+            .and_then(|name| name.as_str())
+            .unwrap_or(""),
+        None => "",
     }
 }
 
-// The names with that of a metric behind them, unless it is one of them, which is told.
-fn with_name(
-    alloc: Global,
-    lines: &mut Lines,
-    place: &JsonPlace,
-    mut names: Vec<Label>,
-    metric: &Value,
-) -> Result<Vec<Label>, Memory> {
+// Adds the name of a metric to these, unless it is one of them, which is told.
+fn add_name(lines: &mut Lines, place: JsonPlace, names: &mut Vec<Label>, metric: &Value) {
     let Some(name) = metric_name(metric) else {
-        return Ok(names);
+        return;
     };
-    names.push(name)?;
-    let refusal = refusal_of_names(alloc, names.as_slice(), Listed::of(Vec::new(alloc)))?;
-    if matches!(refusal, Some(Refusal::DuplicateMetric)) {
-        lines.tell(place, "name", "a name that no metric before it has")?;
+    if names.push(name).is_err() {
+        return lines.refuse();
+    }
+    let is_repeated = is_repeated(lines.alloc, names.as_slice());
+    if lines.holds(is_repeated) {
+        lines.tell(place, "name", "a name that no metric before it has");
         names.pop();
     }
     if names.len() > MAX_METRICS {
         names.pop();
     }
-    Ok(names)
+}
+
+// Whether a template is refused for two metrics of one of these names.
+fn is_repeated(alloc: Global, names: &[Label]) -> Result<bool, Memory> {
+    let refusal = refusal_of_names(alloc, names, Listed::of(Vec::new(alloc)))?;
+    Ok(matches!(refusal, Some(Refusal::DuplicateMetric)))
 }
 
 // Adds that `dryRun` is no list, or which of its items mark no metric; an absent one is fine.
-fn tell_dry_run(
-    alloc: Global,
-    lines: &mut Lines,
-    place: &JsonPlace,
-    spec: &Value,
-    names: &[Label],
-) -> Result<(), Memory> {
+fn tell_dry_run(lines: &mut Lines, place: JsonPlace, spec: &Value, names: &[Label]) {
     let Some(marked) = member_of(spec, "dryRun") else {
-        return Ok(());
+        return;
     };
     match marked.as_array() {
-        Some(list) => tell_marks(alloc, lines, place, list, names),
+        Some(list) => tell_marks(lines, place, list, names),
         None => lines.tell(place, "dryRun", "a list of objects with metricName"),
     }
 }
 
 // Adds each item that marks none of these metrics.
-fn tell_marks(
-    alloc: Global,
-    lines: &mut Lines,
-    place: &JsonPlace,
-    list: &Vec<Value>,
-    names: &[Label],
-) -> Result<(), Memory> {
+fn tell_marks(lines: &mut Lines, place: JsonPlace, list: &Vec<Value>, names: &[Label]) {
     for (index, item) in list.iter().enumerate() {
-        if !is_mark(alloc, item, names)? {
-            let place = place.item(alloc, "dryRun", index)?;
-            lines.tell(&place, "metricName", DRY_RUN)?;
+        let is_mark = is_mark(lines.alloc, item, names);
+        if !lines.holds(is_mark) {
+            let place = place.item("dryRun", index);
+            lines.tell(place, "metricName", DRY_RUN);
         }
     }
-    Ok(())
 }
 
 // Whether it marks one of these metrics, or all.

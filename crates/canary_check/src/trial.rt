@@ -18,25 +18,21 @@ pub(crate) fn refusal_of_times(
     interval: Option<Seconds>,
     count: Option<u32>,
 ) -> Result<Option<Refusal>, Memory> {
-    let Some(name) = Label::read("metric".as_bytes()) else {
-        return Ok(None);
-    };
-    let plain = plain_metric(name);
-    let metric = metric_with(
-        plain.name,
-        None,
-        None,
-        interval,
-        plain.initial_delay,
-        count,
-        None,
-        0,
-        0,
-        4,
-    );
-    let Some(metric) = metric else {
-        return Ok(None);
-    };
+    match timed_metric(interval, count) {
+        Some(metric) => refusal_of_metric(alloc, metric),
+        None => Ok(None),
+    }
+}
+
+// A metric with nothing but a name, this interval and this count.
+fn timed_metric(interval: Option<Seconds>, count: Option<u32>) -> Option<MetricSpec> {
+    let name = Label::read("metric".as_bytes())?;
+    let delay = Seconds::new(0)?;
+    metric_with(name, None, None, interval, delay, count, None, 0, 0, 4)
+}
+
+// Why a template is refused with this metric alone.
+fn refusal_of_metric(alloc: Global, metric: MetricSpec) -> Result<Option<Refusal>, Memory> {
     let metrics = Listed::of(vec![in alloc; metric]?);
     refusal_of(alloc, metrics, Listed::of(Vec::new(alloc)))
 }

@@ -1,5 +1,5 @@
 //! Whom the steps of a Rollout wait for.
-ghost use Rattle.std.specs.Prelude.{◌≡◌, ◌<◌, false, not, IfOk};
+ghost use Rattle.std.specs.Prelude.{◌≡◌, ◌<◌, false, not};
 ghost use Rattle.canary_check.specs.Waiting.{waits, sends_some, sends_all, waits_before_all};
 ghost use Rattle.canary_check.specs.Waiting.{from_traffic_or, waits_for_nobody};
 ghost use Rattle.canary_check.specs.Waiting.{is_command_attended};
@@ -17,72 +17,54 @@ const STEPS: &str = "spec.strategy.canary.steps";
 const UNMEASURED: &str = "a version reaches 100 % even if nothing is measured";
 
 /// Warns of the command that registers the Rollout there: of two weights in a row, and last of
-/// steps that wait for nobody. Or `Memory`.
-pub(crate) fn warn_of_command(
-    alloc: Global,
-    lines: &mut Lines,
-    place: &JsonPlace,
-    command: &Command,
-) -> Result<(), Memory>
-    ensures { IfOk result (λ _. is_command_attended command.now ≡ false → 0 < lines.new.told) }
+/// steps that wait for nobody.
+pub(crate) fn warn_of_command(lines: &mut Lines, place: JsonPlace, command: &Command)
+    ensures { is_command_attended command.now ≡ false → 0 < lines.new.told }
 {
     match command {
-        Command::Service(spec) => warn_of_steps(alloc, lines, place, spec.steps.as_slice()),
-        _ => Ok(()),
+        Command::Service(spec) => warn_of_steps(lines, place, spec.steps.as_slice()),
+        _ => {}
     }
 }
 
 // Warns of each weight directly after another, and last if these steps wait for nobody.
-fn warn_of_steps(
-    alloc: Global,
-    lines: &mut Lines,
-    place: &JsonPlace,
-    steps: &[Step],
-) -> Result<(), Memory>
-    ensures { IfOk result (λ _. not (waits_for_nobody steps.now) ≡ false → 0 < lines.new.told) }
+fn warn_of_steps(lines: &mut Lines, place: JsonPlace, steps: &[Step])
+    ensures { not (waits_for_nobody steps.now) ≡ false → 0 < lines.new.told }
 {
-    warn_of_rows(alloc, lines, place, steps)?;
+    warn_of_rows(lines, place, steps);
     if waits_for_nobody(steps) {
-        return warn_of_nobody(alloc, lines, place, steps);
+        warn_of_nobody(lines, place, steps);
     }
-    Ok(())
 }
 
 // Warns of each weight directly after another.
-fn warn_of_rows(
-    alloc: Global,
-    lines: &mut Lines,
-    place: &JsonPlace,
-    steps: &[Step],
-) -> Result<(), Memory> {
+fn warn_of_rows(lines: &mut Lines, place: JsonPlace, steps: &[Step]) {
     let mut last = None;
     for (index, step) in steps.iter().enumerate() {
         let weight = weight_of(step);
         if let (Some(last), Some(_)) = (last, weight) {
-            let place = place.item(alloc, STEPS, index)?;
-            let what = format!(in alloc;
-                "a setWeight directly after another: \
-                no time passes at weight {last}: \
-                put a pause or an analysis step between them, or leave the first out"
-            )?;
-            lines.warn(&place, "", what.as_str())?;
+            let what = words_on_row(lines.alloc, last);
+            lines.warn_made(place.item(STEPS, index), "", what);
         }
         last = weight;
     }
-    Ok(())
+}
+
+// What is warned of a weight directly after that one.
+fn words_on_row(alloc: Global, last: u32) -> Result<String, Memory> {
+    Ok(format!(in alloc;
+        "a setWeight directly after another: \
+        no time passes at weight {last}: \
+        put a pause or an analysis step between them, or leave the first out"
+    )?)
 }
 
 // Warns that these steps wait for nobody.
-fn warn_of_nobody(
-    alloc: Global,
-    lines: &mut Lines,
-    place: &JsonPlace,
-    steps: &[Step],
-) -> Result<(), Memory>
-    ensures { IfOk result (λ _. 0 < lines.new.told) }
+fn warn_of_nobody(lines: &mut Lines, place: JsonPlace, steps: &[Step])
+    ensures { 0 < lines.new.told }
 {
-    let what = why_nobody(alloc, from_traffic_or(steps, steps))?;
-    lines.warn(place, STEPS, what.as_str())
+    let what = why_nobody(lines.alloc, from_traffic_or(steps, steps));
+    lines.warn_made(place, STEPS, what);
 }
 
 // Why these steps, from the first that sends traffic on, wait for nobody, and what to write.

@@ -13,34 +13,23 @@ const UNCONDITIONAL: &str = "no condition, so each result is Successful";
 // The most bytes of a request's body.
 const MAX_BODY_BYTES: usize = 65_536;
 
-/// Warns of an AnalysisTemplate, or `Memory`.
-pub(crate) fn warn_of_template(
-    alloc: Global,
-    lines: &mut Lines,
-    place: &JsonPlace,
-    manifest: &Value,
-) -> Result<(), Memory> {
+/// Warns of an AnalysisTemplate.
+pub(crate) fn warn_of_template(lines: &mut Lines, place: JsonPlace, manifest: &Value) {
     let metrics = member_of(manifest, "spec").and_then(|spec| member_of(spec, "metrics"));
     match metrics.and_then(|metrics| metrics.as_array()) {
-        Some(list) => warn_of_metrics(alloc, lines, &place.member(alloc, "spec")?, list),
-        None => Ok(()),
+        Some(list) => warn_of_metrics(lines, place.member("spec"), list),
+        None => {}
     }
 }
 
 // Warns of each metric of the list that has no condition.
-fn warn_of_metrics(
-    alloc: Global,
-    lines: &mut Lines,
-    spec: &JsonPlace,
-    list: &Vec<Value>,
-) -> Result<(), Memory> {
+fn warn_of_metrics(lines: &mut Lines, spec: JsonPlace, list: &Vec<Value>) {
     for (index, metric) in list.iter().enumerate() {
-        if has_no_condition(alloc, metric)? {
-            let place = metric_place(alloc, spec, index, metric)?;
-            lines.warn(&place, "", UNCONDITIONAL)?;
+        let has_none = has_no_condition(lines.alloc, metric);
+        if lines.holds(has_none) {
+            lines.warn(metric_place(spec, index, metric), "", UNCONDITIONAL);
         }
     }
-    Ok(())
 }
 
 // Whether it is a metric without a condition.
@@ -61,16 +50,15 @@ fn is_absent(alloc: Global, metric: &Value, key: &str) -> Result<bool, Memory> {
     }
 }
 
-/// Warns of a text of so many bytes that no request can have it in its body, or `Memory`.
-pub(crate) fn warn_of_length(
-    alloc: Global,
-    lines: &mut Lines,
-    whole: &str,
-    len: usize,
-) -> Result<(), Memory> {
-    if len <= MAX_BODY_BYTES {
-        return Ok(());
+/// Warns of a text of so many bytes that no request can have it in its body.
+pub(crate) fn warn_of_length(lines: &mut Lines, whole: &str, len: usize) {
+    if len > MAX_BODY_BYTES {
+        let what = words_on_length(lines.alloc, len);
+        lines.warn_made(JsonPlace::at(whole), "", what);
     }
-    let what = format!(in alloc; "{len} bytes, and the body of a request has at most 65,536")?;
-    lines.warn(&JsonPlace::at(alloc, whole)?, "", what.as_str())
+}
+
+// What is warned of so many bytes.
+fn words_on_length(alloc: Global, len: usize) -> Result<String, Memory> {
+    Ok(format!(in alloc; "{len} bytes, and the body of a request has at most 65,536")?)
 }

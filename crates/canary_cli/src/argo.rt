@@ -1,8 +1,10 @@
 //! `argo`: what manifests of Argo Rollouts become, without a desk.
 ghost use Rattle.canary_cli.specs.Performed.{IsNoClient};
 
+use crate::file::seat::Identity;
 use crate::perform::ProgramExit;
-use canary_argo_files::reading::{FileReadFault, Manifests, read_files};
+use canary_argo_files::found::FileFindings;
+use canary_argo_files::reading::{FileReadFault, Manifests, STANDARD_INPUT, read_files};
 use canary_argo_files::shown::{json_of, plan_of, text_of};
 use canary_argo_files::translated::{Translated, translate};
 use canary_backup::draft::Draft;
@@ -16,10 +18,15 @@ use std::io::{self, Read, Write};
 
 const NOTE: &str = "canary: note: ";
 
+const WARNING: &str = "canary: warning: ";
+
+// The name under which the system has the file that standard input is.
+const INPUT_FILE: &str = "/proc/self/fd/0";
+
 /// Writes on `output` what these files become, or what is found in them; with `json` as one value
 /// in JSON. With `out` it also writes each manifest to that folder, which it makes if it does not
-/// exist, and the plan, but nothing if anything is found. Notes go to `errors`, if not into the
-/// JSON.
+/// exist, and the plan, but nothing if anything is found, or if it would write over one of these
+/// files. Notes and warnings go to `errors`, if not into the JSON.
 pub(crate) fn argo<R: Read, W: Write, F: Write>(
     rt: &HostRuntime,
     files: &Listed<Text>,
@@ -37,7 +44,7 @@ pub(crate) fn argo<R: Read, W: Write, F: Write>(
     };
     let is_found = translated.is_found();
     if !is_found {
-        write_to(rt, &translated, out)?;
+        write_to(rt, &translated, out, files.as_slice(), errors)?;
     }
     show_all(rt, &manifests, &translated, json, output, errors)?;
     Ok(if is_found {
@@ -77,8 +84,16 @@ fn tell_unread<F: Write>(rt: &HostRuntime, name: &str, errors: &mut F) {
     let _ = errors.write_all(line.as_bytes());
 }
 
-// Writes what is made to that folder, if one is given.
-fn write_to(rt: &HostRuntime, translated: &Translated, out: &Option<Text>) -> Result<(), Fault> {
+// ---- what is written
+
+// Writes what is made of these files to that folder, if one is given.
+fn write_to<F: Write>(
+    rt: &HostRuntime,
+    translated: &Translated,
+    out: &Option<Text>,
+    inputs: &[Text],
+    errors: &mut F,
+) -> Result<(), Fault> {
     let Some(folder) = out else {
         return Ok(());
     };
@@ -86,6 +101,7 @@ fn write_to(rt: &HostRuntime, translated: &Translated, out: &Option<Text>) -> Re
     if folder.is_empty() || create_dir_all(rt, folder).is_err() {
         return Err(Fault::File);
     }
+    keep_inputs(rt, folder, translated, inputs, errors)?;
     write_each(rt, folder, translated.made.templates.as_slice(), "template")?;
     write_each(rt, folder, translated.made.services.as_slice(), "rollout")?;
     match plan_of(rt.alloc(), translated) {
@@ -94,13 +110,126 @@ fn write_to(rt: &HostRuntime, translated: &Translated, out: &Option<Text>) -> Re
     }
 }
 
+// Refuses to write over one of these files, which were read.
+fn keep_inputs<F: Write>(
+    rt: &HostRuntime,
+    folder: &str,
+    translated: &Translated,
+    inputs: &[Text],
+    errors: &mut F,
+) -> Result<(), Fault> {
+    let made = &translated.made;
+    keep_each(
+        rt,
+        folder,
+        made.templates.as_slice(),
+        "template",
+        inputs,
+        errors,
+    )?;
+    keep_each(
+        rt,
+        folder,
+        made.services.as_slice(),
+        "rollout",
+        inputs,
+        errors,
+    )?;
+    keep_input(rt, folder, "plan", inputs, errors)
+}
+
+// The same of the file NAME.KIND.json of each of these manifests.
+fn keep_each<F: Write>(
+    rt: &HostRuntime,
+    folder: &str,
+    made: &[Made],
+    kind: &str,
+    inputs: &[Text],
+    errors: &mut F,
+) -> Result<(), Fault> {
+    for manifest in made {
+        let name = name_of(rt, manifest, kind)?;
+        keep_input(rt, folder, name.as_str(), inputs, errors)?;
+    }
+    Ok(())
+}
+
+// The same of the file FOLDER/NAME.json. If it is one of these, its name goes to `errors`.
+fn keep_input<F: Write>(
+    rt: &HostRuntime,
+    folder: &str,
+    name: &str,
+    inputs: &[Text],
+    errors: &mut F,
+) -> Result<(), Fault> {
+    let path = path_of(rt, folder, name)?;
+    if is_input(rt, path.as_str(), inputs) {
+        tell_input(rt, path.as_str(), errors);
+        return Err(Fault::File);
+    }
+    Ok(())
+}
+
+// Whether the file of this name is one of these, where all links lead.
+fn is_input(rt: &HostRuntime, path: &str, inputs: &[Text]) -> bool {
+    match Identity::of(rt, path) {
+        Some(found) => is_any(rt, found, inputs),
+        None => false,
+    }
+}
+
+// Whether this file is one of those.
+fn is_any(rt: &HostRuntime, found: Identity, inputs: &[Text]) -> bool {
+    for input in inputs {
+        if Identity::of(rt, place_of(input.as_str())) == Some(found) {
+            return true;
+        }
+    }
+    false
+}
+
+// The name under which the system has the input of this name.
+fn place_of(input: &str) -> &str {
+    if input == STANDARD_INPUT {
+        INPUT_FILE
+    } else {
+        input
+    }
+}
+
+// Writes to `errors` that this file was read. Faults of that are ignored.
+fn tell_input<F: Write>(rt: &HostRuntime, name: &str, errors: &mut F) {
+    let Ok(name) = shown(rt.alloc(), name, TextKind::Line) else {
+        return;
+    };
+    let Ok(line) = format!(in rt.alloc(); "canary: {name} is one of the files that argo read\n")
+    else {
+        return;
+    };
+    let _ = errors.write_all(line.as_bytes());
+}
+
+// The name NAME.KIND of a manifest's file, without its end.
+fn name_of(rt: &HostRuntime, manifest: &Made, kind: &str) -> Result<String, Fault> {
+    let name = manifest.name.as_str();
+    match format!(in rt.alloc(); "{name}.{kind}") {
+        Ok(name) => Ok(name),
+        Err(_) => Err(Fault::Memory),
+    }
+}
+
+// The name of the file FOLDER/NAME.json.
+fn path_of(rt: &HostRuntime, folder: &str, name: &str) -> Result<String, Fault> {
+    match format!(in rt.alloc(); "{folder}/{name}.json") {
+        Ok(path) => Ok(path),
+        Err(_) => Err(Fault::Memory),
+    }
+}
+
 // Writes each manifest to the file NAME.KIND.json.
 fn write_each(rt: &HostRuntime, folder: &str, made: &[Made], kind: &str) -> Result<(), Fault> {
     for manifest in made {
-        let name = manifest.name.as_str();
-        let Ok(name) = format!(in rt.alloc(); "{name}.{kind}") else {
-            return Err(Fault::Memory);
-        };
+        let name = name_of(rt, manifest, kind)?;
         write_file(rt, folder, name.as_str(), manifest.json.as_str())?;
     }
     Ok(())
@@ -109,9 +238,7 @@ fn write_each(rt: &HostRuntime, folder: &str, made: &[Made], kind: &str) -> Resu
 // Writes a line to the file FOLDER/NAME.json, which is always whole: it takes the place of what
 // stood there once it is on the disk.
 fn write_file(rt: &HostRuntime, folder: &str, name: &str, line: &str) -> Result<(), Fault> {
-    let Ok(path) = format!(in rt.alloc(); "{folder}/{name}.json") else {
-        return Err(Fault::Memory);
-    };
+    let path = path_of(rt, folder, name)?;
     let mut draft = Draft::of(rt, path.as_str())?;
     if write_line(&mut draft, line).is_err() {
         draft.remove(rt);
@@ -125,6 +252,8 @@ fn write_line(draft: &mut Draft, line: &str) -> io::Result<()> {
     draft.file().write_all(line.as_bytes())?;
     draft.file().write_all(b"\n")
 }
+
+// ---- what is shown
 
 // Shows what is made, or found.
 fn show_all<W: Write, F: Write>(
@@ -150,20 +279,33 @@ fn show_all<W: Write, F: Write>(
     tell_notes(rt, manifests, translated, errors)
 }
 
-// Writes each note to `errors`, with a prefix, as a line of its own. Faults of that are ignored.
+// Writes each note and each warning to `errors`, with a prefix, as a line of its own.
 fn tell_notes<F: Write>(
     rt: &HostRuntime,
     manifests: &Manifests,
     translated: &Translated,
     errors: &mut F,
 ) -> Result<(), Fault> {
-    let Ok(notes) = translated.notes.lines(rt.alloc(), manifests) else {
-        return Err(Fault::Memory);
-    };
-    for note in notes.lines() {
-        let _ = errors.write_all(NOTE.as_bytes());
-        let _ = errors.write_all(note.as_bytes());
+    let notes = lines_of(rt, manifests, &translated.notes)?;
+    let warnings = lines_of(rt, manifests, &translated.warnings)?;
+    tell_each(notes.as_str(), NOTE, errors);
+    tell_each(warnings.as_str(), WARNING, errors);
+    Ok(())
+}
+
+// A line for each of these.
+fn lines_of(rt: &HostRuntime, manifests: &Manifests, list: &FileFindings) -> Result<String, Fault> {
+    match list.lines(rt.alloc(), manifests) {
+        Ok(lines) => Ok(lines),
+        Err(_) => Err(Fault::Memory),
+    }
+}
+
+// Writes each line to `errors`, with a prefix. Faults of that are ignored.
+fn tell_each<F: Write>(lines: &str, prefix: &str, errors: &mut F) {
+    for line in lines.lines() {
+        let _ = errors.write_all(prefix.as_bytes());
+        let _ = errors.write_all(line.as_bytes());
         let _ = errors.write_all(b"\n");
     }
-    Ok(())
 }

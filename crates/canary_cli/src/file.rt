@@ -27,7 +27,7 @@ pub mod page;
 mod pause;
 pub mod pipe;
 pub mod progress;
-mod seat;
+pub(crate) mod seat;
 pub mod serve;
 mod shelf;
 pub mod status;

@@ -54,18 +54,57 @@ impl<'a> ArgumentValue<'a> {
     }
 
     /// What it lacks, and what to write.
-    pub(crate) fn lack(self) -> &'static str {
+    pub(crate) fn lack(self) -> Lack {
         match self {
-            ArgumentValue::Value(_) => "",
-            ArgumentValue::Late(_) => "is known only as the agent measures: write a constant",
-            ArgumentValue::Nothing =>
-                "has no value: give it one in the args of the Rollout's analysis",
-            ArgumentValue::NoField => {
-                "is a field that the Rollout has not, or no text in it: correct its fieldPath"
-            }
-            ArgumentValue::Nested => "has a value with {{args. in it: write that value out",
-            ArgumentValue::Unlisted => "is no argument of the template: add it to its spec.args",
+            ArgumentValue::Value(_) => lack_of_any("", ""),
+            ArgumentValue::Late(_) => lack_of_any(
+                "is known only as the agent measures",
+                ": write a constant",
+            ),
+            ArgumentValue::Nothing => lack_of_rollout(
+                "has no value for Rollout ",
+                ": give it one in the args of its analysis",
+            ),
+            ArgumentValue::NoField => lack_of_rollout(
+                "is a field that Rollout ",
+                " has not, or that has no text: correct its fieldPath",
+            ),
+            ArgumentValue::Nested => lack_of_any(
+                "has a value with {{args. in it",
+                ": write that value out",
+            ),
+            ArgumentValue::Unlisted => lack_of_any(
+                "is no argument of the template",
+                ": add it to its spec.args",
+            ),
         }
+    }
+}
+
+/// What an argument lacks, and what to write.
+#[derive(Clone, Copy)]
+pub(crate) struct Lack {
+    pub(crate) what: &'static str,
+    /// Whether the name of the Rollout stands between the two.
+    pub(crate) is_of_rollout: bool,
+    pub(crate) instead: &'static str,
+}
+
+// What an argument lacks in every Rollout.
+fn lack_of_any(what: &'static str, instead: &'static str) -> Lack {
+    Lack {
+        what,
+        is_of_rollout: false,
+        instead,
+    }
+}
+
+// What an argument lacks in one Rollout, whose name stands between the two.
+fn lack_of_rollout(what: &'static str, instead: &'static str) -> Lack {
+    Lack {
+        what,
+        is_of_rollout: true,
+        instead,
     }
 }
 

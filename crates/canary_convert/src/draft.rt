@@ -1,7 +1,7 @@
 //! A text that is being written.
 //!
 //! What writes it has no exits: it remembers that memory was refused, and says so at its end.
-ghost use Rattle.std.specs.Prelude.{◌≡◌, ◌++◌, true, false, IfOk, string_bytes};
+ghost use Rattle.std.specs.Prelude.{◌≡◌, ◌++◌, true, false, IfOk, IfErr, string_bytes};
 
 use canary_base::error::Memory;
 use serde_json::Value;
@@ -41,7 +41,12 @@ impl Draft {
     }
 
     /// Appends a text that was made, or remembers that it was not.
-    pub(crate) fn put_made(&mut self, made: Result<String, Memory>) {
+    pub(crate) fn put_made(&mut self, made: Result<String, Memory>)
+        ensures kept { self.new.is_refused ≡ false → self.old.is_refused ≡ false }
+        ensures refused { IfErr made (λ _. self.new.is_refused ≡ true) }
+        ensures put { IfOk made (λ text. self.new.is_refused ≡ false
+            → string_bytes self.new.text ≡ string_bytes self.old.text ++ string_bytes text) }
+    {
         match made {
             Ok(text) => self.put(text.as_str()),
             Err(_) => self.refuse(),
@@ -49,7 +54,9 @@ impl Draft {
     }
 
     /// Appends a value as JSON.
-    pub(crate) fn put_value(&mut self, value: &Value) {
+    pub(crate) fn put_value(&mut self, value: &Value)
+        ensures { self.new.is_refused ≡ false → self.old.is_refused ≡ false }
+    {
         match value.to_string(self.alloc) {
             Ok(text) => self.put(text.as_str()),
             Err(_) => self.refuse(),
@@ -57,7 +64,9 @@ impl Draft {
     }
 
     /// Appends an index in square brackets, if there is one.
-    pub(crate) fn put_index(&mut self, index: Option<usize>) {
+    pub(crate) fn put_index(&mut self, index: Option<usize>)
+        ensures { self.new.is_refused ≡ false → self.old.is_refused ≡ false }
+    {
         if let Some(index) = index {
             if write!(self.text, "[{index}]").is_err() {
                 self.is_refused = true;
@@ -66,7 +75,9 @@ impl Draft {
     }
 
     /// Appends a text, with its control characters as their codes.
-    pub(crate) fn put_plain(&mut self, text: &str) {
+    pub(crate) fn put_plain(&mut self, text: &str)
+        ensures { self.new.is_refused ≡ false → self.old.is_refused ≡ false }
+    {
         if push_plain(&mut self.text, text).is_err() {
             self.is_refused = true;
         }

@@ -1,7 +1,7 @@
 //! Places to be filled in: `{{args.NAME}}`, with spaces inside the brackets or without.
 //!
 //! A place in a text of JSON stands within a text, since two brackets in a row open nowhere else.
-use crate::arguments::{ArgumentValue, Case, given_to};
+use crate::arguments::{ArgumentValue, Case, Lack, given_to};
 use crate::draft::Draft;
 use crate::json::push_escaped;
 use crate::manifest_place::ManifestPlace;
@@ -116,15 +116,31 @@ fn push_argument(
             true
         }
         lacking => {
-            tell_lack(work, place, name, lacking.lack());
+            tell_lack(work, case, place, name, lacking.lack());
             false
         }
     }
 }
 
 // Adds what an argument lacks, at the text that has a place of it.
-fn tell_lack(work: &mut Conversion, place: ManifestPlace, name: &str, lack: &str) {
-    work.tell(place, &["{{args.", name, "}} ", lack]);
+fn tell_lack(work: &mut Conversion, case: &Case, place: ManifestPlace, name: &str, lack: Lack) {
+    if lack.is_of_rollout {
+        tell_parts(work, place, name, lack.what, case.service(), lack.instead);
+    } else {
+        tell_parts(work, place, name, lack.what, "", lack.instead);
+    }
+}
+
+// The same in parts, with the name of the Rollout or none between the two.
+fn tell_parts<'a>(
+    work: &mut Conversion,
+    place: ManifestPlace,
+    name: &'a str,
+    what: &'a str,
+    rollout: &'a str,
+    instead: &'a str,
+) {
+    work.tell(place, &["{{args.", name, "}} ", what, rollout, instead]);
 }
 
 // Appends a value: a text as it is in `Plain`, else escaped without quotes; any other as JSON.

@@ -1,7 +1,7 @@
 //! What was made and found so far.
 //!
 //! It remembers that memory was refused, so that what converts has no exits for that.
-ghost use Rattle.std.specs.Prelude.{◌≡◌, true, false, IfOk, string_bytes};
+ghost use Rattle.std.specs.Prelude.{◌≡◌, ◌∷◌, ◌++◌, [], true, false, IfOk, IfErr, string_bytes};
 
 use crate::documents::ManifestObject;
 use crate::draft::Draft;
@@ -136,12 +136,17 @@ impl Conversion {
     }
 
     /// Remembers that memory was refused.
-    pub(crate) fn refuse(&mut self) {
+    pub(crate) fn refuse(&mut self)
+        ensures { self.new.is_refused ≡ true }
+    {
         self.is_refused = true;
     }
 
     // Remembers that memory was refused, if this says so.
-    fn remember(&mut self, done: Result<(), Memory>) {
+    fn remember(&mut self, done: Result<(), Memory>)
+        ensures kept { self.new.is_refused ≡ false → self.old.is_refused ≡ false }
+        ensures refused { IfErr done (λ _. self.new.is_refused ≡ true) }
+    {
         if done.is_err() {
             self.is_refused = true;
         }
@@ -218,7 +223,7 @@ impl Conversion {
         }
     }
 
-    /// Adds what is said once.
+    /// Adds the note on NaN, once, if the conditions of a metric do not ask for it.
     pub(crate) fn close(&mut self) {
         if let Some(place) = self.nan {
             self.note(place, &[NAN]);
@@ -238,7 +243,10 @@ impl Conversion {
     }
 
     /// Adds a service.
-    pub(crate) fn add_service(&mut self, made: Made) {
+    pub(crate) fn add_service(&mut self, made: Made)
+        ensures { self.new.is_refused ≡ false → (self.old.is_refused ≡ false)
+            × (self.new.services.items ≡ self.old.services.items ++ made ∷ []) }
+    {
         if self.services.push(made).is_err() {
             self.is_refused = true;
         }
@@ -258,7 +266,10 @@ impl Conversion {
     }
 
     // Adds a template of a new name.
-    fn push_template(&mut self, made: Made) {
+    fn push_template(&mut self, made: Made)
+        ensures { self.new.is_refused ≡ false → (self.old.is_refused ≡ false)
+            × (self.new.templates.items ≡ self.old.templates.items ++ made ∷ []) }
+    {
         if self.templates.push(made).is_err() {
             self.is_refused = true;
         }
@@ -275,7 +286,10 @@ impl Conversion {
     }
 
     // Adds how a metric is measured.
-    fn push_planned(&mut self, planned: Planned) {
+    fn push_planned(&mut self, planned: Planned)
+        ensures { self.new.is_refused ≡ false → (self.old.is_refused ≡ false)
+            × (self.new.plan.items ≡ self.old.plan.items ++ planned ∷ []) }
+    {
         if self.plan.push(planned).is_err() {
             self.is_refused = true;
         }
@@ -288,7 +302,10 @@ impl Conversion {
     }
 
     /// Notes that a Rollout names the template of that document.
-    pub(crate) fn set_used(&mut self, index: usize) {
+    pub(crate) fn set_used(&mut self, index: usize)
+        ensures { self.new.is_refused ≡ false → (self.old.is_refused ≡ false)
+            × (self.new.used.items ≡ self.old.used.items ++ index ∷ []) }
+    {
         if self.used.push(index).is_err() {
             self.is_refused = true;
         }
