@@ -25,6 +25,7 @@ use crate::report::{next_ordinal, report_body};
 use crate::tcp::Tcp;
 use crate::wish::{Asking, has_intent, read_asking};
 use canary_base::lists::Text;
+use canary_base::moments::Moment;
 use canary_base::names::Name;
 use canary_cli_words::words::Call;
 use canary_client_journal::entry::{SettledNumber, SettledReply, Wish, WishPlace};
@@ -376,19 +377,19 @@ fn wish_of<N: Network>(
         Asking::Command { intent, body } => Ok(Wish { intent, key, body }),
         Asking::Report { intent, measured } => {
             let ordinal = next_ordinal(rt.alloc(), network, &measured, tries)?;
-            let body = report_body(rt.alloc(), &measured, ordinal, now(rt)?)?;
+            let body = report_body(rt.alloc(), &measured, ordinal, now(rt)?.get())?;
             Ok(Wish { intent, key, body })
         }
     }
 }
 
 // The moment, in seconds since 1970-01-01T00:00:00Z.
-fn now(rt: &HostRuntime) -> Result<u64, Stop> {
+fn now(rt: &HostRuntime) -> Result<Moment, Stop> {
     let Ok(now) = SystemTime::now(rt) else {
         return Err(Stop::Clock);
     };
     match now.duration_since(SystemTime::UNIX_EPOCH) {
-        Ok(passed) => Ok(passed.as_secs()),
+        Ok(passed) => Moment::new(passed.as_secs()).ok_or(Stop::LateClock),
         Err(_) => Err(Stop::Clock),
     }
 }

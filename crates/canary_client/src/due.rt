@@ -166,7 +166,7 @@ impl DueScan {
         Ok(found)
     }
 
-    // Shows what is sought of a service's open runs; `Query` if the reply is no service's.
+    // Shows what is sought of a service's open runs; `ReplyUnread` if the reply is no service's.
     fn at_service<N: Network, W: Write>(
         &self,
         network: &mut N,
@@ -179,19 +179,20 @@ impl DueScan {
         let moment = value.get("moment").and_then(Value::as_u64);
         let open = value.get("open").and_then(Value::as_array);
         let (Some(moment), Some(open)) = (moment, open) else {
-            return Err(Stop::Query);
+            return Err(Stop::ReplyUnread);
         };
         let mut found = DueState::NoRun;
         for run in open.iter() {
             let Some(run) = run.as_u64() else {
-                return Err(Stop::Query);
+                return Err(Stop::ReplyUnread);
             };
             found = found.with(self.at_run(network, service, run, moment, output)?);
         }
         Ok(found)
     }
 
-    // Shows a line for each measurement of a run that is sought.
+    // Shows a line for each measurement of a run that is sought; `ReplyUnread` if the reply is no
+    // run's.
     fn at_run<N: Network, W: Write>(
         &self,
         network: &mut N,
@@ -204,11 +205,12 @@ impl DueScan {
         let path = format!(in self.alloc; "/services/{name}/runs/{run}")?;
         let value = value_at(self.alloc, network, path.as_str(), self.tries)?;
         let Some(metrics) = value.get("metrics").and_then(Value::as_array) else {
-            return Err(Stop::Query);
+            return Err(Stop::ReplyUnread);
         };
         let mut found = DueState::NothingDue;
         for metric in metrics.iter() {
-            if let Some(measurement) = due_of(metric, moment, self.late) {
+            let next = next_of(metric)?;
+            if let Some(measurement) = next.filter(|next| next.is_sought(moment, self.late)) {
                 show(output, self.line(service, run, &measurement)?.as_str())?;
                 found = DueState::Due;
             }
@@ -251,7 +253,7 @@ fn missing<F: Write>(alloc: Global, word: &Text, errors: &mut F) -> Result<(), S
     Ok(())
 }
 
-// A measurement that is due.
+// The next measurement of a metric, and since when it is due.
 #[derive(Clone, Copy)]
 struct NextMeasurement<'a> {
     metric: &'a str,
@@ -259,17 +261,32 @@ struct NextMeasurement<'a> {
     since: u64,
 }
 
-// The next measurement of a metric, if it is due at this moment; or, if `late` is given, if it has
-// been due for more than so many seconds.
-fn due_of(metric: &Value, moment: u64, late: Option<u64>) -> Option<NextMeasurement<'_>> {
-    let since = metric.get("due").and_then(Value::as_u64)?;
-    let is_sought = match late {
-        Some(late) => moment.saturating_sub(since) > late,
-        None => moment >= since,
-    };
-    if !is_sought {
-        return None;
+impl NextMeasurement<'_> {
+    // Whether it is due at this moment; or, if `late` is given, has been for more than so many
+    // seconds.
+    fn is_sought(&self, moment: u64, late: Option<u64>) -> bool {
+        match late {
+            Some(late) => moment.saturating_sub(self.since) > late,
+            None => moment >= self.since,
+        }
     }
+}
+
+// The next measurement of a metric; none if the desk waits for none. `ReplyUnread` if the reply does
+// not say so.
+fn next_of(metric: &Value) -> Result<Option<NextMeasurement<'_>>, Stop> {
+    if metric.get("due").is_some_and(Value::is_null) {
+        return Ok(None);
+    }
+    match parts_of(metric) {
+        Some(next) => Ok(Some(next)),
+        None => Err(Stop::ReplyUnread),
+    }
+}
+
+// The members of a metric that say which measurement is the next one; none if one is missing.
+fn parts_of(metric: &Value) -> Option<NextMeasurement<'_>> {
+    let since = metric.get("due").and_then(Value::as_u64)?;
     let name = metric.get("name").and_then(Value::as_str)?;
     let count = metric.get("measurements").and_then(Value::as_u64)?;
     Some(NextMeasurement {

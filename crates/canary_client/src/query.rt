@@ -80,7 +80,7 @@ fn is_not_found(code: &str) -> bool
 ///
 /// # Errors
 /// What `answer` answers; `NoService` or `NoRun` if there is none; `Query` if the desk refused it
-/// for another reason; `Memory`.
+/// for another reason; `ReplyUnread` if the reply is no JSON; `Memory`.
 pub fn value_at<N: Network>(
     alloc: Global,
     network: &mut N,
@@ -93,7 +93,7 @@ pub fn value_at<N: Network>(
     let value = match Value::from_str(alloc, response.body.as_str()) {
         Ok(value) => value,
         Err(fault) if fault.is_memory() => return Err(Stop::Memory),
-        Err(_) => return Err(Stop::Query),
+        Err(_) => return Err(Stop::ReplyUnread),
     };
     if response.status == 200 {
         return Ok(value);

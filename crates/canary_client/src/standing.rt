@@ -249,31 +249,40 @@ fn moment_text(alloc: Global, seconds: u64, now: u64) -> Result<String, AllocErr
 /// What of a service's reply says how it stands: its status, step and hold.
 ///
 /// # Errors
-/// `Query` if it is no such reply.
+/// `ReplyUnread` if it is no such reply.
 pub fn parts_of(service: &Value) -> Result<(ServiceStatus, u64, Hold), Stop> {
     let status = service.get("status").and_then(Value::as_str);
     let step = service.get("step").and_then(Value::as_u64);
     let hold = service.get("hold").and_then(Value::as_str);
     let (Some(status), Some(step), Some(hold)) = (status, step, hold) else {
-        return Err(Stop::Query);
+        return Err(Stop::ReplyUnread);
     };
     match (ServiceStatus::read(status), Hold::read(hold)) {
         (Some(status), Some(hold)) => Ok((status, step, hold)),
-        _ => Err(Stop::Query),
+        _ => Err(Stop::ReplyUnread),
     }
 }
 
-/// The last line of a history's reply that says where the service stands, if there is one.
-pub fn last_line(history: &Value) -> Option<Line> {
-    let lines = history.get("lines")?.as_array()?;
+/// The last line of a history's reply that says where the service stands, if there is one. A line
+/// that says something else, as one of a later version may, is ignored.
+///
+/// # Errors
+/// `ReplyUnread` if it is no such reply.
+pub fn last_line(history: &Value) -> Result<Option<Line>, Stop> {
+    let Some(lines) = history.get("lines").and_then(Value::as_array) else {
+        return Err(Stop::ReplyUnread);
+    };
     let mut found = None;
     for line in lines.iter() {
-        let standing = line.as_str().and_then(standing_line);
+        let Some(line) = line.as_str() else {
+            return Err(Stop::ReplyUnread);
+        };
+        let standing = standing_line(line);
         if standing.is_some() {
             found = standing;
         }
     }
-    found
+    Ok(found)
 }
 
 // The line of this text, if it says where a service stands.

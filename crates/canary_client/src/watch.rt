@@ -131,15 +131,15 @@ fn is_word(word: &str) -> bool {
     WORDS.iter().any(|known| *known == word)
 }
 
-// What was found, or nothing if a call without end goes on although no desk answered, or has no
-// such service; `errors` has the sentence that says so.
+// What was found, or nothing if a call without end goes on although no desk answered, it has no
+// such service, or its reply cannot be read; `errors` has the sentence that says so.
 fn went_on<F: Write>(
     looked: Result<Option<Standing>, Stop>,
     is_forever: bool,
     errors: &mut F,
 ) -> Result<Option<Standing>, Stop> {
     match looked {
-        Err(Stop::NoDesk | Stop::NoService | Stop::Query) if is_forever => {
+        Err(Stop::NoDesk | Stop::NoService | Stop::Query | Stop::ReplyUnread) if is_forever => {
             if let Err(stop) = looked {
                 say(errors, stop.sentence());
             }
@@ -222,7 +222,7 @@ fn plain(alloc: Global, service: &Value) -> Result<String, Stop> {
     let text = service.to_string(alloc)?;
     match line_of(alloc, text.as_str())? {
         Some(line) => Ok(line),
-        None => Err(Stop::Query),
+        None => Err(Stop::ReplyUnread),
     }
 }
 
@@ -239,7 +239,7 @@ fn standing_of<N: Network>(
     let mut last = None;
     if hold == Hold::None {
         let path = format!(in alloc; "{path}/history")?;
-        last = last_line(&value_at(alloc, network, path.as_str(), tries)?);
+        last = last_line(&value_at(alloc, network, path.as_str(), tries)?)?;
     }
     if let Some(line) = &last
         && !is_of_step(line, step)
@@ -265,7 +265,7 @@ fn value_of(alloc: Global, service: Value, standing: &Standing) -> Result<String
     let (word, run, until) = members_of(standing.why);
     let word = Value::try_from_str(alloc, word)?;
     let Some(members) = service.as_object_mut() else {
-        return Err(Stop::Query);
+        return Err(Stop::ReplyUnread);
     };
     put(alloc, members, "why", word)?;
     put(alloc, members, "run", number_or_null(run))?;
