@@ -55,7 +55,7 @@ pub struct AskedDesk {
 }
 
 /// A command for a desk, word by word.
-#[derive(Debug, Drop)]
+#[derive(Drop)]
 pub struct AskedCommand {
     /// Its kind, as `promote`.
     pub kind: Text,
@@ -71,7 +71,7 @@ pub struct AskedCommand {
 }
 
 /// A command for a desk, in whose name, and how.
-#[derive(Debug, Drop)]
+#[derive(Drop)]
 pub struct Call {
     /// The desk.
     pub desk: AskedDesk,
@@ -91,7 +91,7 @@ pub struct Call {
 }
 
 /// What a call of the agent asks for.
-#[derive(Debug, Drop)]
+#[derive(Drop)]
 pub struct AgentCall {
     /// The desk. The most seconds are those of each exchange with it; a message is sent once in
     /// each look, however often is asked for.
@@ -118,7 +118,7 @@ pub struct AgentCall {
 }
 
 /// What a client asks of a desk.
-#[derive(Debug, Drop)]
+#[derive(Drop)]
 pub enum ClientCall {
     /// A command, once.
     Do(Call),
@@ -159,7 +159,7 @@ pub enum ClientCall {
 /// What a command line asks for. If it has a `db`, that is the name of the file with the desk's
 /// records; without one they are in memory. A `cache` is the room in bytes for what the desk keeps
 /// in memory of that file.
-#[derive(Debug, Drop)]
+#[derive(Drop)]
 pub enum Program {
     /// HTTP from standard input to standard output. The first message is at the moment `at`, and
     /// each later one `step` seconds after the one before it.
