@@ -210,7 +210,9 @@ impl DueScan {
         let mut found = DueState::NothingDue;
         for metric in metrics.iter() {
             let next = next_of(metric)?;
-            if let Some(measurement) = next.filter(|next| next.is_sought(moment, self.late)) {
+            if let Some(measurement) = next
+                && measurement.is_sought(moment, self.late)
+            {
                 show(output, self.line(service, run, &measurement)?.as_str())?;
                 found = DueState::Due;
             }
@@ -275,7 +277,7 @@ impl NextMeasurement<'_> {
 // The next measurement of a metric; none if the desk waits for none. `ReplyUnread` if the reply does
 // not say so.
 fn next_of(metric: &Value) -> Result<Option<NextMeasurement<'_>>, Stop> {
-    if metric.get("due").is_some_and(Value::is_null) {
+    if matches!(metric.get("due"), Some(Value::Null)) {
         return Ok(None);
     }
     match parts_of(metric) {

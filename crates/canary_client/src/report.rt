@@ -1,6 +1,5 @@
 //! Reports of one measurement.
-ghost use Rattle.std.specs.Prelude.{IfOk, IsTrue};
-ghost use Rattle.canary_plan.specs.Limits.{is_ordinal};
+ghost use Rattle.std.specs.Prelude.{◌≤◌, IfOk};
 ghost use Rattle.canary_client_journal.specs.Networks.{GoesOn};
 ghost use Rattle.canary_client.specs.Promises.{IsQuery};
 
@@ -60,7 +59,7 @@ pub fn next_ordinal<N: Network>(
     measured: &NewMeasurement,
     tries: u32,
 ) -> Result<u32, Stop>
-    ensures within { IfOk result (λ ordinal. IsTrue (is_ordinal ordinal)) }
+    ensures within { IfOk result (λ ordinal. (1 ≤ ordinal) × (ordinal ≤ 1000000000)) }
     ensures sends { GoesOn N.was_sent N.was_told N.was_unanswered
         network.old network.new IsQuery }
 {
@@ -72,7 +71,7 @@ pub fn next_ordinal<N: Network>(
 
 // The ordinal that comes after so many measurements.
 fn ordinal_after(count: u64) -> Result<u32, Stop>
-    ensures { IfOk result (λ ordinal. IsTrue (is_ordinal ordinal)) }
+    ensures { IfOk result (λ ordinal. (1 ≤ ordinal) × (ordinal ≤ 1000000000)) }
 {
     if count >= MAX_ORDINAL as u64 {
         return Err(Stop::ReplyUnread);
