@@ -12,7 +12,7 @@ use canary_client_journal::network::Network;
 use canary_decimal::shown::Shown;
 use canary_page_html::shown::{TextKind, shown};
 use serde_json::Value;
-use std::alloc::{AllocError, Global};
+use std::alloc::Global;
 use std::io::Write;
 
 /// Which measurements are shown.
@@ -174,8 +174,23 @@ impl DueScan {
         output: &mut W,
     ) -> Result<DueState, Stop> {
         let name = service.as_str();
-        let path = format!(in self.alloc; "/services/{name}")?;
-        let value = value_at(self.alloc, network, path.as_str(), self.tries)?;
+        let value = self.asked(network, format!(in self.alloc; "/services/{name}")?)?;
+        self.at_runs(network, service, &value, output)
+    }
+
+    // The value of the reply to a query of this path.
+    fn asked<N: Network>(&self, network: &mut N, path: String) -> Result<Value, Stop> {
+        value_at(self.alloc, network, path.as_str(), self.tries)
+    }
+
+    // The same, of the runs that are open in the reply to a query of the service.
+    fn at_runs<N: Network, W: Write>(
+        &self,
+        network: &mut N,
+        service: Name,
+        value: &Value,
+        output: &mut W,
+    ) -> Result<DueState, Stop> {
         let moment = value.get("moment").and_then(Value::as_u64);
         let open = value.get("open").and_then(Value::as_array);
         let (Some(moment), Some(open)) = (moment, open) else {
@@ -191,8 +206,7 @@ impl DueScan {
         Ok(found)
     }
 
-    // Shows a line for each measurement of a run that is sought; `ReplyUnread` if the reply is no
-    // run's.
+    // Shows a line for each measurement of a run that is sought.
     fn at_run<N: Network, W: Write>(
         &self,
         network: &mut N,
@@ -202,8 +216,22 @@ impl DueScan {
         output: &mut W,
     ) -> Result<DueState, Stop> {
         let name = service.as_str();
-        let path = format!(in self.alloc; "/services/{name}/runs/{run}")?;
-        let value = value_at(self.alloc, network, path.as_str(), self.tries)?;
+        let value = self.asked(
+            network,
+            format!(in self.alloc; "/services/{name}/runs/{run}")?,
+        )?;
+        self.show_run(service, run, &value, moment, output)
+    }
+
+    // The same, of the reply to a query of the run; `ReplyUnread` if it is no run's.
+    fn show_run<W: Write>(
+        &self,
+        service: Name,
+        run: u64,
+        value: &Value,
+        moment: u64,
+        output: &mut W,
+    ) -> Result<DueState, Stop> {
         let Some(metrics) = value.get("metrics").and_then(Value::as_array) else {
             return Err(Stop::ReplyUnread);
         };
@@ -231,19 +259,42 @@ impl DueScan {
 
     // The line of a measurement: with its service if `is_named`, and since when if `late` is given.
     fn line(&self, service: Name, run: u64, due: &NextMeasurement<'_>) -> Result<String, Stop> {
+        let mut line = String::new(self.alloc);
+        self.put_line(&mut line, service, run, due)?;
+        Ok(line)
+    }
+
+    // Appends that line.
+    fn put_line(
+        &self,
+        line: &mut String,
+        service: Name,
+        run: u64,
+        due: &NextMeasurement<'_>,
+    ) -> Result<(), Stop> {
+        if self.is_named {
+            line.push_str(service.as_str())?;
+            line.push(' ')?;
+        }
+        self.put_measurement(line, run, due)?;
+        if self.late.is_some() {
+            line.push(' ')?;
+            put_moment(line, due.since)?;
+        }
+        Ok(())
+    }
+
+    // Appends which measurement is due.
+    fn put_measurement(
+        &self,
+        line: &mut String,
+        run: u64,
+        due: &NextMeasurement<'_>,
+    ) -> Result<(), Stop> {
         let metric = shown(self.alloc, self.name_of(due.metric), TextKind::Line)?;
         let (metric, ordinal) = (metric.as_str(), due.ordinal);
-        let line = format!(in self.alloc; "{run} {metric} {ordinal}")?;
-        if !self.is_named {
-            return Ok(line);
-        }
-        let (name, line) = (service.as_str(), line.as_str());
-        if self.late.is_none() {
-            return Ok(format!(in self.alloc; "{name} {line}")?);
-        }
-        let since = since(self.alloc, due.since)?;
-        let since = since.as_str();
-        Ok(format!(in self.alloc; "{name} {line} {since}")?)
+        write!(line, "{run} {metric} {ordinal}")?;
+        Ok(())
     }
 }
 
@@ -298,12 +349,11 @@ fn parts_of(metric: &Value) -> Option<NextMeasurement<'_>> {
     })
 }
 
-// A moment in UTC, as RFC 3339 writes it.
-fn since(alloc: Global, seconds: u64) -> Result<String, AllocError> {
-    let mut text = String::with_capacity(alloc, 40)?;
+// Appends a moment in UTC, as RFC 3339 writes it; past the last one, its seconds.
+fn put_moment(line: &mut String, seconds: u64) -> Result<(), Stop> {
     match Moment::new(seconds) {
-        Some(moment) if moment.text(&mut text).is_ok() => Ok(text),
-        Some(_) => Err(AllocError),
-        None => format!(in alloc; "{seconds}"),
+        Some(moment) => moment.text(line)?,
+        None => write!(line, "{seconds}")?,
     }
+    Ok(())
 }

@@ -33,7 +33,7 @@ pub struct DeskEndpoint {
 }
 
 /// A variable of the environment that counts in the place of an option.
-#[derive(Clone, Copy, Debug, PartialEq, Eq)]
+#[derive(Clone, Copy)]
 pub enum Variable {
     /// Of `--desk`.
     Desk,

@@ -58,7 +58,7 @@ impl ClientExit {
 }
 
 /// Why a call ended before it was done.
-#[derive(Clone, Copy, Debug, PartialEq, Eq)]
+#[derive(Clone, Copy, PartialEq, Eq)]
 pub enum Stop {
     /// The desk's address is not a host and a port.
     Address,

@@ -117,14 +117,19 @@ fn name_of(word: &Option<Text>) -> Result<Name, Stop> {
     }
 }
 
+// The version that a word spells; `NoVersion` if the word is missing.
+fn version_of(word: &Option<Text>) -> Result<Label, Stop> {
+    match word {
+        Some(word) => label_of(word),
+        None => Err(Stop::NoVersion),
+    }
+}
+
 /// The version that a word spells.
 ///
 /// # Errors
-/// `NoVersion`, `BadVersion`.
-pub(crate) fn version_of(word: &Option<Text>) -> Result<Label, Stop> {
-    let Some(word) = word else {
-        return Err(Stop::NoVersion);
-    };
+/// `BadVersion`.
+pub(crate) fn label_of(word: &Text) -> Result<Label, Stop> {
     match Label::read(word.as_str().as_bytes()) {
         Some(version) => Ok(version),
         None => Err(Stop::BadVersion),
@@ -270,9 +275,14 @@ fn report(alloc: Global, words: &AskedCommand) -> Result<Asking, Stop> {
         metric,
         outcome: outcome_of(alloc, words)?,
     };
-    is_taken(alloc, &measured, words.failure.is_some())?;
-    let intent = intent_of(alloc, &measured)?;
+    let intent = taken_intent(alloc, &measured, words.failure.is_some())?;
     Ok(Asking::Report { intent, measured })
+}
+
+// What a report means, if the desk reads one with this outcome.
+fn taken_intent(alloc: Global, measured: &NewMeasurement, is_failure: bool) -> Result<Text, Stop> {
+    is_taken(alloc, measured, is_failure)?;
+    intent_of(alloc, measured)
 }
 
 // The number of the run that a word spells; none if the word is missing or spells none.
