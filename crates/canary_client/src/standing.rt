@@ -10,16 +10,6 @@ use jiff::Timestamp;
 use serde_json::Value;
 use std::alloc::{AllocError, Global};
 
-/// The words that `--until` takes.
-pub const WORDS: [&str; 6] = [
-    "Healthy",
-    "Degraded",
-    "Paused",
-    "Progressing",
-    "Held",
-    "Waiting",
-];
-
 // The seconds of a day.
 const DAY: u64 = 86_400;
 
@@ -162,6 +152,29 @@ fn by_event(moment: u64, event: LineEvent) -> StandingReason
         LineEvent::AbortedBy { run } => StandingReason::AbortedBy { run },
         _ => StandingReason::Plain,
     }
+}
+
+/// Whether a word is one of those that `--until` takes.
+pub fn is_word(word: &str) -> bool {
+    static WORDS: [&str; 6] = [
+        "Healthy",
+        "Degraded",
+        "Paused",
+        "Progressing",
+        "Held",
+        "Waiting",
+    ];
+    is_one_of(word, &WORDS)
+}
+
+// Whether a word is one of these.
+fn is_one_of(word: &str, words: &[&str]) -> bool {
+    for known in words {
+        if word == *known {
+            return true;
+        }
+    }
+    false
 }
 
 /// How a service stands: its status, its step, and why.
@@ -324,17 +337,19 @@ fn moment_of(text: &str) -> Option<Moment> {
 /// Whether a line is of the step at which a service stands: two queries may come before and after a
 /// step was entered.
 pub fn is_of_step(line: &Line, step: u64) -> bool {
-    match line.event {
-        LineEvent::WeightEntered {
-            step: of,
-            weight: _,
-        } => of as u64 == step,
-        LineEvent::PauseEntered { step: of } => of as u64 == step,
-        LineEvent::TimedPauseEntered {
-            step: of,
-            seconds: _,
-        } => of as u64 == step,
-        LineEvent::AnalysisEntered { step: of, run: _ } => of as u64 == step,
-        _ => true,
+    match step_of(&line.event) {
+        Some(of) => of as u64 == step,
+        None => true,
+    }
+}
+
+// The step that an event enters, if it enters one.
+fn step_of(event: &LineEvent) -> Option<u32> {
+    match event {
+        LineEvent::WeightEntered { step, weight: _ } => Some(*step),
+        LineEvent::PauseEntered { step } => Some(*step),
+        LineEvent::TimedPauseEntered { step, seconds: _ } => Some(*step),
+        LineEvent::AnalysisEntered { step, run: _ } => Some(*step),
+        _ => None,
     }
 }

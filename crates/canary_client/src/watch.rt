@@ -4,7 +4,7 @@ use crate::endpoint::{endpoint_of, service_of, waiting};
 use crate::outcome::{ClientExit, Stop, say, show, tell};
 use crate::plain::{json_of, line_of};
 use crate::query::value_at;
-use crate::standing::{Hold, Standing, StandingReason, WORDS, is_of_step, last_line, parts_of};
+use crate::standing::{Hold, Standing, StandingReason, is_of_step, is_word, last_line, parts_of};
 use crate::tcp::Tcp;
 use canary_base::lists::Text;
 use canary_cli_words::words::AskedDesk;
@@ -124,11 +124,6 @@ fn until_of(manner: &WatchOptions) -> Result<&str, Stop> {
         Some(_) => Err(Stop::Status),
         None => Ok(UNTIL),
     }
-}
-
-// Whether a word is one of `WORDS`.
-fn is_word(word: &str) -> bool {
-    WORDS.iter().any(|known| *known == word)
 }
 
 // What was found, or nothing if a call without end goes on although no desk answered, it has no
