@@ -330,11 +330,21 @@ fn failure_of(alloc: Global, text: &str) -> Result<Text, Stop> {
 // A report with this outcome has to be one that the desk reads, whatever its ordinal.
 fn is_taken(alloc: Global, measured: &NewMeasurement, is_failure: bool) -> Result<(), Stop> {
     let body = report_body(alloc, measured, 1, 0)?;
-    match command_from_json(alloc, body.as_str().as_bytes()) {
-        Ok(command) if has_one_entry(&command) => Ok(()),
+    if is_read(alloc, body.as_str())? {
+        Ok(())
+    } else if is_failure {
+        Err(Stop::Failure)
+    } else {
+        Err(Stop::Result)
+    }
+}
+
+// Whether the desk reads this body as a report of exactly one measurement.
+fn is_read(alloc: Global, body: &str) -> Result<bool, Stop> {
+    match command_from_json(alloc, body.as_bytes()) {
+        Ok(command) => Ok(has_one_entry(&command)),
         Err(WireFault::Memory) => Err(Stop::Memory),
-        _ if is_failure => Err(Stop::Failure),
-        _ => Err(Stop::Result),
+        Err(_) => Ok(false),
     }
 }
 
