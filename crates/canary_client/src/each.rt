@@ -32,15 +32,21 @@ pub(crate) fn commands_of<P: Files + AllocGlobal, F: Write>(
     errors: &mut F,
 ) -> Result<Vec<NamedCommand>, Stop> {
     let files = files_of(rt.alloc(), words)?;
-    let commands = match words.kind.as_str() {
-        "template" => templates(rt, files.as_slice(), errors)?,
-        "service" => services(rt, files.as_slice(), errors)?,
-        _ => return Err(Stop::ArgoCommand),
-    };
-    if commands.is_empty() {
-        return Err(Stop::ArgoNothing);
+    commands_in(rt, words.kind.as_str(), files.as_slice(), errors)
+}
+
+// The commands of this kind, of the words behind it.
+fn commands_in<P: Files + AllocGlobal, F: Write>(
+    rt: &P,
+    kind: &str,
+    files: &[Text],
+    errors: &mut F,
+) -> Result<Vec<NamedCommand>, Stop> {
+    match kind {
+        "template" => templates(rt, files, errors),
+        "service" => services(rt, files, errors),
+        _ => Err(Stop::ArgoCommand),
     }
-    Ok(commands)
 }
 
 // The words that follow the kind of the command.
@@ -92,11 +98,15 @@ fn services<P: Files + AllocGlobal, F: Write>(
 }
 
 // A command for each of what is made, with its name: a service at this version, or a template.
+// `ArgoNothing` if nothing is made.
 fn named_each(
     alloc: Global,
     made: &[Made],
     version: &Option<Label>,
 ) -> Result<Vec<NamedCommand>, Stop> {
+    if made.is_empty() {
+        return Err(Stop::ArgoNothing);
+    }
     let mut commands = Vec::new(alloc);
     for item in made {
         commands.push(named(alloc, item, version)?)?;
