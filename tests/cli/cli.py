@@ -21,6 +21,7 @@ from conversation import AT_B, limits_writes, without_progress
 from files import FILE_PARTS
 from story_words import B, Wrong, blocks, command, expanded, expect, get, put, wire
 from streams import REQUEST, STREAM_PARTS
+from world import MARKS
 
 HERE = os.path.dirname(os.path.realpath(__file__))
 # What stands in desk.db of the rows' folders.
@@ -101,6 +102,8 @@ def try_mistakes(program, _):
         expect(words, (done.returncode, done.stdout, left), (2, b"", len(REQUEST)))
         if not done.stderr.startswith(b"error: ") or lines_of(why) not in done.stderr:
             raise Wrong(f"{words}: standard error: {done.stderr.decode()}")
+        if {*map(ord, done.stderr.decode())} & {*MARKS} - {ord("\n")}:
+            raise Wrong(f"{words}: a mark on standard error: {done.stderr}")
     return len(rows)
 
 

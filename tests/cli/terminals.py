@@ -185,7 +185,13 @@ def try_missing(program, place):
                (status, b"", elsewhere))
         for name in set(os.listdir(place)) - before:
             os.remove(os.path.join(place, name))
-    return len(rows)
+    words = ["history", "--db", "n\x1b[2Jw.db", "web"]
+    written, shown = run_showing(program, words, place, status=1)
+    expect(f"{words}, on a terminal", (written, shown),
+           (b"", MADE.replace(b"new", b"n\\u001b[2Jw") + unknown))
+    for name in set(os.listdir(place)) - before:
+        os.remove(os.path.join(place, name))
+    return len(rows) + 1
 
 
 def try_faults(program, place):
@@ -206,6 +212,8 @@ def try_faults(program, place):
         (["import", "--db", "desk.db", "none.csv"], b"file", b"desk.db, none.csv" + unfound),
         (["page", "--db", "desk.db", "no/out"], b"file", b"desk.db, no/out" + unfound),
         (["check", "none.json"], b"file", b"none.json" + unfound),
+        (["check", "no\x1b[2J\u202ene"], b"file", b"no\\u001b[2J\\u202ene" + unfound),
+        (["serve", "--listen", "\x1b[31m"], b"listen", b"\\u001b[31m" + invalid),
         (["check", "--request", "none.json"], b"file", b"none.json" + unfound),
         (["export", "--db", "desk.db", "--caller", " ", "web"], b"bad-name", b""),
     )

@@ -22,12 +22,17 @@ import sends
 import silence
 import storms
 import strangers
+import unread
 import wishes
 import words
 from world import World, running
 
-STRACE_PARTS = ("try_client_killed", "try_desk_killed", "try_power_cuts", "try_failing_calls",
-                "try_defaults", "try_slow_calls")
+# What needs a command that CHECK_WITHOUT may name.
+PARTS_WITH = {
+    "strace": ("try_client_killed", "try_desk_killed", "try_power_cuts", "try_failing_calls",
+               "try_defaults", "try_slow_calls"),
+    "cc": ("try_late_clock",),
+}
 # How many parts run beside one another: they wait more than they compute.
 BESIDE = 6
 
@@ -40,7 +45,7 @@ def parts_of(*modules):
 
 # The long ones first.
 PARTS = parts_of(storms, kills, journals, fates, copies, replies, wishes, closed, reports, sends,
-                 queries, silence, strangers, limits, words, minutes, argo)
+                 queries, silence, strangers, unread, limits, words, minutes, argo)
 
 
 def fail(why):
@@ -52,7 +57,8 @@ def chosen(wanted):
     unknown = set(wanted) - set(PARTS)
     if unknown:
         fail(f"unknown part: {' '.join(sorted(unknown))}")
-    left_out = STRACE_PARTS if "strace" in os.environ.get("CHECK_WITHOUT", "").split() else ()
+    without = os.environ.get("CHECK_WITHOUT", "").split()
+    left_out = [part for command in without for part in PARTS_WITH.get(command, ())]
     return [name for name in PARTS if name in (wanted or PARTS) and name not in left_out]
 
 

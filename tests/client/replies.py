@@ -1,4 +1,5 @@
 """What comes in the place of a desk's reply: parts of client.py."""
+import re
 import socket
 import sys
 import time
@@ -55,6 +56,19 @@ REPLIES = (
      FOREIGN),
     ("a length and identity", WHOLE.replace(b"\r\n\r\n", b"\r\ntransfer-encoding: identity\r\n\r\n"),
      FOREIGN),
+    ("a length below 0", WHOLE.replace(b"Content-Length: ", b"Content-Length: -"), FOREIGN),
+    ("a length of nothing", re.sub(rb"Content-Length: \d+", b"Content-Length:", WHOLE), FOREIGN),
+    ("a length in hexadecimal", re.sub(rb"Content-Length: \d+", b"Content-Length: 0x4a", WHOLE),
+     FOREIGN),
+    ("a length past all numbers",
+     re.sub(rb"Content-Length: \d+", b"Content-Length: 18446744073709551690", WHOLE), FOREIGN),
+    ("a length that cuts the body", re.sub(rb"Content-Length: \d+", b"Content-Length: 9", WHOLE),
+     FOREIGN),
+    ("a status alone", b"HTTP/1.1 200 OK\r\n\r\n", FOREIGN),
+    ("204 without a body", b"HTTP/1.1 204 No Content\r\n\r\n", FOREIGN),
+    ("a reply of HTTP/2", WHOLE.replace(b"HTTP/1.1", b"HTTP/2"), FOREIGN),
+    ("a line that is folded", WHOLE.replace(b"\r\n\r\n", b"\r\n folded: x\r\n\r\n"), FOREIGN),
+    ("a body that nests deep", reply(200, "[" * 60_000 + "]" * 60_000), FOREIGN),
     ("409 ahead of nothing", reply(409, '{"code":"ahead"}'), FOREIGN),
     ("a body that is not UTF-8", reply(200, b'{"code":"ok\xff"}'), FOREIGN),
     ("no length", WHOLE.replace(b"Content-Length", b"X-Length"), FOREIGN),

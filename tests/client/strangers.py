@@ -59,9 +59,11 @@ def try_marks(world):
             expect(f"get {part}", (found.status, json.loads(found.output)),
                    (DONE, json.loads(service)))
         expect("get on a terminal", on_terminal(world, ["get", *at, "web"], place), (DONE, line))
-        want("watch", world.run(["watch", *at, "web"], place), DONE, line)
         found = world.run(["do", *at, "--as", "ops", "--journal", "none", "tick", "web"], place)
         want_no_marks("do", found.output + found.errors)
+    history = body_with(code="ok", lines=[NAME])
+    with serving(reply(200, service, JSON), reply(200, history, JSON)) as port:
+        want("watch", world.run(["watch", "--desk", f"127.0.0.1:{port}", "web"], place), DONE, line)
     with serving(reply(200, service, JSON), reply(200, run, JSON)) as port:
         want("due", world.run(["due", "--desk", f"127.0.0.1:{port}", "web"], place), DONE,
              f"1 {escaped} 3\n")

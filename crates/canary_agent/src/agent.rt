@@ -6,7 +6,7 @@ use crate::rounds::{AgentInputs, Rounds};
 use canary_base::lists::Text;
 use canary_base::names::Name;
 use canary_cli_words::words::AgentCall;
-use canary_client::endpoint::{endpoint_of, given_or};
+use canary_client::endpoint::{Variable, endpoint_of, given_or};
 use canary_client::outcome::{ClientExit, Stop, say};
 use canary_client::tcp::Tcp;
 use std::fs::DirBuilder;
@@ -99,7 +99,7 @@ fn folder_of(rt: &HostRuntime, call: &AgentCall) -> Result<Text, AgentStop> {
     if call.is_dry_run {
         return Ok(Text::of(String::new(rt.alloc())));
     }
-    let folder = match given_or(rt, &call.journals, "CANARY_JOURNALS")? {
+    let folder = match given_or(rt, &call.journals, Variable::Journals)? {
         Some(folder) if !folder.as_str().is_empty() => folder,
         _ => return Err(AgentStop::NoJournals),
     };

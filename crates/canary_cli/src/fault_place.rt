@@ -5,6 +5,7 @@ ghost use Rattle.std.specs.Prelude.{◌≡◌};
 use crate::file::migrate::is_of_first_version;
 use canary_base::lists::Text;
 use canary_cli_words::words::Program;
+use canary_page_html::shown::{TextKind, shown};
 use canary_programs::fault::Fault;
 use std::alloc::{AllocError, Global};
 use std::io::Write;
@@ -85,8 +86,9 @@ impl FaultPlace {
 
     /// Says on a terminal what a fault is about, and in words what it is, if that is known; and of
     /// a file of the first version, how it becomes one of this version. Of a file that is gone it
-    /// says everywhere what was found, and what to do. A fault of `errors`, and memory that is
-    /// refused for the line, are ignored.
+    /// says everywhere what was found, and what to do. Characters of a name that would command a
+    /// terminal are escaped. A fault of `errors`, and memory that is refused for the line, are
+    /// ignored.
     pub(crate) fn tell<F: Write>(&self, rt: &HostRuntime, fault: Fault, errors: &mut F) {
         let about = self.about(fault);
         if about.is_empty() {
@@ -94,13 +96,13 @@ impl FaultPlace {
         }
         let what = self.advice(rt, fault);
         let line = if what.is_empty() {
-            format!(in rt.alloc(); "{about}: {fault}\n")
+            format!(in rt.alloc(); "{about}: {fault}")
         } else {
             let file = self.db.as_str();
-            format!(in rt.alloc(); "{file}: {what}\n")
+            format!(in rt.alloc(); "{file}: {what}")
         };
         if let Ok(line) = line {
-            let _ = errors.write_all(line.as_bytes());
+            put_line(rt.alloc(), line.as_str(), errors);
         }
     }
 
@@ -118,6 +120,14 @@ impl FaultPlace {
     // Whether the fault is that the records are of the first version.
     fn is_of_first_version(&self, rt: &HostRuntime, fault: Fault) -> bool {
         fault == Fault::OtherSchema && is_of_first_version(rt, self.db.as_str())
+    }
+}
+
+// Writes a line, in which the marks of names are escaped; nothing if memory is refused for that.
+fn put_line<F: Write>(alloc: Global, line: &str, errors: &mut F) {
+    if let Ok(line) = shown(alloc, line, TextKind::Line) {
+        let _ = errors.write_all(line.as_bytes());
+        let _ = errors.write_all(b"\n");
     }
 }
 

@@ -98,14 +98,6 @@ const DESK: ArgumentSpec = ArgumentSpec::Optional(
 // `--tries N`.
 const TRIES: ArgumentSpec = ArgumentSpec::Number("tries", "N", MAX_TRIES, client_help::TRIES_HELP);
 
-// `--watch SECONDS`.
-const WATCH: ArgumentSpec = ArgumentSpec::Number(
-    "watch",
-    "SECONDS",
-    MAX_WATCH,
-    help::WATCH_OPTION_HELP,
-);
-
 /// What the desk takes: one of its commands, with that command's options.
 pub(crate) fn desk_command<'a>(alloc: Global) -> Result<Command<'a>, AllocError>
     ensures { IfOk result (λ c. app_of c ≡ desk_command) }
@@ -246,6 +238,13 @@ fn with_status_commands<'a>(
     ensures { (above : App) → IfOk desk.entry (λ c. app_of c ≡ above)
         → IfOk result (λ c. app_of c ≡ with_status_commands above) }
 {
+    // `--watch SECONDS`.
+    const WATCH: ArgumentSpec = ArgumentSpec::Number(
+        "watch",
+        "SECONDS",
+        MAX_WATCH,
+        help::WATCH_OPTION_HELP,
+    );
     static COMMANDS: [CommandSpec; 2] = [
         CommandSpec {
             name: "status",

@@ -17,8 +17,10 @@ use crate::values::{
     flag_given, moment_given, number_given, optional_text, text_given, texts_given, two_given,
     two_optional,
 };
+use canary_base::error::Memory;
 use canary_base::lists::{Listed, Text};
 use canary_base::moments::Moment;
+use canary_page_html::shown::{TextKind, shown};
 use clap::error::ErrorKind;
 use clap::{ArgMatches, Error};
 use std::alloc::{AllocError, Global};
@@ -53,7 +55,7 @@ pub struct AskedDesk {
 }
 
 /// A command for a desk, word by word.
-#[derive(Debug, Drop)]
+#[derive(Drop)]
 pub struct AskedCommand {
     /// Its kind, as `promote`.
     pub kind: Text,
@@ -69,7 +71,7 @@ pub struct AskedCommand {
 }
 
 /// A command for a desk, in whose name, and how.
-#[derive(Debug, Drop)]
+#[derive(Drop)]
 pub struct Call {
     /// The desk.
     pub desk: AskedDesk,
@@ -89,7 +91,7 @@ pub struct Call {
 }
 
 /// What a call of the agent asks for.
-#[derive(Debug, Drop)]
+#[derive(Drop)]
 pub struct AgentCall {
     /// The desk. The most seconds are those of each exchange with it; a message is sent once in
     /// each look, however often is asked for.
@@ -116,7 +118,7 @@ pub struct AgentCall {
 }
 
 /// What a client asks of a desk.
-#[derive(Debug, Drop)]
+#[derive(Drop)]
 pub enum ClientCall {
     /// A command, once.
     Do(Call),
@@ -157,7 +159,7 @@ pub enum ClientCall {
 /// What a command line asks for. If it has a `db`, that is the name of the file with the desk's
 /// records; without one they are in memory. A `cache` is the room in bytes for what the desk keeps
 /// in memory of that file.
-#[derive(Debug, Drop)]
+#[derive(Drop)]
 pub enum Program {
     /// HTTP from standard input to standard output. The first message is at the moment `at`, and
     /// each later one `step` seconds after the one before it.
@@ -522,7 +524,7 @@ impl std::error::Error for WordsFault {}
 fn fault_of(alloc: Global, error: &Error) -> WordsFault
     ensures { (kinds : Kinds) → HasKind kinds error.now → IsFor kinds result }
 {
-    let Ok(text) = format!(in alloc; "{error}") else {
+    let Ok(text) = text_of(alloc, error) else {
         return WordsFault::Memory;
     };
     match error.kind() {
@@ -530,4 +532,22 @@ fn fault_of(alloc: Global, error: &Error) -> WordsFault
         ErrorKind::DisplayHelp | ErrorKind::DisplayVersion => WordsFault::Help(text),
         _ => WordsFault::Usage(text),
     }
+}
+
+// The text of an error of clap's, line after line. It has words of the user, whose marks are
+// escaped.
+fn text_of(alloc: Global, error: &Error) -> Result<String, Memory> {
+    let told = format!(in alloc; "{error}")?;
+    let mut text = String::new(alloc);
+    for line in told.as_str().lines() {
+        put_line(alloc, &mut text, line)?;
+    }
+    Ok(text)
+}
+
+// Appends a line as a terminal may show it, and its end.
+fn put_line(alloc: Global, text: &mut String, line: &str) -> Result<(), Memory> {
+    text.push_str(shown(alloc, line, TextKind::Line)?.as_str())?;
+    text.push('\n')?;
+    Ok(())
 }

@@ -28,6 +28,10 @@ outcome_of stop.Address = Words
 outcome_of stop.NoCaller = Words
 outcome_of stop.BadCaller = Words
 outcome_of stop.NoJournal = Words
+outcome_of stop.DeskNotUtf8 = Words
+outcome_of stop.CallerNotUtf8 = Words
+outcome_of stop.JournalNotUtf8 = Words
+outcome_of stop.JournalsNotUtf8 = Words
 outcome_of stop.Command = Words
 outcome_of stop.NoVersion = Words
 outcome_of stop.BadVersion = Words
@@ -59,7 +63,9 @@ outcome_of stop.NoDesk = Pending
 outcome_of stop.Unanswered = Pending
 outcome_of stop.RowUnanswered = Pending
 outcome_of stop.TimeOut = Pending
--- the desk, the journal or the file contradict each other, or the journal this call
+-- the desk, the journal or the file contradict each other, or the journal this call; or nobody can
+-- read what the desk says
+outcome_of stop.ReplyUnread = Contradiction
 outcome_of stop.RowReused = Contradiction
 outcome_of stop.RowAhead = Contradiction
 outcome_of stop.RowUnread = Contradiction
@@ -81,4 +87,5 @@ outcome_of stop.File = Local
 outcome_of stop.RowsSpent = Local
 outcome_of stop.Output = Local
 outcome_of stop.Clock = Local
+outcome_of stop.LateClock = Local
 outcome_of stop.Memory = Local

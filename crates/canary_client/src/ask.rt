@@ -21,10 +21,11 @@ use crate::endpoint::{DeskEndpoint, caller_of, endpoint_of, journal_of};
 use crate::journals::{asked, asked_instead, device_at, journal_on, settled};
 use crate::outcome::{ClientExit, Stop, say, say_of, show};
 use crate::plain::{json_of, line_of};
-use crate::report::{next_ordinal, report_body};
+use crate::report::{NewMeasurement, next_ordinal, report_body};
 use crate::tcp::Tcp;
 use crate::wish::{Asking, has_intent, read_asking};
 use canary_base::lists::Text;
+use canary_base::moments::Moment;
 use canary_base::names::Name;
 use canary_cli_words::words::Call;
 use canary_client_journal::entry::{SettledNumber, SettledReply, Wish, WishPlace};
@@ -375,20 +376,32 @@ fn wish_of<N: Network>(
     match asking {
         Asking::Command { intent, body } => Ok(Wish { intent, key, body }),
         Asking::Report { intent, measured } => {
-            let ordinal = next_ordinal(rt.alloc(), network, &measured, tries)?;
-            let body = report_body(rt.alloc(), &measured, ordinal, now(rt)?)?;
+            let body = report_now(rt, network, &measured, tries)?;
             Ok(Wish { intent, key, body })
         }
     }
 }
 
+// The body of a report of what was measured now.
+fn report_now<N: Network>(
+    rt: &HostRuntime,
+    network: &mut N,
+    measured: &NewMeasurement,
+    tries: u32,
+) -> Result<Text, Stop>
+    ensures { GoesOn N.was_sent N.was_told N.was_unanswered network.old network.new IsQuery }
+{
+    let ordinal = next_ordinal(rt.alloc(), network, measured, tries)?;
+    Ok(report_body(rt.alloc(), measured, ordinal, now(rt)?.get())?)
+}
+
 // The moment, in seconds since 1970-01-01T00:00:00Z.
-fn now(rt: &HostRuntime) -> Result<u64, Stop> {
+fn now(rt: &HostRuntime) -> Result<Moment, Stop> {
     let Ok(now) = SystemTime::now(rt) else {
         return Err(Stop::Clock);
     };
     match now.duration_since(SystemTime::UNIX_EPOCH) {
-        Ok(passed) => Ok(passed.as_secs()),
+        Ok(passed) => Moment::new(passed.as_secs()).ok_or(Stop::LateClock),
         Err(_) => Err(Stop::Clock),
     }
 }

@@ -12,7 +12,7 @@ use canary_client_journal::network::Network;
 use canary_decimal::shown::Shown;
 use canary_page_html::shown::{TextKind, shown};
 use serde_json::Value;
-use std::alloc::{AllocError, Global};
+use std::alloc::Global;
 use std::io::Write;
 
 /// Which measurements are shown.
@@ -166,7 +166,7 @@ impl DueScan {
         Ok(found)
     }
 
-    // Shows what is sought of a service's open runs; `Query` if the reply is no service's.
+    // Shows what is sought of a service's open runs; `ReplyUnread` if the reply is no service's.
     fn at_service<N: Network, W: Write>(
         &self,
         network: &mut N,
@@ -174,17 +174,32 @@ impl DueScan {
         output: &mut W,
     ) -> Result<DueState, Stop> {
         let name = service.as_str();
-        let path = format!(in self.alloc; "/services/{name}")?;
-        let value = value_at(self.alloc, network, path.as_str(), self.tries)?;
+        let value = self.asked(network, format!(in self.alloc; "/services/{name}")?)?;
+        self.at_runs(network, service, &value, output)
+    }
+
+    // The value of the reply to a query of this path.
+    fn asked<N: Network>(&self, network: &mut N, path: String) -> Result<Value, Stop> {
+        value_at(self.alloc, network, path.as_str(), self.tries)
+    }
+
+    // The same, of the runs that are open in the reply to a query of the service.
+    fn at_runs<N: Network, W: Write>(
+        &self,
+        network: &mut N,
+        service: Name,
+        value: &Value,
+        output: &mut W,
+    ) -> Result<DueState, Stop> {
         let moment = value.get("moment").and_then(Value::as_u64);
         let open = value.get("open").and_then(Value::as_array);
         let (Some(moment), Some(open)) = (moment, open) else {
-            return Err(Stop::Query);
+            return Err(Stop::ReplyUnread);
         };
         let mut found = DueState::NoRun;
         for run in open.iter() {
             let Some(run) = run.as_u64() else {
-                return Err(Stop::Query);
+                return Err(Stop::ReplyUnread);
             };
             found = found.with(self.at_run(network, service, run, moment, output)?);
         }
@@ -201,14 +216,31 @@ impl DueScan {
         output: &mut W,
     ) -> Result<DueState, Stop> {
         let name = service.as_str();
-        let path = format!(in self.alloc; "/services/{name}/runs/{run}")?;
-        let value = value_at(self.alloc, network, path.as_str(), self.tries)?;
+        let value = self.asked(
+            network,
+            format!(in self.alloc; "/services/{name}/runs/{run}")?,
+        )?;
+        self.show_run(service, run, &value, moment, output)
+    }
+
+    // The same, of the reply to a query of the run; `ReplyUnread` if it is no run's.
+    fn show_run<W: Write>(
+        &self,
+        service: Name,
+        run: u64,
+        value: &Value,
+        moment: u64,
+        output: &mut W,
+    ) -> Result<DueState, Stop> {
         let Some(metrics) = value.get("metrics").and_then(Value::as_array) else {
-            return Err(Stop::Query);
+            return Err(Stop::ReplyUnread);
         };
         let mut found = DueState::NothingDue;
         for metric in metrics.iter() {
-            if let Some(measurement) = due_of(metric, moment, self.late) {
+            let next = next_of(metric)?;
+            if let Some(measurement) = next
+                && measurement.is_sought(moment, self.late)
+            {
                 show(output, self.line(service, run, &measurement)?.as_str())?;
                 found = DueState::Due;
             }
@@ -227,19 +259,42 @@ impl DueScan {
 
     // The line of a measurement: with its service if `is_named`, and since when if `late` is given.
     fn line(&self, service: Name, run: u64, due: &NextMeasurement<'_>) -> Result<String, Stop> {
+        let mut line = String::new(self.alloc);
+        self.put_line(&mut line, service, run, due)?;
+        Ok(line)
+    }
+
+    // Appends that line.
+    fn put_line(
+        &self,
+        line: &mut String,
+        service: Name,
+        run: u64,
+        due: &NextMeasurement<'_>,
+    ) -> Result<(), Stop> {
+        if self.is_named {
+            line.push_str(service.as_str())?;
+            line.push(' ')?;
+        }
+        self.put_measurement(line, run, due)?;
+        if self.late.is_some() {
+            line.push(' ')?;
+            put_moment(line, due.since)?;
+        }
+        Ok(())
+    }
+
+    // Appends which measurement is due.
+    fn put_measurement(
+        &self,
+        line: &mut String,
+        run: u64,
+        due: &NextMeasurement<'_>,
+    ) -> Result<(), Stop> {
         let metric = shown(self.alloc, self.name_of(due.metric), TextKind::Line)?;
         let (metric, ordinal) = (metric.as_str(), due.ordinal);
-        let line = format!(in self.alloc; "{run} {metric} {ordinal}")?;
-        if !self.is_named {
-            return Ok(line);
-        }
-        let (name, line) = (service.as_str(), line.as_str());
-        if self.late.is_none() {
-            return Ok(format!(in self.alloc; "{name} {line}")?);
-        }
-        let since = since(self.alloc, due.since)?;
-        let since = since.as_str();
-        Ok(format!(in self.alloc; "{name} {line} {since}")?)
+        write!(line, "{run} {metric} {ordinal}")?;
+        Ok(())
     }
 }
 
@@ -251,7 +306,7 @@ fn missing<F: Write>(alloc: Global, word: &Text, errors: &mut F) -> Result<(), S
     Ok(())
 }
 
-// A measurement that is due.
+// The next measurement of a metric, and since when it is due.
 #[derive(Clone, Copy)]
 struct NextMeasurement<'a> {
     metric: &'a str,
@@ -259,17 +314,32 @@ struct NextMeasurement<'a> {
     since: u64,
 }
 
-// The next measurement of a metric, if it is due at this moment; or, if `late` is given, if it has
-// been due for more than so many seconds.
-fn due_of(metric: &Value, moment: u64, late: Option<u64>) -> Option<NextMeasurement<'_>> {
-    let since = metric.get("due").and_then(Value::as_u64)?;
-    let is_sought = match late {
-        Some(late) => moment.saturating_sub(since) > late,
-        None => moment >= since,
-    };
-    if !is_sought {
-        return None;
+impl NextMeasurement<'_> {
+    // Whether it is due at this moment; or, if `late` is given, has been for more than so many
+    // seconds.
+    fn is_sought(&self, moment: u64, late: Option<u64>) -> bool {
+        match late {
+            Some(late) => moment.saturating_sub(self.since) > late,
+            None => moment >= self.since,
+        }
     }
+}
+
+// The next measurement of a metric; none if the desk waits for none. `ReplyUnread` if the reply does
+// not say so.
+fn next_of(metric: &Value) -> Result<Option<NextMeasurement<'_>>, Stop> {
+    if matches!(metric.get("due"), Some(Value::Null)) {
+        return Ok(None);
+    }
+    match parts_of(metric) {
+        Some(next) => Ok(Some(next)),
+        None => Err(Stop::ReplyUnread),
+    }
+}
+
+// The members of a metric that say which measurement is the next one; none if one is missing.
+fn parts_of(metric: &Value) -> Option<NextMeasurement<'_>> {
+    let since = metric.get("due").and_then(Value::as_u64)?;
     let name = metric.get("name").and_then(Value::as_str)?;
     let count = metric.get("measurements").and_then(Value::as_u64)?;
     Some(NextMeasurement {
@@ -279,12 +349,11 @@ fn due_of(metric: &Value, moment: u64, late: Option<u64>) -> Option<NextMeasurem
     })
 }
 
-// A moment in UTC, as RFC 3339 writes it.
-fn since(alloc: Global, seconds: u64) -> Result<String, AllocError> {
-    let mut text = String::with_capacity(alloc, 40)?;
+// Appends a moment in UTC, as RFC 3339 writes it; past the last one, its seconds.
+fn put_moment(line: &mut String, seconds: u64) -> Result<(), Stop> {
     match Moment::new(seconds) {
-        Some(moment) if moment.text(&mut text).is_ok() => Ok(text),
-        Some(_) => Err(AllocError),
-        None => format!(in alloc; "{seconds}"),
+        Some(moment) => moment.text(line)?,
+        None => write!(line, "{seconds}")?,
     }
+    Ok(())
 }

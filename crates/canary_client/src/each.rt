@@ -1,9 +1,10 @@
 //! What `do --argo` asks: the commands that manifests of Argo Rollouts become.
 use crate::outcome::{Stop, say_lines};
-use crate::wish::{Asking, service_asking, template_asking, version_of};
-use canary_argo_files::reading::{FileReadFault, read_files};
+use crate::wish::{Asking, label_of, service_asking, template_asking};
+use canary_argo_files::reading::{FileReadFault, Manifests, read_files};
 use canary_argo_files::translated::{Translated, translate};
 use canary_base::lists::Text;
+use canary_base::names::Label;
 use canary_cli_words::words::AskedCommand;
 use canary_convert::conversion::Converted;
 use canary_convert::work::Made;
@@ -31,15 +32,21 @@ pub(crate) fn commands_of<P: Files + AllocGlobal, F: Write>(
     errors: &mut F,
 ) -> Result<Vec<NamedCommand>, Stop> {
     let files = files_of(rt.alloc(), words)?;
-    let commands = match words.kind.as_str() {
-        "template" => templates(rt, files.as_slice(), errors)?,
-        "service" => services(rt, files, errors)?,
-        _ => return Err(Stop::ArgoCommand),
-    };
-    if commands.is_empty() {
-        return Err(Stop::ArgoNothing);
+    commands_in(rt, words.kind.as_str(), files.as_slice(), errors)
+}
+
+// The commands of this kind, of the words behind it.
+fn commands_in<P: Files + AllocGlobal, F: Write>(
+    rt: &P,
+    kind: &str,
+    files: &[Text],
+    errors: &mut F,
+) -> Result<Vec<NamedCommand>, Stop> {
+    match kind {
+        "template" => templates(rt, files, errors),
+        "service" => services(rt, files, errors),
+        _ => Err(Stop::ArgoCommand),
     }
-    Ok(commands)
 }
 
 // The words that follow the kind of the command.
@@ -72,30 +79,37 @@ fn templates<P: Files + AllocGlobal, F: Write>(
     files: &[Text],
     errors: &mut F,
 ) -> Result<Vec<NamedCommand>, Stop> {
-    let alloc = rt.alloc();
     let made = made_of(rt, files, errors)?;
-    let mut commands = Vec::new(alloc);
-    for template in &made.templates {
-        let asking = template_asking(alloc, template.json.as_str())?;
-        commands.push(with_name(alloc, template, asking)?)?;
-    }
-    Ok(commands)
+    named_each(rt.alloc(), made.templates.as_slice(), &None)
 }
 
 // The last word is the version.
 fn services<P: Files + AllocGlobal, F: Write>(
     rt: &P,
-    files: Vec<Text>,
+    files: &[Text],
     errors: &mut F,
 ) -> Result<Vec<NamedCommand>, Stop> {
-    let alloc = rt.alloc();
-    let mut files = files;
-    let version = version_of(&files.pop())?;
-    let made = made_of(rt, files.as_slice(), errors)?;
+    let Some((version, files)) = files.split_last() else {
+        return Err(Stop::NoVersion);
+    };
+    let version = label_of(version)?;
+    let made = made_of(rt, files, errors)?;
+    named_each(rt.alloc(), made.services.as_slice(), &Some(version))
+}
+
+// A command for each of what is made, with its name: a service at this version, or a template.
+// `ArgoNothing` if nothing is made.
+fn named_each(
+    alloc: Global,
+    made: &[Made],
+    version: &Option<Label>,
+) -> Result<Vec<NamedCommand>, Stop> {
+    if made.is_empty() {
+        return Err(Stop::ArgoNothing);
+    }
     let mut commands = Vec::new(alloc);
-    for service in &made.services {
-        let asking = service_asking(alloc, service.json.as_str(), version.as_str())?;
-        commands.push(with_name(alloc, service, asking)?)?;
+    for item in made {
+        commands.push(named(alloc, item, version)?)?;
     }
     Ok(commands)
 }
@@ -110,25 +124,49 @@ fn made_of<P: Files + AllocGlobal, F: Write>(
         return Err(Stop::ArgoCommand);
     }
     let mut nothing: &[u8] = &[];
-    let manifests = match read_files(rt, files, &mut nothing) {
-        Ok(manifests) => manifests,
-        Err(FileReadFault::Memory) => return Err(Stop::Memory),
-        Err(FileReadFault::File(_)) => return Err(Stop::File),
-    };
-    let translated = translate(rt.alloc(), &manifests)?;
+    match read_files(rt, files, &mut nothing) {
+        Ok(manifests) => made_in(rt.alloc(), &manifests, errors),
+        Err(FileReadFault::Memory) => Err(Stop::Memory),
+        Err(FileReadFault::File(_)) => Err(Stop::File),
+    }
+}
+
+// What these manifests become, if nothing is found in them.
+fn made_in<F: Write>(
+    alloc: Global,
+    manifests: &Manifests,
+    errors: &mut F,
+) -> Result<Converted, Stop> {
+    let translated = translate(alloc, manifests)?;
     if translated.is_found() {
-        say_lines(
-            errors,
-            translated.found.lines(rt.alloc(), &manifests)?.as_str(),
-        );
-        return Err(Stop::Argo);
+        return Err(tell_found(alloc, &translated, manifests, errors));
     }
     let Translated { made, .. } = translated;
     Ok(made)
 }
 
-// The command, with a copy of the name of what it registers.
-fn with_name(alloc: Global, made: &Made, asking: Asking) -> Result<NamedCommand, Stop> {
+// Says what is found in these manifests, and answers why the call stops.
+fn tell_found<F: Write>(
+    alloc: Global,
+    translated: &Translated,
+    manifests: &Manifests,
+    errors: &mut F,
+) -> Stop {
+    match translated.found.lines(alloc, manifests) {
+        Ok(lines) => {
+            say_lines(errors, lines.as_str());
+            Stop::Argo
+        }
+        Err(_) => Stop::Memory,
+    }
+}
+
+// The command that registers what is made, with a copy of its name.
+fn named(alloc: Global, made: &Made, version: &Option<Label>) -> Result<NamedCommand, Stop> {
+    let asking = match version {
+        Some(version) => service_asking(alloc, made.json.as_str(), version.as_str())?,
+        None => template_asking(alloc, made.json.as_str())?,
+    };
     let name = String::from_str(alloc, made.name.as_str())?;
     Ok(NamedCommand { name, asking })
 }

@@ -32,18 +32,53 @@ pub struct DeskEndpoint {
     pub wait_seconds: Option<u64>,
 }
 
+/// A variable of the environment that counts in the place of an option.
+#[derive(Clone, Copy)]
+pub enum Variable {
+    /// Of `--desk`.
+    Desk,
+    /// Of `--as`.
+    Caller,
+    /// Of `--journal`.
+    Journal,
+    /// Of `--journals`.
+    Journals,
+}
+
+impl Variable {
+    // Its name.
+    fn name(self) -> &'static str {
+        match self {
+            Variable::Desk => "CANARY_DESK",
+            Variable::Caller => "CANARY_AS",
+            Variable::Journal => "CANARY_JOURNAL",
+            Variable::Journals => "CANARY_JOURNALS",
+        }
+    }
+
+    // Why a call stops if its value is not UTF-8.
+    fn not_utf8(self) -> Stop {
+        match self {
+            Variable::Desk => Stop::DeskNotUtf8,
+            Variable::Caller => Stop::CallerNotUtf8,
+            Variable::Journal => Stop::JournalNotUtf8,
+            Variable::Journals => Stop::JournalsNotUtf8,
+        }
+    }
+}
+
 /// The place that these words name; if they name none, that of the environment's CANARY_DESK. A
 /// host's name is looked up, once: of its addresses the first of IPv4 counts, else the first.
 ///
 /// # Errors
-/// `Address` if the text is not HOST:PORT; `DeskName` if the system knows no address of the name;
-/// `Memory`.
+/// `Address` if the text is not HOST:PORT; `DeskNotUtf8` if the variable counts and is no text;
+/// `DeskName` if the system knows no address of the name; `Memory`.
 pub fn endpoint_of(rt: &HostRuntime, asked: &AskedDesk) -> Result<DeskEndpoint, Stop>
     ensures { IfOk result (λ place. (place.tries ≡ tries_of asked.now.tries)
         × (place.reply_seconds ≡ reply_seconds_of asked.now.timeout)
         × (place.wait_seconds ≡ asked.now.timeout)) }
 {
-    let given = given_or(rt, &asked.desk, "CANARY_DESK")?;
+    let given = given_or(rt, &asked.desk, Variable::Desk)?;
     Ok(DeskEndpoint {
         desk: looked_up(rt, address_of(&given))?,
         tries: asked.tries.unwrap_or(TRIES).min(u32::MAX as u64) as u32,
@@ -121,9 +156,10 @@ pub fn waiting(place: DeskEndpoint) -> DeskEndpoint
 /// The caller that these words name, or the environment's CANARY_AS.
 ///
 /// # Errors
-/// `NoCaller` if there is none, `BadCaller` if it is an invalid name; `Memory`.
+/// `NoCaller` if there is none, `BadCaller` if it is an invalid name, `CallerNotUtf8` if the
+/// variable counts and is no text; `Memory`.
 pub fn caller_of(rt: &HostRuntime, asked: &Option<Text>) -> Result<Name, Stop> {
-    let Some(given) = given_or(rt, asked, "CANARY_AS")? else {
+    let Some(given) = given_or(rt, asked, Variable::Caller)? else {
         return Err(Stop::NoCaller);
     };
     match Name::read(given.as_str().as_bytes()) {
@@ -135,9 +171,9 @@ pub fn caller_of(rt: &HostRuntime, asked: &Option<Text>) -> Result<Name, Stop> {
 /// The file of the journal that these words name, or the environment's CANARY_JOURNAL.
 ///
 /// # Errors
-/// `NoJournal` if there is none; `Memory`.
+/// `NoJournal` if there is none, `JournalNotUtf8` if the variable counts and is no text; `Memory`.
 pub fn journal_of(rt: &HostRuntime, asked: &Option<Text>) -> Result<Text, Stop> {
-    match given_or(rt, asked, "CANARY_JOURNAL")? {
+    match given_or(rt, asked, Variable::Journal)? {
         Some(file) if !file.as_str().is_empty() => Ok(file),
         _ => Err(Stop::NoJournal),
     }
@@ -154,22 +190,23 @@ pub fn service_of(word: &Text) -> Result<Name, Stop> {
     }
 }
 
-/// What was given, or the variable of the environment that stands for it. One that is no text
-/// counts as one that is not there.
+/// What was given, or else the variable of the environment that counts in its place, if it is set.
 ///
 /// # Errors
-/// `Memory`.
+/// If the variable counts and is not UTF-8, the stop that names it: it was meant to say something,
+/// so no default takes its place. `Memory`.
 pub fn given_or(
     rt: &HostRuntime,
     given: &Option<Text>,
-    variable: &str,
+    variable: Variable,
 ) -> Result<Option<Text>, Stop> {
     if let Some(given) = given {
         return Ok(Some(given.copy(rt.alloc())?));
     }
-    match env::var(&(rt, rt.alloc()), variable) {
+    match env::var(&(rt, rt.alloc()), variable.name()) {
         Ok(value) => Ok(Some(Text::of(value))),
         Err(VarError::OutOfMemory) => Err(Stop::Memory),
-        Err(_) => Ok(None),
+        Err(VarError::NotUnicode) => Err(variable.not_utf8()),
+        Err(VarError::NotPresent) => Ok(None),
     }
 }

@@ -58,7 +58,7 @@ impl ClientExit {
 }
 
 /// Why a call ended before it was done.
-#[derive(Clone, Copy, Debug, PartialEq, Eq)]
+#[derive(Clone, Copy, PartialEq, Eq)]
 pub enum Stop {
     /// The desk's address is not a host and a port.
     Address,
@@ -68,6 +68,14 @@ pub enum Stop {
     BadCaller,
     /// No journal is given.
     NoJournal,
+    /// CANARY_DESK is not UTF-8.
+    DeskNotUtf8,
+    /// CANARY_AS is not UTF-8.
+    CallerNotUtf8,
+    /// CANARY_JOURNAL is not UTF-8.
+    JournalNotUtf8,
+    /// CANARY_JOURNALS is not UTF-8.
+    JournalsNotUtf8,
     /// The words are no command.
     Command,
     /// The version is missing.
@@ -114,6 +122,8 @@ pub enum Stop {
     NoMetric,
     /// The desk refused a query for another reason.
     Query,
+    /// The desk answered a query, and its reply cannot be read.
+    ReplyUnread,
     /// No desk said which number comes next.
     NotBegun,
     /// The desk's name has no address.
@@ -167,6 +177,8 @@ pub enum Stop {
     Output,
     /// The clock failed.
     Clock,
+    /// The clock is past the last moment that a desk takes.
+    LateClock,
     /// An allocation was refused.
     Memory,
 }
@@ -178,6 +190,8 @@ impl Stop {
     {
         match self {
             Stop::Address | Stop::NoCaller | Stop::BadCaller | Stop::NoJournal => ClientExit::Words,
+            Stop::DeskNotUtf8 | Stop::CallerNotUtf8 => ClientExit::Words,
+            Stop::JournalNotUtf8 | Stop::JournalsNotUtf8 => ClientExit::Words,
             Stop::Command | Stop::Result | Stop::Failure | Stop::Run => ClientExit::Words,
             Stop::NoVersion | Stop::BadVersion | Stop::BadMetric => ClientExit::Words,
             Stop::BadService | Stop::Part | Stop::ForeverUntil => ClientExit::Words,
@@ -190,10 +204,11 @@ impl Stop {
             Stop::Reused | Stop::Ahead | Stop::Unread | Stop::KeyUsed => ClientExit::Contradiction,
             Stop::Replaced | Stop::Spent | Stop::Refused => ClientExit::Contradiction,
             Stop::RowReused | Stop::RowAhead | Stop::RowUnread => ClientExit::Contradiction,
+            Stop::ReplyUnread => ClientExit::Contradiction,
             Stop::InUse | Stop::Journal | Stop::JournalFull => ClientExit::Local,
             Stop::JournalBroken | Stop::JournalNoFile | Stop::JournalEmptied => ClientExit::Local,
             Stop::File | Stop::RowsSpent => ClientExit::Local,
-            Stop::Output | Stop::Clock | Stop::Memory => ClientExit::Local,
+            Stop::Output | Stop::Clock | Stop::LateClock | Stop::Memory => ClientExit::Local,
         }
     }
 
@@ -225,6 +240,10 @@ impl Stop {
                 "the caller has an invalid name: 1 to 63 of a-z, 0-9 and '-', no '-' at an end"
             }
             Stop::NoJournal => "a journal has to be given: --journal FILE or CANARY_JOURNAL",
+            Stop::DeskNotUtf8 => "the variable CANARY_DESK is not UTF-8: nothing was asked",
+            Stop::CallerNotUtf8 => "the variable CANARY_AS is not UTF-8: nothing was asked",
+            Stop::JournalNotUtf8 => "the variable CANARY_JOURNAL is not UTF-8: nothing was asked",
+            Stop::JournalsNotUtf8 => "the variable CANARY_JOURNALS is not UTF-8: nothing was asked",
             Stop::Result => "the result is neither a whole number nor a list of them, as [1,2]",
             Stop::Failure => "why a measurement failed is a text of 1 to 200 bytes",
             Stop::Run => "the number of a run is 1 to 1000000000",
@@ -314,6 +333,10 @@ impl Stop {
                 "the desk cannot read this row, so it will never be settled; nothing was sent \
                  after that"
             }
+            Stop::ReplyUnread => {
+                "the desk's reply cannot be read: the desk is of another version, or something \
+                 changed the reply on its way"
+            }
             Stop::Spent => "this caller has no number left: go on under another name",
             _ => "the journal does not take this",
         }
@@ -341,6 +364,10 @@ impl Stop {
             Stop::RowsSpent => "the file has more than 1,000,000 rows, or 1,000,000,000 bytes",
             Stop::Output => "the output failed or was closed",
             Stop::Clock => "the clock cannot be read",
+            Stop::LateClock => {
+                "the clock is past the last moment that a desk takes, the end of the year 9998: \
+                 nothing was asked"
+            }
             _ => "out of memory",
         }
     }

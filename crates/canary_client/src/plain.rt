@@ -57,15 +57,17 @@ fn service_line(alloc: Global, value: &Value) -> Result<Option<String>, Memory> 
         return Ok(None);
     };
     let mut line = format!(in alloc; "{service} {status}, step {step}, weight {weight}%")?;
-    if let Some(version) = value.get("version").and_then(Value::as_str) {
-        line.push_str(", version ")?;
-        line.push_str(version)?;
-    }
-    if let Some(verdict) = value.get("verdict").and_then(Value::as_str) {
-        line.push_str(", verdict ")?;
-        line.push_str(verdict)?;
-    }
+    push_part(&mut line, value, "version")?;
+    push_part(&mut line, value, "verdict")?;
     Ok(Some(line))
+}
+
+// Appends this member of a service's reply after its name, if the reply has it.
+fn push_part(line: &mut String, value: &Value, name: &str) -> Result<(), Memory> {
+    if let Some(part) = value.get(name).and_then(Value::as_str) {
+        write!(line, ", {name} {part}")?;
+    }
+    Ok(())
 }
 
 // The name and the status in a service's reply; none if one is missing.

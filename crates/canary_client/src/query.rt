@@ -80,7 +80,7 @@ fn is_not_found(code: &str) -> bool
 ///
 /// # Errors
 /// What `answer` answers; `NoService` or `NoRun` if there is none; `Query` if the desk refused it
-/// for another reason; `Memory`.
+/// for another reason; `ReplyUnread` if the reply is no JSON; `Memory`.
 pub fn value_at<N: Network>(
     alloc: Global,
     network: &mut N,
@@ -90,15 +90,17 @@ pub fn value_at<N: Network>(
     ensures { GoesOn N.was_sent N.was_told N.was_unanswered network.old network.new IsQuery }
 {
     let response = answer(alloc, network, path, tries)?;
-    let value = match Value::from_str(alloc, response.body.as_str()) {
-        Ok(value) => value,
-        Err(fault) if fault.is_memory() => return Err(Stop::Memory),
-        Err(_) => return Err(Stop::Query),
-    };
-    if response.status == 200 {
-        return Ok(value);
+    value_of(alloc, &response)
+}
+
+// The value of a reply; or why the desk refused the query, if its status is not 200.
+fn value_of(alloc: Global, response: &Heard) -> Result<Value, Stop> {
+    match Value::from_str(alloc, response.body.as_str()) {
+        Ok(value) if response.status == 200 => Ok(value),
+        Ok(value) => Err(refusal(&value)),
+        Err(fault) if fault.is_memory() => Err(Stop::Memory),
+        Err(_) => Err(Stop::ReplyUnread),
     }
-    Err(refusal(&value))
 }
 
 // Why the desk refused a query.

@@ -1,4 +1,5 @@
 //! Reports of one measurement.
+ghost use Rattle.std.specs.Prelude.{◌≤◌, IfOk};
 ghost use Rattle.canary_client_journal.specs.Networks.{GoesOn};
 ghost use Rattle.canary_client.specs.Promises.{IsQuery};
 
@@ -6,6 +7,7 @@ use crate::outcome::Stop;
 use crate::query::value_at;
 use canary_base::lists::Text;
 use canary_base::names::{Label, Name};
+use canary_canonical::plain::MAX_ORDINAL;
 use canary_client_journal::network::Network;
 use serde_json::Value;
 use std::alloc::{AllocError, Global};
@@ -31,7 +33,7 @@ pub struct NewMeasurement {
 pub fn report_body(
     alloc: Global,
     measured: &NewMeasurement,
-    ordinal: u64,
+    ordinal: u32,
     taken: u64,
 ) -> Result<Text, AllocError> {
     let (metric, outcome) = (measured.metric.as_str(), measured.outcome.as_str());
@@ -49,30 +51,44 @@ pub fn report_body(
 ///
 /// # Errors
 /// `NoService`, `NoRun` and `NoMetric` if there is none; `NoDesk` if the desk did not answer,
-/// `Query` if it refused the query; `Memory`.
+/// `Query` if it refused the query, `ReplyUnread` if its reply cannot be read or no ordinal is left;
+/// `Memory`.
 pub fn next_ordinal<N: Network>(
     alloc: Global,
     network: &mut N,
     measured: &NewMeasurement,
     tries: u32,
-) -> Result<u64, Stop>
-    ensures { GoesOn N.was_sent N.was_told N.was_unanswered network.old network.new IsQuery }
+) -> Result<u32, Stop>
+    ensures within { IfOk result (λ ordinal. (1 ≤ ordinal) × (ordinal ≤ 1000000000)) }
+    ensures sends { GoesOn N.was_sent N.was_told N.was_unanswered
+        network.old network.new IsQuery }
 {
     let (service, run) = (measured.service.as_str(), measured.run);
     let path = format!(in alloc; "/services/{service}/runs/{run}")?;
     let found = value_at(alloc, network, path.as_str(), tries)?;
-    match measurements(&found, measured.metric.as_str()) {
-        Some(count) => Ok(count.saturating_add(1)),
-        None => Err(Stop::NoMetric),
-    }
+    ordinal_after(measurements(&found, measured.metric.as_str())?)
 }
 
-// How many measurements a run has of a metric.
-fn measurements(run: &Value, metric: &str) -> Option<u64> {
-    for found in run.get("metrics")?.as_array()?.iter() {
+// The ordinal that comes after so many measurements.
+fn ordinal_after(count: u64) -> Result<u32, Stop>
+    ensures { IfOk result (λ ordinal. (1 ≤ ordinal) × (ordinal ≤ 1000000000)) }
+{
+    if count >= MAX_ORDINAL as u64 {
+        return Err(Stop::ReplyUnread);
+    }
+    Ok(count as u32 + 1)
+}
+
+// How many measurements a run has of a metric; `NoMetric` if it has no such metric.
+fn measurements(run: &Value, metric: &str) -> Result<u64, Stop> {
+    let Some(metrics) = run.get("metrics").and_then(Value::as_array) else {
+        return Err(Stop::ReplyUnread);
+    };
+    for found in metrics.iter() {
         if found.get("name").and_then(Value::as_str) == Some(metric) {
-            return found.get("measurements").and_then(Value::as_u64);
+            let count = found.get("measurements").and_then(Value::as_u64);
+            return count.ok_or(Stop::ReplyUnread);
         }
     }
-    None
+    Err(Stop::NoMetric)
 }

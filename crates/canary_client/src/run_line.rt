@@ -15,18 +15,27 @@ pub fn run_line(alloc: Global, run: &Value) -> Result<Option<String>, AllocError
         return Ok(None);
     };
     let mut line = format!(in alloc; "run {number} of {service} ")?;
-    let measured: u64 = metrics.iter().fold(0, with_measurements);
-    if run.get("closed").and_then(Value::as_u64).is_none() {
-        line.push_str(format!(in alloc; "is open, with {measured} measurements")?.as_str())?;
-        return Ok(Some(line));
-    }
-    line.push_str(format!(in alloc; "ended {verdict}")?.as_str())?;
-    if measured == 0 {
-        line.push_str(" without a measurement: nobody looked at this version")?;
-        return Ok(Some(line));
-    }
-    push_reason(alloc, &mut line, verdict, metrics, measured)?;
+    let is_open = run.get("closed").and_then(Value::as_u64).is_none();
+    push_state(&mut line, is_open, verdict, metrics)?;
     Ok(Some(line))
+}
+
+// Appends whether a run is open, or how it ended and why.
+fn push_state(
+    line: &mut String,
+    is_open: bool,
+    verdict: &str,
+    metrics: &Vec<Value>,
+) -> Result<(), AllocError> {
+    let measured: u64 = metrics.iter().fold(0, with_measurements);
+    if is_open {
+        return write!(line, "is open, with {measured} measurements");
+    }
+    write!(line, "ended {verdict}")?;
+    if measured == 0 {
+        return line.push_str(" without a measurement: nobody looked at this version");
+    }
+    push_reason(line, verdict, metrics, measured)
 }
 
 // The service, the number and the verdict in a run's reply; none if one is missing.
@@ -49,7 +58,6 @@ fn count(metric: &Value, member: &str) -> u64 {
 
 // Appends which metric brought the verdict, or that all are well.
 fn push_reason(
-    alloc: Global,
     line: &mut String,
     verdict: &str,
     metrics: &Vec<Value>,
@@ -62,30 +70,29 @@ fn push_reason(
             .unwrap_or(false);
         let phase = metric.get("phase").and_then(Value::as_str);
         if verdict != "Successful" && !is_dry && phase == Some(verdict) {
-            return push_metric(alloc, line, verdict, metric);
+            return push_metric(line, verdict, metric);
         }
     }
-    line.push_str(format!(in alloc; ", by {measured} measurements")?.as_str())?;
-    Ok(())
+    write!(line, ", by {measured} measurements")
 }
 
 // Appends what of a metric brought the verdict.
-fn push_metric(
-    alloc: Global,
-    line: &mut String,
-    verdict: &str,
-    metric: &Value,
-) -> Result<(), AllocError> {
+fn push_metric(line: &mut String, verdict: &str, metric: &Value) -> Result<(), AllocError> {
     let name = Shown::or_whole(metric.get("name").and_then(Value::as_str).unwrap_or("")).name;
     let (taken, bad) = (count(metric, "measurements"), bad(verdict, metric));
-    let reason = match verdict {
-        "Failed" => format!(in alloc; ": of {name} {bad} of {taken} measurements failed")?,
+    match verdict {
+        "Failed" => write!(line, ": of {name} {bad} of {taken} measurements failed"),
         "Inconclusive" => {
-            format!(in alloc; ": of {name} {bad} of {taken} measurements are inconclusive")?
+            write!(
+                line,
+                ": of {name} {bad} of {taken} measurements are inconclusive"
+            )
         }
-        _ => format!(in alloc; ": of {name} the last {bad} of {taken} measurements are errors")?,
-    };
-    line.push_str(reason.as_str())
+        _ => write!(
+            line,
+            ": of {name} the last {bad} of {taken} measurements are errors"
+        ),
+    }
 }
 
 // How many measurements of a metric are of the kind that brings this verdict.

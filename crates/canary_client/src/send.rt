@@ -152,13 +152,7 @@ fn send_file<N: Network, R: Read, W: Write>(
     };
     let mut reader = reader_of(alloc, bounded);
     let mut fields = ByteRecord::new(alloc);
-    if !has_next(&mut reader, &mut fields)? {
-        return Ok(());
-    }
-    if !is_header(&fields) {
-        return Err(Stop::Header);
-    }
-    send_rows(
+    send_records(
         alloc,
         network,
         &mut reader,
@@ -167,6 +161,25 @@ fn send_file<N: Network, R: Read, W: Write>(
         output,
         counts,
     )
+}
+
+// Checks the header, if there is a record, and sends the rows behind it.
+fn send_records<N: Network, S: Read + Limited, W: Write>(
+    alloc: Global,
+    network: &mut N,
+    reader: &mut Reader<S>,
+    fields: &mut ByteRecord,
+    tries: u32,
+    output: &mut W,
+    counts: &mut RowCounts,
+) -> Result<(), Stop> {
+    if !has_next(reader, fields)? {
+        return Ok(());
+    }
+    if !is_header(fields) {
+        return Err(Stop::Header);
+    }
+    send_rows(alloc, network, reader, fields, tries, output, counts)
 }
 
 // A reader of records, the header among them, of any number of fields.
@@ -227,15 +240,7 @@ fn send_row<N: Network, W: Write>(
         Ok(row) => {
             let message = message_of(alloc, row)?;
             let response = answered(alloc, network, message.as_str(), tries)?;
-            show_line(
-                alloc,
-                number,
-                response.status,
-                response.body.as_str(),
-                output,
-            )?;
-            agreed(alloc, &response)?;
-            end_of(alloc, &response)
+            show_end(alloc, number, &response, output)
         }
         Err(CsvFault::Refused(refusal)) => {
             show_line(alloc, number, 400, body_of(refusal), output)?;
@@ -243,6 +248,24 @@ fn send_row<N: Network, W: Write>(
         }
         Err(CsvFault::Memory) => Err(Stop::Memory),
     }
+}
+
+// Shows the line of a row with this reply, and answers what came of it.
+fn show_end<W: Write>(
+    alloc: Global,
+    number: u64,
+    response: &Heard,
+    output: &mut W,
+) -> Result<RowEnd, Stop> {
+    show_line(
+        alloc,
+        number,
+        response.status,
+        response.body.as_str(),
+        output,
+    )?;
+    agreed(alloc, response)?;
+    end_of(alloc, response)
 }
 
 // What came of a row that was settled with this reply.

@@ -10,16 +10,6 @@ use jiff::Timestamp;
 use serde_json::Value;
 use std::alloc::{AllocError, Global};
 
-/// The words that `--until` takes.
-pub const WORDS: [&str; 6] = [
-    "Healthy",
-    "Degraded",
-    "Paused",
-    "Progressing",
-    "Held",
-    "Waiting",
-];
-
 // The seconds of a day.
 const DAY: u64 = 86_400;
 
@@ -164,6 +154,29 @@ fn by_event(moment: u64, event: LineEvent) -> StandingReason
     }
 }
 
+/// Whether a word is one of those that `--until` takes.
+pub fn is_word(word: &str) -> bool {
+    static WORDS: [&str; 6] = [
+        "Healthy",
+        "Degraded",
+        "Paused",
+        "Progressing",
+        "Held",
+        "Waiting",
+    ];
+    is_one_of(word, &WORDS)
+}
+
+// Whether a word is one of these.
+fn is_one_of(word: &str, words: &[&str]) -> bool {
+    for known in words {
+        if word == *known {
+            return true;
+        }
+    }
+    false
+}
+
 /// How a service stands: its status, its step, and why.
 #[derive(Clone, Copy, Debug, PartialEq, Eq)]
 pub struct Standing {
@@ -249,31 +262,40 @@ fn moment_text(alloc: Global, seconds: u64, now: u64) -> Result<String, AllocErr
 /// What of a service's reply says how it stands: its status, step and hold.
 ///
 /// # Errors
-/// `Query` if it is no such reply.
+/// `ReplyUnread` if it is no such reply.
 pub fn parts_of(service: &Value) -> Result<(ServiceStatus, u64, Hold), Stop> {
     let status = service.get("status").and_then(Value::as_str);
     let step = service.get("step").and_then(Value::as_u64);
     let hold = service.get("hold").and_then(Value::as_str);
     let (Some(status), Some(step), Some(hold)) = (status, step, hold) else {
-        return Err(Stop::Query);
+        return Err(Stop::ReplyUnread);
     };
     match (ServiceStatus::read(status), Hold::read(hold)) {
         (Some(status), Some(hold)) => Ok((status, step, hold)),
-        _ => Err(Stop::Query),
+        _ => Err(Stop::ReplyUnread),
     }
 }
 
-/// The last line of a history's reply that says where the service stands, if there is one.
-pub fn last_line(history: &Value) -> Option<Line> {
-    let lines = history.get("lines")?.as_array()?;
+/// The last line of a history's reply that says where the service stands, if there is one. A line
+/// that says something else, as one of a later version may, is ignored.
+///
+/// # Errors
+/// `ReplyUnread` if it is no such reply.
+pub fn last_line(history: &Value) -> Result<Option<Line>, Stop> {
+    let Some(lines) = history.get("lines").and_then(Value::as_array) else {
+        return Err(Stop::ReplyUnread);
+    };
     let mut found = None;
     for line in lines.iter() {
-        let standing = line.as_str().and_then(standing_line);
+        let Some(line) = line.as_str() else {
+            return Err(Stop::ReplyUnread);
+        };
+        let standing = standing_line(line);
         if standing.is_some() {
             found = standing;
         }
     }
-    found
+    Ok(found)
 }
 
 // The line of this text, if it says where a service stands.
@@ -315,17 +337,19 @@ fn moment_of(text: &str) -> Option<Moment> {
 /// Whether a line is of the step at which a service stands: two queries may come before and after a
 /// step was entered.
 pub fn is_of_step(line: &Line, step: u64) -> bool {
-    match line.event {
-        LineEvent::WeightEntered {
-            step: of,
-            weight: _,
-        } => of as u64 == step,
-        LineEvent::PauseEntered { step: of } => of as u64 == step,
-        LineEvent::TimedPauseEntered {
-            step: of,
-            seconds: _,
-        } => of as u64 == step,
-        LineEvent::AnalysisEntered { step: of, run: _ } => of as u64 == step,
-        _ => true,
+    match step_of(&line.event) {
+        Some(of) => of as u64 == step,
+        None => true,
+    }
+}
+
+// The step that an event enters, if it enters one.
+fn step_of(event: &LineEvent) -> Option<u32> {
+    match event {
+        LineEvent::WeightEntered { step, weight: _ } => Some(*step),
+        LineEvent::PauseEntered { step } => Some(*step),
+        LineEvent::TimedPauseEntered { step, seconds: _ } => Some(*step),
+        LineEvent::AnalysisEntered { step, run: _ } => Some(*step),
+        _ => None,
     }
 }

@@ -115,17 +115,23 @@ impl<'a> Exchange<'a> {
         }
     }
 
-    // Reads until a whole reply is there. Its head is read once, and then its body, of which no
-    // more is held than it is long.
+    // Reads a whole reply.
     fn hear(&mut self, alloc: Global) -> Result<Heard, RetryReason> {
         let mut held = Vec::new(alloc);
-        let head = self.hear_head(alloc, &mut held)?;
+        let status = self.hear_whole(alloc, &mut held)?;
+        response(status, held)
+    }
+
+    // Reads until a whole reply is there, leaves its body, and answers its status. Its head is read
+    // once, and then its body, of which no more is held than it is long.
+    fn hear_whole(&mut self, alloc: Global, held: &mut Vec<u8>) -> Result<u16, RetryReason> {
+        let head = self.hear_head(alloc, held)?;
         for _ in 0..u64::MAX {
             if held.len() >= head.length {
                 held.truncate(head.length);
-                return response(head.status, held);
+                return Ok(head.status);
             }
-            self.read_more(&mut held)?;
+            self.read_more(held)?;
         }
         Err(RetryReason::Lost)
     }

@@ -4,7 +4,7 @@ use crate::endpoint::{endpoint_of, service_of, waiting};
 use crate::outcome::{ClientExit, Stop, say, show, tell};
 use crate::plain::{json_of, line_of};
 use crate::query::value_at;
-use crate::standing::{Hold, Standing, StandingReason, WORDS, is_of_step, last_line, parts_of};
+use crate::standing::{Hold, Standing, StandingReason, is_of_step, is_word, last_line, parts_of};
 use crate::tcp::Tcp;
 use canary_base::lists::Text;
 use canary_cli_words::words::AskedDesk;
@@ -126,20 +126,15 @@ fn until_of(manner: &WatchOptions) -> Result<&str, Stop> {
     }
 }
 
-// Whether a word is one of `WORDS`.
-fn is_word(word: &str) -> bool {
-    WORDS.iter().any(|known| *known == word)
-}
-
-// What was found, or nothing if a call without end goes on although no desk answered, or has no
-// such service; `errors` has the sentence that says so.
+// What was found, or nothing if a call without end goes on although no desk answered, it has no
+// such service, or its reply cannot be read; `errors` has the sentence that says so.
 fn went_on<F: Write>(
     looked: Result<Option<Standing>, Stop>,
     is_forever: bool,
     errors: &mut F,
 ) -> Result<Option<Standing>, Stop> {
     match looked {
-        Err(Stop::NoDesk | Stop::NoService | Stop::Query) if is_forever => {
+        Err(Stop::NoDesk | Stop::NoService | Stop::Query | Stop::ReplyUnread) if is_forever => {
             if let Err(stop) = looked {
                 say(errors, stop.sentence());
             }
@@ -188,23 +183,48 @@ impl LastShown {
         tries: u32,
         output: &mut W,
     ) -> Result<Option<Standing>, Stop> {
-        let service = value_at(alloc, network, path, tries)?;
+        let mut service = value_at(alloc, network, path, tries)?;
         let key = key_of(alloc, &service)?;
         if key.as_str() == self.key.as_str() {
             return Ok(self.standing);
         }
-        let Some(standing) = standing_of(alloc, network, path, tries, &service)? else {
-            return Ok(None);
-        };
-        if self.is_json {
-            show(output, value_of(alloc, service, &standing)?.as_str())?;
-        } else {
-            show(output, text_of(alloc, &service, &standing)?.as_str())?;
+        let shown = show_new(
+            alloc,
+            network,
+            path,
+            tries,
+            &mut service,
+            self.is_json,
+            output,
+        )?;
+        if shown.is_some() {
+            self.key = key;
+            self.standing = shown;
         }
-        self.key = key;
-        self.standing = Some(standing);
-        Ok(self.standing)
+        Ok(shown)
     }
+}
+
+// Shows the line of a service that stands otherwise than before; none if it changed meanwhile.
+fn show_new<N: Network, W: Write>(
+    alloc: Global,
+    network: &mut N,
+    path: &str,
+    tries: u32,
+    service: &mut Value,
+    is_json: bool,
+    output: &mut W,
+) -> Result<Option<Standing>, Stop> {
+    let Some(standing) = standing_of(alloc, network, path, tries, service)? else {
+        return Ok(None);
+    };
+    if is_json {
+        add_why(alloc, service, &standing)?;
+        show(output, json_line(alloc, service)?.as_str())?;
+    } else {
+        show(output, text_of(alloc, service, &standing)?.as_str())?;
+    }
+    Ok(Some(standing))
 }
 
 // What tells how a service stands from how it stood: all but the moment.
@@ -222,7 +242,7 @@ fn plain(alloc: Global, service: &Value) -> Result<String, Stop> {
     let text = service.to_string(alloc)?;
     match line_of(alloc, text.as_str())? {
         Some(line) => Ok(line),
-        None => Err(Stop::Query),
+        None => Err(Stop::ReplyUnread),
     }
 }
 
@@ -239,7 +259,7 @@ fn standing_of<N: Network>(
     let mut last = None;
     if hold == Hold::None {
         let path = format!(in alloc; "{path}/history")?;
-        last = last_line(&value_at(alloc, network, path.as_str(), tries)?);
+        last = last_line(&value_at(alloc, network, path.as_str(), tries)?)?;
     }
     if let Some(line) = &last
         && !is_of_step(line, step)
@@ -258,19 +278,22 @@ fn text_of(alloc: Global, service: &Value, standing: &Standing) -> Result<String
     Ok(line)
 }
 
-// The JSON value of a service: the desk's reply, with why it stands so, the run of its analysis or
-// of its abort, and when its pause ends, in seconds since 1970-01-01T00:00:00Z.
-fn value_of(alloc: Global, service: Value, standing: &Standing) -> Result<String, Stop> {
-    let mut service = service;
+// Adds to a desk's reply why the service stands so, the run of its analysis or of its abort, and when
+// its pause ends, in seconds since 1970-01-01T00:00:00Z.
+fn add_why(alloc: Global, service: &mut Value, standing: &Standing) -> Result<(), Stop> {
     let (word, run, until) = members_of(standing.why);
-    let word = Value::try_from_str(alloc, word)?;
     let Some(members) = service.as_object_mut() else {
-        return Err(Stop::Query);
+        return Err(Stop::ReplyUnread);
     };
-    put(alloc, members, "why", word)?;
+    put(alloc, members, "why", Value::try_from_str(alloc, word)?)?;
     put(alloc, members, "run", number_or_null(run))?;
     put(alloc, members, "until", number_or_null(until))?;
-    let text = service.to_string(alloc)?;
+    Ok(())
+}
+
+// A value of JSON as one line, with its marks escaped.
+fn json_line(alloc: Global, value: &Value) -> Result<String, Stop> {
+    let text = value.to_string(alloc)?;
     Ok(json_of(alloc, text.as_str())?)
 }
 

@@ -117,14 +117,19 @@ fn name_of(word: &Option<Text>) -> Result<Name, Stop> {
     }
 }
 
+// The version that a word spells; `NoVersion` if the word is missing.
+fn version_of(word: &Option<Text>) -> Result<Label, Stop> {
+    match word {
+        Some(word) => label_of(word),
+        None => Err(Stop::NoVersion),
+    }
+}
+
 /// The version that a word spells.
 ///
 /// # Errors
-/// `NoVersion`, `BadVersion`.
-pub(crate) fn version_of(word: &Option<Text>) -> Result<Label, Stop> {
-    let Some(word) = word else {
-        return Err(Stop::NoVersion);
-    };
+/// `BadVersion`.
+pub(crate) fn label_of(word: &Text) -> Result<Label, Stop> {
     match Label::read(word.as_str().as_bytes()) {
         Some(version) => Ok(version),
         None => Err(Stop::BadVersion),
@@ -270,9 +275,14 @@ fn report(alloc: Global, words: &AskedCommand) -> Result<Asking, Stop> {
         metric,
         outcome: outcome_of(alloc, words)?,
     };
-    is_taken(alloc, &measured, words.failure.is_some())?;
-    let intent = intent_of(alloc, &measured)?;
+    let intent = taken_intent(alloc, &measured, words.failure.is_some())?;
     Ok(Asking::Report { intent, measured })
+}
+
+// What a report means, if the desk reads one with this outcome.
+fn taken_intent(alloc: Global, measured: &NewMeasurement, is_failure: bool) -> Result<Text, Stop> {
+    is_taken(alloc, measured, is_failure)?;
+    intent_of(alloc, measured)
 }
 
 // The number of the run that a word spells; none if the word is missing or spells none.
@@ -320,11 +330,21 @@ fn failure_of(alloc: Global, text: &str) -> Result<Text, Stop> {
 // A report with this outcome has to be one that the desk reads, whatever its ordinal.
 fn is_taken(alloc: Global, measured: &NewMeasurement, is_failure: bool) -> Result<(), Stop> {
     let body = report_body(alloc, measured, 1, 0)?;
-    match command_from_json(alloc, body.as_str().as_bytes()) {
-        Ok(command) if has_one_entry(&command) => Ok(()),
+    if is_read(alloc, body.as_str())? {
+        Ok(())
+    } else if is_failure {
+        Err(Stop::Failure)
+    } else {
+        Err(Stop::Result)
+    }
+}
+
+// Whether the desk reads this body as a report of exactly one measurement.
+fn is_read(alloc: Global, body: &str) -> Result<bool, Stop> {
+    match command_from_json(alloc, body.as_bytes()) {
+        Ok(command) => Ok(has_one_entry(&command)),
         Err(WireFault::Memory) => Err(Stop::Memory),
-        _ if is_failure => Err(Stop::Failure),
-        _ => Err(Stop::Result),
+        Err(_) => Ok(false),
     }
 }
 

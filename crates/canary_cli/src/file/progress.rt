@@ -4,6 +4,7 @@ ghost use Rattle.std.specs.Prelude.{◌≡◌, false};
 use crate::file::pause::Pause;
 use canary_listen::unblocked::Unblocked;
 use canary_page::progress as drawing;
+use canary_page_html::shown::{TextKind, shown};
 use canary_tables_adopt::progress as judging;
 use std::alloc::{AllocError, Global};
 use std::io::{self, Read, Write};
@@ -285,14 +286,18 @@ impl<R: Read, F: Write> Read for Counted<'_, R, F> {
     }
 }
 
-/// Says on a terminal that the file of this name was made. Nothing is written where it is no
-/// terminal. A fault of the terminal, and memory that is refused for the line, are ignored.
+/// Says on a terminal that the file of this name was made. Characters of the name that would
+/// command it are escaped. Nothing is written where it is no terminal. A fault of the terminal, and
+/// memory that is refused for the line, are ignored.
 pub fn tell_made<F: Write>(alloc: Global, file: &str, errors: &mut F, is_terminal: bool)
     ensures { is_terminal ≡ false → errors.new ≡ errors.old }
 {
     if !is_terminal {
         return;
     }
+    let Ok(file) = shown(alloc, file, TextKind::Line) else {
+        return;
+    };
     if let Ok(line) = format!(in alloc; "canary: made {file}, since there was no such file\n") {
         let _ = errors.write_all(line.as_bytes());
         let _ = errors.flush();
