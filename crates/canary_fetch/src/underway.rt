@@ -127,10 +127,10 @@ impl Underway {
     pub(crate) fn hindrance(&self) -> Option<LocalFault>
         ensures { IfSome result (λ fault. self.now.hindrance ≡ Some fault) }
     {
-        if self.queue.is_empty() {
-            return None;
+        match self.hindrance {
+            Some(fault) if !self.queue.is_empty() => Some(fault),
+            _ => None,
         }
-        self.hindrance
     }
 
     // How long is waited at most: until the first message is late that came to nothing yet, or a
@@ -267,7 +267,8 @@ impl Underway {
             let Some(token) = self.late(from) else {
                 return;
             };
-            self.settle(token, Err(self.late_fault(token)));
+            let fault = self.late_fault(token);
+            self.settle(token, Err(fault));
             from = token;
         }
     }
