@@ -125,7 +125,7 @@ impl Underway {
     // Why messages wait for a connection, if the last one could not be begun by a fault of this
     // machine.
     pub(crate) fn hindrance(&self) -> Option<LocalFault>
-        ensures { IfSome result (λ fault. self.now.hindrance ≡ Some fault) }
+        ensures { IfSome result (λ fault. self.entry.now.hindrance ≡ Some fault) }
     {
         match self.hindrance {
             Some(fault) if !self.queue.is_empty() => Some(fault),
@@ -275,7 +275,7 @@ impl Underway {
 
     // The fault of a message whose time is over.
     fn late_fault(&self, token: usize) -> ExchangeFault
-        ensures { result ≡ late_fault (is_begun self.now token) self.now.hindrance }
+        ensures { result ≡ late_fault (is_begun self.entry.now token) self.entry.now.hindrance }
     {
         if self.flights.contains_key(&token) {
             return ExchangeFault::Timeout;
