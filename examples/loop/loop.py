@@ -176,6 +176,7 @@ class Loop:
     def weights(self):
         """The weights that HAProxy has."""
         with socket.socket(socket.AF_UNIX) as haproxy:
+            haproxy.settimeout(5)
             haproxy.connect(str(self.folder / "socket"))
             haproxy.sendall(b"show stat\n")
             text = b"".join(iter(lambda: haproxy.recv(65536), b"")).decode()

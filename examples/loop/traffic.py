@@ -20,7 +20,7 @@ def send():
         with contextlib.closing(http.client.HTTPConnection("127.0.0.1", PORT, timeout=10)) as one:
             one.request("GET", "/")
             reply = one.getresponse()
-            status, body = reply.status, reply.read().decode()
+            status, body = reply.status, reply.read(1000).decode(errors="replace")
     except (OSError, http.client.HTTPException):
         status, body = "none", ""
     with lock:

@@ -1,4 +1,5 @@
 """What follow-haproxy, follow-nginx and notify share: how a service stands, by `canary watch`."""
+import contextlib
 import json
 import os
 import re
@@ -9,6 +10,8 @@ import time
 # `canary watch` ends with this program, however that ends.
 WATCH = ["setpriv", "--pdeathsig", "TERM", "canary", "watch", "--forever", "--json", "--"]
 VERSION = re.compile("[A-Za-z0-9._-]{1,63}")
+# The most bytes of a line: one of `canary watch` has some hundred.
+MAX_LINE = 200_000
 
 
 def stand_of(line):
@@ -29,6 +32,12 @@ def shares_of(line):
     return stable, {version: weight, stable: 100 if version == stable else 100 - weight}
 
 
+def say(text):
+    """Says it on standard error, if that is open and somebody reads it."""
+    with contextlib.suppress(OSError, ValueError):
+        print(text, file=sys.stderr, flush=True)
+
+
 def follow(service, act, read=shares_of):
     """Calls `act` with what `read` makes of the last line, each second from the first line on, and
     says what it answers, if it answers something else than before. While no desk answers, that is
@@ -38,17 +47,19 @@ def follow(service, act, read=shares_of):
     stand, said, rest = None, None, b""
     while (piece := watch.stdout.read()) != b"":
         *lines, rest = (rest + (piece or b"")).split(b"\n")
+        if len(rest) > MAX_LINE:
+            lines, rest = [*lines, rest[:MAX_LINE]], b""
         for line in lines:
             try:
                 stand = read(line)
             except (ValueError, KeyError, TypeError, RecursionError):
-                print(f"no line of canary watch: {line[:200]!r}", file=sys.stderr, flush=True)
+                say(f"no line of canary watch: {line[:200]!r}")
         try:
             told = stand and act(*stand)
         except (OSError, ValueError, subprocess.SubprocessError) as error:
             told = f"{type(error).__name__}: {error}"
         if told and told != said:
-            print(told, file=sys.stderr, flush=True)
+            say(told)
         said = told
         time.sleep(1)
     sys.exit("canary watch has ended")

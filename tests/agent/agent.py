@@ -13,6 +13,7 @@ import crowd
 import edges
 import edits
 import lines
+import machine
 import real
 import replies
 import runs
@@ -22,7 +23,8 @@ import web
 from world import World, Wrong, running
 
 # The parts that are left out without these tools.
-PARTS_WITH = {"prometheus": ("try_releases", "try_kills"), "strace": ("try_health_race",)}
+PARTS_WITH = {"prometheus": ("try_releases", "try_kills"), "strace": ("try_health_race",),
+              "cc": ("try_hindered", "try_unresolved", "try_hindered_once")}
 # The most seconds of a part, and five times as many with --all.
 LONGEST = 180
 # How many parts run beside one another: they wait more than they compute.
@@ -40,7 +42,7 @@ CONTEXT = multiprocessing.get_context("fork")
 # The parts that run, by their names.
 parts = {}
 # The long ones first.
-PARTS = parts_of(silence, real, crowd, replies, edits, lines, runs, web, edges, streams)
+PARTS = parts_of(silence, real, crowd, replies, edits, lines, runs, web, edges, streams, machine)
 
 
 def give_up(*_):

@@ -201,13 +201,14 @@ def agent_words(desk, *files, journals="journals", options=(), port=None):
 class Agent:
     """An agent that runs; what it says is in files."""
 
-    def __init__(self, desk, *files, name="agent", front=(), stdin=subprocess.DEVNULL, **more):
+    def __init__(self, desk, *files, name="agent", front=(), stdin=subprocess.DEVNULL,
+                 variables=None, **more):
         self.desk, self.stopped = desk, False
         self.output, self.said = (desk.folder / f"{name}.{end}" for end in ("output", "errors"))
         words = [*front, desk.world.program, *agent_words(desk, *files, **more)]
         with open(self.output, "ab") as output, open(self.said, "ab") as errors:
-            self.process = subprocess.Popen(words, cwd=desk.folder, env=environment(), stdin=stdin,
-                                            stdout=output, stderr=errors)
+            self.process = subprocess.Popen(words, cwd=desk.folder, stdin=stdin, stdout=output,
+                                            stderr=errors, env=environment(**(variables or {})))
         running.add(self.process)
 
     def signal(self, number):

@@ -4,9 +4,11 @@ import contextlib
 import http.client
 import json
 import os
+import resource
 import signal
 import stat
 import subprocess
+import sys
 import time
 
 from agents import (
@@ -384,6 +386,35 @@ def want_dry(server, output):
         raise Wrong("a moment that is far")
     expect("what is reported", reports, {"metric": "m.e6", "ordinal": 1, "result": 250000, "run": 1,
                                          "service": "web"})
+
+
+# Begins a program to which a write past a limit on files is an error, and no signal.
+UNSIGNALLED = ("import os, signal, sys; signal.signal(signal.SIGXFSZ, signal.SIG_IGN);"
+               " os.execv(sys.argv[1], sys.argv[1:])")
+
+
+@measuring
+def try_full_disk(world, server):
+    """A journal for which there is no more room: it is said once, the pause before the next try
+    grows, and all goes on once there is room."""
+    with desk_for(world, "full-disk", *services(server.port, "web")) as desk, \
+            agent_of(desk, front=(sys.executable, "-c", UNSIGNALLED)) as agent:
+        wait_measured(desk, 3)
+        journal = desk.folder / "journals" / "agent-web"
+        before = resource.prlimit(agent.process.pid, resource.RLIMIT_FSIZE)
+        resource.prlimit(agent.process.pid, resource.RLIMIT_FSIZE,
+                         (journal.stat().st_size + 40, before[1]))
+        agent.wait_said("web: ")
+        asked = len(server.asked)
+        time.sleep(12)
+        expect(f"said once: {agent.errors()}", agent.errors().count("web: "), 1)
+        if len(server.asked) > asked + 6:
+            raise Wrong(f"{len(server.asked) - asked} messages in 12 seconds")
+        count = count_measured(desk)["m.e6"]
+        resource.prlimit(agent.process.pid, resource.RLIMIT_FSIZE, before)
+        wait_measured(desk, count + 3, seconds=40)
+        want_once("full disk", measured(desk))
+        want_reported("full disk", desk, measured(desk))
 
 
 @measuring

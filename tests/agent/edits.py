@@ -9,7 +9,7 @@ from agents import (
     agent_of, begin, beside, desk_for, listed, measured, measured_beside, metric, of_web,
     provider, release, reply, run_agent, template, wait_measured, wait_until, want_once)
 from replies import want_plain
-from world import Wrong, expect
+from world import WORDS, Wrong, expect
 
 SIX, SEVEN = "result < 0.5", "result < 0.500001"
 
@@ -189,6 +189,52 @@ def plant(path, row):
         path.chmod(0)
     else:
         path.symlink_to("none" if row == "nowhere" else path)
+
+
+def try_names(world):
+    """A file of manifests whose name is not UTF-8: at the beginning its line and status 2; once the
+    agent runs, the line comes once, and what was measured goes on."""
+    made = [template_of(1, names=("p",)), measured_beside("web", "of")]
+    with provider(lambda *_: reply("0.25")) as server:
+        made[0] = template_of(server.port, names=("p",))
+        with desk_for(world, "names", *made) as desk:
+            folder = desk.folder / "manifests"
+            folder.mkdir()
+            (folder / "a.json").symlink_to(desk.folder / "manifests.json")
+            other, strange = (os.fsencode(folder) + name
+                              for name in (b"/\xff.txt", b"/b\xff\x1b\xc3\xa9.yaml"))
+            with open(other, "wb"), agent_of(desk, "manifests") as agent:
+                wait_more(desk, "p.e6", 1)
+                expect("another ending", agent.errors(), "")
+                with open(strange, "wb"):
+                    wait_more(desk, "p.e6", 4)
+                line = "manifests/b\\xff\\x1b\\xc3\\xa9.yaml: the name of this file is not UTF-8"
+                expect("said", agent.errors().count(line), 1)
+                want_plain("names", agent.errors(), "\n")
+                ended = run_agent(desk, "manifests", options=("--once",), journals="other")
+                expect(f"from the beginning: {ended.errors}", (ended.status, line in ended.errors),
+                       (WORDS, True))
+                os.unlink(strange)
+                wait_more(desk, "p.e6", 3)
+                expect("said once", agent.errors().count("UTF-8"), 1)
+
+
+def try_fifo_instead(world):
+    """A FIFO takes the name of a file that is measured by: the agent opens it for nobody, says so
+    once, and goes on; as the file is back, it counts again."""
+    with provider(lambda *_: reply("0.25")) as server:
+        web = measured_beside("web", "of")
+        with desk_for(world, "fifo-instead", template_of(server.port, names=("p",)), web) as desk, \
+                agent_of(desk) as agent:
+            wait_more(desk, "p.e6", 1)
+            os.mkfifo(desk.folder / "fifo")
+            os.replace(desk.folder / "fifo", desk.folder / "manifests.json")
+            wait_more(desk, "p.e6", 5)
+            expect("said", agent.errors().count("no regular one any more"), 1)
+            put(desk, listed(template_of(server.port, path="new", names=("p",)), web))
+            wait_until("the file counts again", lambda: "/new" in server.targets(), 8)
+            wait_more(desk, "p.e6", 2)
+            want_once("fifo instead", measured(desk))
 
 
 def try_replaced(world):

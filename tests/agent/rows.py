@@ -2,6 +2,7 @@
 text of the failure goes. The words are of docs/ARGO.md, RFC 9112, RFC 8259 and the HTTP API of
 Prometheus; what these leave open may be either."""
 import collections
+import gzip
 import json
 import re
 import socket
@@ -61,6 +62,15 @@ def endless(begin, piece):
         while True:
             client.sendall(piece)
             time.sleep(.001)
+    return answer
+
+
+def half_closed(data):
+    """Sends this and no more, and goes on to hear."""
+    def answer(client):
+        client.sendall(data)
+        client.shutdown(socket.SHUT_WR)
+        client.recv(1)
     return answer
 
 
@@ -126,6 +136,30 @@ FRAMES = [
     web("chunk-below-0", HEAD + b"Transfer-Encoding: chunked\r\n\r\n-4\r\n0.25", says=NO_HTTP),
     web("gzip-chunks", HEAD + b"Transfer-Encoding: gzip, chunked\r\n\r\n4\r\n0.25\r\n0\r\n\r\n",
         says=NO_HTTP),
+    web("gzip-body", reply(gzip.compress(GOOD), "200 OK", "Content-Encoding: gzip"),
+        says="JSON|compressed"),
+    web("chunked-twice", HEAD + b"Transfer-Encoding: chunked, chunked\r\n\r\n4\r\n0.25\r\n0\r\n"
+        b"\r\n", says=NO_HTTP),
+    web("chunked-not-last", HEAD + b"Transfer-Encoding: chunked, gzip\r\n\r\n4\r\n0.25\r\n0\r\n"
+        b"\r\n", says=f"{NO_HTTP}|JSON"),
+    web("identity", HEAD + b"Transfer-Encoding: identity\r\n\r\n0.25", "250000", says=NO_HTTP),
+    web("chunk-by-lf", HEAD + b"Transfer-Encoding: chunked\r\n\r\n4\n0.25\n0\n\n", "250000",
+        says=f"{NO_HTTP}|{CUT}"),
+    web("chunk-too-long", HEAD + b"Transfer-Encoding: chunked\r\n\r\n4\r\n0.2500\r\n0\r\n\r\n",
+        says=NO_HTTP),
+    web("no-colon", HEAD + b"Content-Length 4\r\n\r\n0.25", says=NO_HTTP),
+    web("space-before-colon", HEAD + b"Content-Length : 4\r\n\r\n0.25", says=NO_HTTP),
+    web("length-of-0", HEAD + b"Content-Length: 0\r\n\r\n", says="JSON"),
+    web("lengths-in-a-list", lengths(b"4, 4"), "250000", says=NO_HTTP),
+    web("stays-open", silent(reply(GOOD)), "250000"),
+    web("stays-open-chunks", silent(chunked(GOOD)), "250000"),
+    web("half-closed", half_closed(reply(GOOD)), "250000"),
+    web("half-closed-within", half_closed(HEAD + b"Content-Length: 9\r\n\r\n0.25"), says=CUT),
+    web("trailers-of-the-head", chunked(GOOD, behind=b"0\r\nContent-Length: 1\r\nTransfer-Encoding:"
+                                        b" gzip\r\nHTTP/1.1 500 No\r\n\r\n"), "250000",
+        says=NO_HTTP),
+    web("endless-trailers", endless(chunked(GOOD, behind=b"0\r\n"), b"A: " + b"b" * 60 + b"\r\n"),
+        says=f"{LONG}|{NO_HTTP}"),
     web("continue", b"HTTP/1.1 100 Continue\r\n\r\n" + reply(GOOD), "250000"),
     web("early-hints", b"HTTP/1.1 100 Continue\r\n\r\nHTTP/1.1 103 Early\r\nA: b\r\n\r\n"
         + reply(GOOD), "250000"),
@@ -159,6 +193,16 @@ FRAMES = [
 
 STATUSES = [
     web("204", b"HTTP/1.1 204 No Content\r\n\r\n", says=ANY),
+    web("204-and-a-body", b"HTTP/1.1 204 No Content\r\nContent-Length: 4\r\n\r\n0.25", says=ANY),
+    web("205", reply("", "205 Reset Content"), says="JSON"),
+    web("206", reply(GOOD, "206 Partial Content", "Content-Range: bytes 0-3/9"), "250000"),
+    web("307", reply("", "307 Temporary", "Location: /307"), says="307"),
+    web("308", reply(GOOD, "308 Permanent", "Location: //other.example/"), says="308"),
+    web("a-status-of-escapes", b"HTTP/1.1 500 \x1b[31mred\r\nContent-Length: 0\r\n\r\n",
+        says=f"500|{NO_HTTP}"),
+    web("a-status-of-2-digits", b"HTTP/1.1 20 OK\r\nContent-Length: 4\r\n\r\n0.25", says=NO_HTTP),
+    web("a-status-of-4-digits", b"HTTP/1.1 2000 OK\r\nContent-Length: 4\r\n\r\n0.25",
+        says=NO_HTTP),
     web("301", reply("", "301 Moved", "Location: http://127.0.0.1:1/"), says="301"),
     web("302", reply(GOOD, "302 Found", "Location: /whole"), says="302"),
     web("304", b"HTTP/1.1 304 Not Modified\r\nContent-Length: 7\r\n\r\n", says="304"),
@@ -223,6 +267,15 @@ VALUES = [
     raw("list", "[0.25, 0.5, 0.75]", "250000", condition=FIRST),
     raw("list-of-two", "[0.25, 2e0, 0.75]", "[250000;2000000]",
         condition="result[0] < 0.5 && result[1] > 0.5"),
+    raw("empty-list", "[]", says=ANY, condition=FIRST),
+    raw("list-of-nothing", "[null]", says=ANY, condition=FIRST),
+    raw("list-and-a-text", '[0.25, "0.5"]', says="text", condition=FIRST),
+    raw("list-of-lists", "[[0.25]]", says="list", condition=FIRST),
+    raw("long-list", json.dumps([0.25] * 100_000), "250000", condition=FIRST),
+    raw("a-path-through-null", '{"value": null}', says=ANY, jsonPath="{$.value.of}"),
+    raw("a-path-through-a-text", '{"value": "0.25"}', says="jsonPath", jsonPath="{$.value.of}"),
+    raw("a-path-to-null", '{"value": null}', says=ANY, jsonPath="{$.value}"),
+    raw("an-index-of-an-object", '{"0": 0.25}', says="jsonPath", jsonPath="{$[0]}"),
     raw("member", '{"a": [1, {"b": 0.25}]}', "250000", jsonPath="{$.a[1].b}"),
     raw("member-twice", '{"value": 0.5, "value": 0.25}', "250000", jsonPath="{$.value}"),
     raw("no-member", '{"values": 0.25}', says="jsonPath", jsonPath="{$.value}"),
@@ -281,6 +334,23 @@ ANSWERS = [
     prometheus("no-list", said("vector", {}), says="list"),
     prometheus("status-twice", '{"status":"error","data":{"resultType":"vector","result":['
                '{"value":[1,"9"]}],"result":[{"value":[1,"0.25"]}]},"status":"success"}', "250000"),
+    prometheus("signed-nan", vector("-NaN"), NAN, says="number|NaN",
+               condition="isNaN(result[0]) || result[0] < 1"),
+    prometheus("inf-without-sign", vector("Inf"), GREATER, says="number",
+               condition="isInf(result[0]) || result[0] < 1"),
+    prometheus("hexadecimal", vector("0x1p-2"), says="number"),
+    prometheus("underscores", vector("1_000"), says="number"),
+    prometheus("an-empty-text", vector(""), says="number"),
+    prometheus("spaces-around", vector(" 0.25 "), "250000", says="number"),
+    prometheus("1000-digits", vector("9" * 1000), GREATEST),
+    prometheus("a-value-of-one", said("vector", [{"metric": {}, "value": [1]}]), says="value"),
+    prometheus("a-value-of-null", said("vector", [{"metric": {}, "value": None}]), says="value"),
+    prometheus("a-series-of-null", said("vector", [None]), says="value"),
+    prometheus("capital-success", {"status": "Success", "data": {}}, says="Prometheus"),
+    prometheus("nan-within", said("vector", [{"metric": {}, "value": [1, "0.25"]},
+                                             {"metric": {}, "value": [1, "NaN"]}]), says="NaN",
+               condition="result[0] < 0.5 && result[1] < 0.5"),
+    prometheus("many-series", vector(*["0.25"] * 5000), "250000"),
     prometheus("null-of-prometheus", "null", says=ANY),
 ]
 

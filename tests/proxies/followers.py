@@ -2,15 +2,17 @@
 and what stays when the desk, the proxy or the follower is away: parts of proxies.py."""
 import contextlib
 import json
+import os
 import shlex
+import subprocess
 import time
 
 from parts import (
-    HAProxy, Nginx, children_of, filled, follower, is_alive, lasts, speaking, version,
+    OPERATIONS, HAProxy, Nginx, children_of, filled, follower, is_alive, lasts, speaking, version,
     want_shares,
 )
 from silence import variables
-from world import Caller, Wrong, add, expect, free_port, install, wait_until
+from world import Caller, Wrong, add, expect, free_port, install, process, wait_until
 
 # How many seconds a change may take to come about: on a machine with much else to do, many.
 LONGEST = 40
@@ -146,6 +148,35 @@ def try_haproxy_words(world):
             expect("it says why", said(), "v2 50 -> 0\ncanary watch has ended\n")
 
 
+def try_follower_streams(world):
+    """A follower follows with all its standard streams closed, and if nobody reads its standard
+    error; also after a line of 500 KB."""
+    folder = world.place("follower-streams")
+    with haproxy(folder) as proxy:
+        spoken = speaking(folder, "head -c 500000 /dev/zero | tr '\\0' '{'; echo\n"
+                          f"printf '%s\\n' {shlex.quote(line().decode())}")
+        for row in ("closed", "unread"):
+            proxy.restart()
+            with unheard(row, folder, spoken, *words_for(proxy)) as started:
+                want_weights(row, proxy, 65, 35)
+                expect(f"{row}: it goes on", started.poll(), None)
+
+
+@contextlib.contextmanager
+def unheard(row, folder, variables, name, *words):
+    """A follower whose streams are closed, or whose standard error has no reader."""
+    reader, writer = os.pipe()
+    os.close(reader)
+    ends = "<&- >&- 2>&-" if row == "closed" else ""
+    command = ["sh", "-c", f'exec "$@" {ends}', "sh", OPERATIONS / name, *words]
+    try:
+        with process([*map(str, command)], cwd=folder, env=variables, stdin=subprocess.DEVNULL,
+                     stdout=subprocess.DEVNULL, stderr=writer) as started:
+            yield started
+    finally:
+        os.close(writer)
+
+
 @contextlib.contextmanager
 def nginx(folder):
     """nginx by follow.nginx.conf, before two versions; its follower has to run before it."""
@@ -195,6 +226,11 @@ def try_nginx(world):
             ops.send({"promote": {"service": "web"}})
             wait_until("50% are loaded", lambda: "'v2': 50" in said(), LONGEST)
             want_answers("50%", proxy, 50, 50)
+            (desk.folder / "web.conf").write_text('split_clients "" $canary_web {\n* web_v1;\n}\n',
+                                                  encoding="utf-8")
+            wait_until("another program wrote its file", lambda: "50%" in (
+                desk.folder / "web.conf").read_text(encoding="utf-8"), LONGEST)
+            want_answers("50% again", proxy, 50, 50)
             watches = children_of(started)
         wait_until("canary watch ends", lambda: not any(map(is_alive, watches)), LONGEST)
         ops.send({"promote": {"service": "web"}})

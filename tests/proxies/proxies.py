@@ -21,6 +21,7 @@ from world import World, running  # pylint: disable=wrong-import-position
 NEEDS = {
     "try_haproxy": {"haproxy"},
     "try_haproxy_words": {"haproxy"},
+    "try_follower_streams": {"haproxy"},
     "try_nginx": {"nginx"},
     "try_nginx_words": {"nginx"},
     "try_desks": {"haproxy"},

@@ -1,5 +1,5 @@
 -- What a report says of what was measured, and which messages go out for it.
-use Rattle.std.specs.Prelude.{⊤, ◌≡◌, ◌⊎◌, ℕ, ◌≤◌, List, [], ◌∷◌, ◌++◌, length, None, Result, Ok, Err}
+use Rattle.std.specs.Prelude.{⊤, ◌≡◌, ◌⊎◌, ℕ, ◌≤◌, List, [], ◌∷◌, ◌++◌, length, IsTrue, false, Option, Some, None, Result, Ok, Err}
 use Rattle.canary_condition.specs.declared.outcome.Outcome.{Outcome}
 use Rattle.canary_condition.specs.declared.outcome.Outcome.TheVariants as outcome
 use Rattle.canary_plan.specs.declared.command.Command.{Command}
@@ -17,6 +17,7 @@ use Rattle.canary_measure.specs.Measures.{measured_of}
 use Rattle.canary_measure.specs.Results.{IsOutcomeOf}
 use Rattle.canary_fetch.specs.declared.fault.ExchangeFault.{ExchangeFault}
 use Rattle.canary_fetch.specs.declared.reply.HttpReply.{HttpReply}
+use Rattle.canary_fetch.specs.Locals.{is_local}
 use Rattle.canary_provider.specs.declared.plan.ReplyFormat.{ReplyFormat}
 use Rattle.canary_provider.specs.Answers.{IsMeasured}
 use Rattle.canary_agent.specs.declared.plan.Served.{Served}
@@ -38,10 +39,16 @@ abbrev pub IsFailed : Came → Type 0
 IsFailed (came.Measured m) = ⊥
 IsFailed (came.Failed text) = ⊤
 
--- what came of a message: that of its reply; without a reply nothing was measured
-abbrev pub IsCameOf : ReplyFormat → Result HttpReply ExchangeFault → Came → Type 0
-IsCameOf answer (Ok reply) c = IsCame answer reply.status reply.body.items c
-IsCameOf answer (Err fault) c = IsFailed c
+-- without a reply nothing was measured; and a fault of this machine is no failure
+abbrev pub IsCameOfFault : ExchangeFault → Option Came → Type 0
+IsCameOfFault fault None = IsTrue (is_local fault)
+IsCameOfFault fault (Some c) = (is_local fault ≡ false) × IsFailed c
+
+-- what came of a message: that of its reply
+abbrev pub IsCameOf : ReplyFormat → Result HttpReply ExchangeFault → Option Came → Type 0
+IsCameOf answer (Ok reply) None = ⊥
+IsCameOf answer (Ok reply) (Some c) = IsCame answer reply.status reply.body.items c
+IsCameOf answer (Err fault) c = IsCameOfFault fault c
 
 -- What is reported.
 

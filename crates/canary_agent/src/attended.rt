@@ -11,10 +11,10 @@ use crate::journal::OpenJournal;
 use crate::late::{Lateness, Sightings, is_late, is_too_late, seconds_late};
 use crate::look::{Due, Looked, look};
 use crate::options::AgentOptions;
-use crate::pauses::{NEVER, is_away, look_after, look_at, pause_after};
+use crate::pauses::{NEVER, is_away, is_of_writing, look_after, look_at, pause_after};
 use crate::plan::{PlannedMetric, Served};
 use crate::taken::{Came, failed};
-use crate::taking::Takings;
+use crate::taking::{Settling, Takings};
 use crate::telling::{say_late, show_asked, show_last, show_wish};
 use crate::values::UnreportedValues;
 use canary_base::error::Memory;
@@ -29,6 +29,9 @@ use std::io::Write;
 // How often a message is sent at each call.
 const TRIES: u32 = 1;
 
+// How long it is before the same trouble is said again, in milliseconds.
+const AGAIN: u64 = 600_000;
+
 const UNGIVEN: &str = "no value: the other program gave none in time";
 
 /// A service that is attended.
@@ -42,8 +45,9 @@ pub(crate) struct Attended {
     look_at: u64,
     // The pause that came before that, if it could not be looked at.
     pause: u64,
-    // Why it could not, as it was said.
+    // Why it could not, as it was said, and when that is said again, in milliseconds of the call.
     told: Option<Stop>,
+    tell_at: u64,
     // The labels of the desk that the plan does not have, as they were said.
     unknown: Vec<Label>,
     lateness: Lateness,
@@ -65,6 +69,7 @@ impl Attended {
             look_at: 0,
             pause: 0,
             told: None,
+            tell_at: 0,
             unknown: Vec::new(alloc),
             lateness: Lateness::new(alloc),
             sightings: Sightings::new(alloc),
@@ -131,8 +136,7 @@ impl Attended {
         }
         match self.try_attend(rt, network, manner, asking, now, output, errors) {
             Ok(()) => {
-                self.pause = 0;
-                self.told = None;
+                self.recover_from_look();
                 Ok(true)
             }
             Err(stop) => {
@@ -140,6 +144,20 @@ impl Attended {
                 Ok(!is_away(stop))
             }
         }
+    }
+
+    // It was looked at. If its journal could not be written, that shows nothing: its pause goes on
+    // until a report is settled.
+    fn recover_from_look(&mut self) {
+        if !self.told.is_some_and(is_of_writing) {
+            self.recover();
+        }
+    }
+
+    // All is well.
+    fn recover(&mut self) {
+        self.pause = 0;
+        self.told = None;
     }
 
     // One look, for `visit`: settles what is pending, looks, and aborts or begins to measure.
@@ -312,6 +330,10 @@ impl Attended {
                 self.outcome = worse(self.outcome, ClientExit::Refused);
                 Ok(())
             }
+            Begun::Hindered => {
+                self.outcome = worse(self.outcome, ClientExit::Local);
+                Ok(())
+            }
             Begun::Awaited(limit) => {
                 let taking = taking_of(looked, due, now, limit, report_at);
                 Ok(self.takings.add(taking)?)
@@ -348,7 +370,20 @@ impl Attended {
         token: usize,
         fetched: &Fetched,
     ) -> Result<bool, Memory> {
-        self.takings.settle(alloc, token, fetched)
+        let settling = self.takings.settle(alloc, token, fetched)?;
+        if settling == Settling::Forgotten {
+            self.look_anew();
+        }
+        Ok(settling != Settling::Foreign)
+    }
+
+    // This machine could not measure something: it is looked at at once, unless it is looked at
+    // once in all.
+    fn look_anew(&mut self) {
+        self.outcome = worse(self.outcome, ClientExit::Local);
+        if self.look_at != NEVER {
+            self.look_at = 0;
+        }
     }
 
     /// Takes what another program gives, or a failure if it gave nothing in time; or `Memory`.
@@ -446,6 +481,7 @@ impl Attended {
         };
         let journal = settled(alloc, network, manner, journal, output)?;
         let journal = journal.reported(alloc, network, &self.served, run, taken.as_slice())?;
+        self.recover();
         show_last(alloc, &journal, manner, output)?;
         if !manner.is_once {
             self.look_at = look_after(journal.is_refused(), now);
@@ -454,7 +490,8 @@ impl Attended {
         Ok(())
     }
 
-    // Says why it cannot be looked at, if that is new, and has it looked at again after a pause.
+    // Says why it cannot be looked at, if that is new or was said long ago, and has it looked at
+    // again after a pause.
     fn trouble<F: Write>(
         &mut self,
         alloc: Global,
@@ -466,10 +503,11 @@ impl Attended {
         if let Stop::Memory | Stop::Output | Stop::Clock = stop {
             return Err(stop);
         }
-        if self.told != Some(stop) {
+        if self.told != Some(stop) || self.tell_at <= now {
             let (service, sentence) = (self.served.name, stop.sentence());
             say(errors, format!(in alloc; "{service}: {sentence}")?.as_str());
             self.told = Some(stop);
+            self.tell_at = now.saturating_add(AGAIN);
         }
         self.outcome = worse(self.outcome, stop.outcome());
         self.sightings.clear();

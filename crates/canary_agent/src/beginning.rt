@@ -17,6 +17,8 @@ pub(crate) enum Begun {
     Nowhere,
     /// Another program gives it, within so many milliseconds.
     Awaited(u64),
+    /// This machine cannot ask its provider now.
+    Hindered,
     /// A provider is asked, for so many milliseconds at most.
     Asked(AskResult, u64),
 }
@@ -57,15 +59,17 @@ pub(crate) fn start(
     let limit = limit_for(metric);
     match &metric.source {
         MetricSource::Provider(query) => {
-            let asked = ask(rt, asking, query, looked, limit, now)?;
-            Ok(Begun::Asked(asked, limit))
+            match ask(rt, asking, query, looked, limit, now)? {
+                Some(asked) => Ok(Begun::Asked(asked, limit)),
+                None => Ok(Begun::Hindered),
+            }
         }
         MetricSource::Lines => Ok(Begun::Awaited(limit)),
         MetricSource::Nowhere => Ok(Begun::Nowhere),
     }
 }
 
-// Asks a provider, with the versions of the service that were found.
+// Asks a provider, with the versions of the service that were found. None if this machine cannot.
 fn ask(
     rt: &HostRuntime,
     asking: &mut ProviderClient,
@@ -73,10 +77,10 @@ fn ask(
     looked: &Looked,
     limit: u64,
     now: u64,
-) -> Result<AskResult, Stop> {
+) -> Result<Option<AskResult>, Stop> {
     match query.provider(rt.alloc(), looked.latest.as_str(), looked.stable.as_str())? {
         Ok(provider) => asking.ask(rt, provider, limit, now),
-        Err(refusal) => Ok(AskResult::Failed(failed(rt.alloc(), refusal.text())?)),
+        Err(refusal) => Ok(Some(AskResult::Failed(failed(rt.alloc(), refusal.text())?))),
     }
 }
 

@@ -4,7 +4,7 @@ use canary_client::outcome::{ClientExit, Stop};
 use std::alloc::{AllocError, AllocFailed};
 
 /// Why a call of the agent ends.
-#[derive(Clone, Copy, PartialEq, Eq)]
+#[derive(Clone, Copy)]
 pub(crate) enum AgentStop {
     /// As a call of the client does.
     Stopped(Stop),

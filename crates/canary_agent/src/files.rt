@@ -1,12 +1,10 @@
 //! The files of manifests, and whether one changed.
+use crate::folders::{FolderNames, names_in};
 use canary_base::error::Memory;
 use canary_base::lists::Text;
 use std::alloc::Global;
 use std::fs;
 use std::os::unix::fs::MetadataExt;
-
-// What a file of manifests ends in.
-const ENDINGS: [&str; 3] = [".yaml", ".yml", ".json"];
 
 /// A file as it was seen: its name, and what changes if it does.
 #[derive(Drop)]
@@ -17,12 +15,16 @@ struct FileStamp {
     size: u64,
     seconds: i64,
     nanoseconds: i64,
+    // Whether it is there and is no regular file.
+    is_strange: bool,
 }
 
 /// Files as they were seen, in the order of their names in each folder.
 #[derive(Drop)]
 pub(crate) struct Files {
     list: Vec<FileStamp>,
+    /// What of the folders cannot be read, each a line that says so.
+    pub(crate) faults: Vec<String>,
 }
 
 impl Files {
@@ -31,6 +33,7 @@ impl Files {
     pub(crate) fn look(rt: &HostRuntime, given: &[Text]) -> Result<Files, Memory> {
         let mut files = Files {
             list: Vec::new(rt.alloc()),
+            faults: Vec::new(rt.alloc()),
         };
         for name in given {
             files.add(rt, name.as_str())?;
@@ -47,13 +50,37 @@ impl Files {
         Ok(names)
     }
 
+    /// The name of the first one that is there and is no regular file. Who opens it may wait for
+    /// ever, as with a FIFO.
+    pub(crate) fn strange(&self) -> Option<&str> {
+        for file in &self.list {
+            if file.is_strange {
+                return Some(file.name.as_str());
+            }
+        }
+        None
+    }
+
     /// Whether nothing changed since the other look.
     pub(crate) fn are_as(&self, other: &Files) -> bool {
-        if self.list.len() != other.list.len() {
+        if self.list.len() != other.list.len() || !self.have_faults_of(other) {
             return false;
         }
         for (file, then) in self.list.iter().zip(other.list.iter()) {
             if !file.is_as(then) {
+                return false;
+            }
+        }
+        true
+    }
+
+    // Whether the same cannot be read.
+    fn have_faults_of(&self, other: &Files) -> bool {
+        if self.faults.len() != other.faults.len() {
+            return false;
+        }
+        for (fault, then) in self.faults.iter().zip(other.faults.iter()) {
+            if fault.as_str() != then.as_str() {
                 return false;
             }
         }
@@ -70,10 +97,14 @@ impl Files {
 
     // Adds the regular files of manifests in a folder itself, in the order of their paths.
     fn add_folder(&mut self, rt: &HostRuntime, name: &str) -> Result<(), Memory> {
-        for file in names_in(rt, name)? {
-            if is_regular(rt, file.as_str()) {
-                self.add_file(rt, file)?;
+        let FolderNames { paths, faults } = names_in(rt, name)?;
+        for path in paths {
+            if is_regular(rt, path.as_str()) {
+                self.add_file(rt, path)?;
             }
+        }
+        for fault in faults {
+            self.faults.push(fault)?;
         }
         Ok(())
     }
@@ -88,6 +119,7 @@ impl Files {
                 size: found.size(),
                 seconds: found.mtime(),
                 nanoseconds: found.mtime_nsec(),
+                is_strange: !found.is_file(),
             },
             Err(_) => FileStamp {
                 name,
@@ -96,6 +128,7 @@ impl Files {
                 size: 0,
                 seconds: 0,
                 nanoseconds: 0,
+                is_strange: false,
             },
         };
         self.list.push(seen)?;
@@ -115,41 +148,10 @@ impl FileStamp {
     }
 }
 
-// The paths of the files of manifests in a folder, sorted. A name that is not UTF-8 is left out, as
-// is what cannot be listed.
-fn names_in(rt: &HostRuntime, folder: &str) -> Result<Vec<String>, Memory> {
-    let mut names = Vec::new(rt.alloc());
-    let Ok(entries) = fs::read_dir(rt, folder) else {
-        return Ok(names);
-    };
-    for entry in entries {
-        if let Ok(entry) = entry
-            && is_manifest(entry.file_name())
-        {
-            names.push(path_of(rt.alloc(), folder, entry.file_name())?)?;
-        }
-    }
-    names.sort()?;
-    Ok(names)
-}
-
 // Whether a path leads to a regular file, also by links; false if the system does not say.
 fn is_regular(rt: &HostRuntime, name: &str) -> bool {
     match fs::metadata(rt, name) {
         Ok(found) => found.is_file(),
         Err(_) => false,
     }
-}
-
-// Whether a file's name ends in one of `ENDINGS`.
-fn is_manifest(name: &str) -> bool {
-    ENDINGS.iter().any(|ending| name.ends_with(*ending))
-}
-
-// The path of a file in a folder, whose own path may end in a slash.
-fn path_of(alloc: Global, folder: &str, name: &str) -> Result<String, Memory> {
-    if folder.ends_with('/') {
-        return Ok(format!(in alloc; "{folder}{name}")?);
-    }
-    Ok(format!(in alloc; "{folder}/{name}")?)
 }

@@ -19,7 +19,7 @@ const AGAIN: u64 = 60_000;
 const GRACE: u64 = 60_000;
 
 // A late measurement that was said.
-#[derive(Clone, Copy, Debug)]
+#[derive(Clone, Copy)]
 struct LateNotice {
     run: Number,
     metric: Label,
@@ -63,7 +63,7 @@ impl Lateness {
 }
 
 // A measurement that looks found to be due.
-#[derive(Clone, Copy, Debug)]
+#[derive(Clone, Copy)]
 struct Sighting {
     run: Number,
     metric: Label,

@@ -12,7 +12,7 @@ use serde_json::Value;
 use std::alloc::Global;
 
 /// A measurement that is due.
-#[derive(Clone, Copy, Debug)]
+#[derive(Clone, Copy)]
 pub struct Due {
     /// The run.
     pub run: Number,

@@ -24,6 +24,14 @@ pub(crate) fn is_away(stop: Stop) -> bool {
     }
 }
 
+/// Whether the journal could not be written.
+pub(crate) fn is_of_writing(stop: Stop) -> bool {
+    match stop {
+        Stop::Journal | Stop::JournalFull => true,
+        _ => false,
+    }
+}
+
 /// The pause behind this one, before a service is looked at again that could not be.
 pub(crate) fn pause_after(stop: Stop, pause: u64) -> u64 {
     if stop == Stop::NoService {

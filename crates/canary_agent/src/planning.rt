@@ -31,6 +31,10 @@ pub(crate) fn plan_in<F: Write>(
     errors: &mut F,
 ) -> Result<Option<Plan>, Memory> {
     let alloc = rt.alloc();
+    if !files.faults.is_empty() {
+        say_faults(alloc, files.faults.as_slice(), errors)?;
+        return Ok(None);
+    }
     let names = files.names(alloc)?;
     let mut nothing: &[u8] = &[];
     match read_files(rt, names.as_slice(), &mut nothing) {
@@ -41,6 +45,15 @@ pub(crate) fn plan_in<F: Write>(
             Ok(None)
         }
     }
+}
+
+// Says what of the folders cannot be read.
+fn say_faults<F: Write>(alloc: Global, faults: &[String], errors: &mut F) -> Result<(), Memory> {
+    for fault in faults {
+        let line = shown(alloc, fault.as_str(), TextKind::Line)?;
+        say(errors, line.as_str());
+    }
+    Ok(())
 }
 
 // Says that the file at this index cannot be read, with its name.

@@ -1,6 +1,7 @@
 //! What a provider is asked: a manifest's plan, with places for the versions of the service.
 use canary_base::error::Memory;
 use canary_convert::work::Planned;
+use canary_fetch::address::Address;
 use canary_provider::plan::Provider;
 use canary_provider::refusal::ProviderRefusal;
 use serde_json::Value;
@@ -48,11 +49,13 @@ impl ProviderQuery {
             arguments,
             seconds: None,
         };
-        match query.provider(alloc, ANY, ANY)? {
-            Ok(provider) => query.seconds = provider.seconds,
-            Err(refusal) => return Ok(Err(refusal.text())),
+        match seconds_of(query.provider(alloc, ANY, ANY)?) {
+            Ok(seconds) => {
+                query.seconds = seconds;
+                Ok(Ok(query))
+            }
+            Err(why) => Ok(Err(why)),
         }
-        Ok(Ok(query))
     }
 
     /// The provider with these versions in their places: that of the service's last attempt, and
@@ -112,6 +115,18 @@ impl ProviderQuery {
             }
         }
         None
+    }
+}
+
+// The seconds that a plan gives to the exchange; or why its provider is not asked, as when no
+// connection can go to its address.
+fn seconds_of(read: Result<Provider, ProviderRefusal>) -> Result<Option<u64>, &'static str> {
+    match read {
+        Ok(provider) => match Address::read(provider.address.as_str()) {
+            Ok(_) => Ok(provider.seconds),
+            Err(fault) => Err(fault.text()),
+        },
+        Err(refusal) => Err(refusal.text()),
     }
 }
 

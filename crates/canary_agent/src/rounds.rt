@@ -8,6 +8,7 @@ use crate::attended::Attended;
 use crate::ended::{AgentStop, worse};
 use crate::files::Files;
 use crate::health::touch;
+use crate::hindrances::Hindrances;
 use crate::options::AgentOptions;
 use crate::plan::{Plan, Served};
 use crate::planning::plan_in;
@@ -34,7 +35,12 @@ const MAX_LINES: u32 = 1_000;
 // The most bytes that are shown of a line that is none.
 const MAX_SHOWN: usize = 200;
 
+const HINDERED: &str =
+    "this machine cannot ask a provider, which is tried again, and nothing is reported of it";
+
 const UNTOUCHED: &str = "the file of --health cannot be touched";
+
+const STRANGE: &str = "the file is no regular one any more, and is not read again";
 
 const ENDED: &str = "the program that gives values has ended: no more come";
 
@@ -55,6 +61,7 @@ pub(crate) struct Rounds {
     // When the watchdog's file is touched next, and whether it could not be.
     touch_at: u64,
     is_untouched: bool,
+    hindrances: Hindrances,
     watch: Watch,
     outcome: ClientExit,
 }
@@ -93,6 +100,7 @@ impl Rounds {
             values: UnreportedValues::new(alloc),
             touch_at: 0,
             is_untouched: false,
+            hindrances: Hindrances::new(alloc),
             watch: Watch::new(rt)?,
             outcome: ClientExit::Done,
         };
@@ -176,6 +184,7 @@ impl Rounds {
         }
         self.wait(rt)?;
         self.settle(rt.alloc())?;
+        self.tell_hindrance(rt.alloc(), now, errors)?;
         Ok(None)
     }
 
@@ -196,6 +205,10 @@ impl Rounds {
             return Ok(());
         }
         self.files = files;
+        if let Some(name) = self.files.strange() {
+            say_of(rt.alloc(), errors, STRANGE, name);
+            return Ok(());
+        }
         match plan_in(rt, &self.files, self.reader.is_some(), errors)? {
             Some(plan) => self.serve(rt.alloc(), named.prefix, plan, errors),
             None => Ok(()),
@@ -328,6 +341,23 @@ impl Rounds {
                     break;
                 }
             }
+        }
+        Ok(())
+    }
+
+    // Says why this machine asks no provider, once a minute at most.
+    fn tell_hindrance<F: Write>(
+        &mut self,
+        alloc: Global,
+        now: u64,
+        errors: &mut F,
+    ) -> Result<(), Memory> {
+        let Some(fault) = self.asking.take_hindrance() else {
+            return Ok(());
+        };
+        if self.hindrances.is_to_say(alloc, fault, now)? {
+            let text = fault.text();
+            say(errors, format!(in alloc; "{HINDERED}: {text}")?.as_str());
         }
         Ok(())
     }

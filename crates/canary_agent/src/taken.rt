@@ -1,6 +1,6 @@
 //! Measurements that were taken.
 ghost use Rattle.std.specs.Prelude.{IfOk};
-ghost use Rattle.canary_agent.specs.Reports.{IsCame, IsCameOf, IsFailed};
+ghost use Rattle.canary_agent.specs.Reports.{IsCame, IsCameOf, IsCameOfFault, IsFailed};
 
 use canary_base::error::Memory;
 use canary_base::lists::Text;
@@ -37,17 +37,35 @@ pub struct Taken {
     pub came: Came,
 }
 
-/// What came of a message to a provider.
+/// What came of a message to a provider; none if that is a fault of this machine, which says nothing
+/// of the provider.
 ///
 /// # Errors
 /// `Memory` if an allocation was refused.
-pub fn came_of(alloc: Global, answer: &ReplyFormat, outcome: &FetchResult) -> Result<Came, Memory>
+pub fn came_of(
+    alloc: Global,
+    answer: &ReplyFormat,
+    outcome: &FetchResult,
+) -> Result<Option<Came>, Memory>
     ensures { IfOk result (IsCameOf answer.now outcome.now) }
 {
     match outcome {
-        Ok(reply) => came_of_reply(alloc, answer, reply.status, reply.body.as_slice()),
-        Err(fault) => failed(alloc, text_of(*fault)),
+        Ok(reply) => {
+            let came = came_of_reply(alloc, answer, reply.status, reply.body.as_slice())?;
+            Ok(Some(came))
+        }
+        Err(fault) => came_of_fault(alloc, *fault),
     }
+}
+
+// What came of a message that has no reply.
+fn came_of_fault(alloc: Global, fault: ExchangeFault) -> Result<Option<Came>, Memory>
+    ensures { IfOk result (IsCameOfFault fault) }
+{
+    if fault.is_local() {
+        return Ok(None);
+    }
+    Ok(Some(failed(alloc, text_of(fault))?))
 }
 
 /// What came of a message to which a provider gave a reply of that status with that body.
@@ -90,6 +108,6 @@ fn text_of(fault: ExchangeFault) -> &'static str {
         ExchangeFault::TooLong => "the reply of the provider is too long",
         ExchangeFault::NotHttp => "the reply of the provider is not HTTP/1.1",
         ExchangeFault::Coded => "the reply of the provider is compressed",
-        ExchangeFault::Memory => "the agent had no memory for the reply of the provider",
+        ExchangeFault::Memory | ExchangeFault::Local(_) => "the agent asked nobody",
     }
 }

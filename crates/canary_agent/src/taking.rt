@@ -71,6 +71,17 @@ impl Taking {
     }
 }
 
+/// What became of the measurement of a message.
+#[derive(Clone, Copy, PartialEq, Eq)]
+pub(crate) enum Settling {
+    /// The message is of none of these.
+    Foreign,
+    /// It is taken.
+    Taken,
+    /// Nothing came of it, by a fault of this machine: it is taken anew.
+    Forgotten,
+}
+
 /// The measurements of a service that are being taken.
 #[derive(Drop)]
 pub(crate) struct Takings {
@@ -106,21 +117,55 @@ impl Takings {
         false
     }
 
-    /// Takes in what came of the message of this token, and says whether it is of one of these; or
-    /// `Memory`.
+    /// Takes in what came of the message of this token. Of a fault of this machine nothing comes:
+    /// the measurement is forgotten, and taken anew. Or `Memory`.
     pub(crate) fn settle(
         &mut self,
         alloc: Global,
         token: usize,
         fetched: &Fetched,
-    ) -> Result<bool, Memory> {
-        for taking in self.list.iter_mut() {
-            if let Some(answer) = taking.answer_to(token) {
-                taking.came = Some(came_of(alloc, answer, fetched)?);
-                return Ok(true);
+    ) -> Result<Settling, Memory> {
+        let Some(place) = self.place_of(token) else {
+            return Ok(Settling::Foreign);
+        };
+        match self.came_at(alloc, place, token, fetched)? {
+            Some(came) => {
+                self.give(place, came);
+                Ok(Settling::Taken)
+            }
+            None => {
+                self.forget(place);
+                Ok(Settling::Forgotten)
             }
         }
-        Ok(false)
+    }
+
+    // The place of the measurement of which this is the message.
+    fn place_of(&self, token: usize) -> Option<usize> {
+        self.list
+            .iter()
+            .position(|taking| taking.answer_to(token).is_some())
+    }
+
+    // What came of the one at this place, by its message.
+    fn came_at(
+        &self,
+        alloc: Global,
+        place: usize,
+        token: usize,
+        fetched: &Fetched,
+    ) -> Result<Option<Came>, Memory> {
+        match self.at(place).and_then(|taking| taking.answer_to(token)) {
+            Some(answer) => came_of(alloc, answer, fetched),
+            None => Ok(None),
+        }
+    }
+
+    // Forgets the one at this place.
+    fn forget(&mut self, place: usize) {
+        if place < self.list.len() {
+            self.list.remove(place);
+        }
     }
 
     /// The first one, from this place on, that another program gives, and that is not there yet.

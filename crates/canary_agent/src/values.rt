@@ -7,7 +7,7 @@ use std::alloc::Global;
 use std::mem;
 
 /// A line of another program: `SERVICE METRIC VALUE`.
-#[derive(Clone, Copy, Debug)]
+#[derive(Clone, Copy)]
 pub(crate) struct Said<'a> {
     pub(crate) service: &'a str,
     pub(crate) metric: &'a str,

@@ -3,7 +3,7 @@ use canary_client::outcome::Stop;
 use std::time::Instant;
 
 /// A watch, from which the time of a call is read in milliseconds.
-#[derive(Clone, Copy, Debug)]
+#[derive(Clone, Copy)]
 pub(crate) struct Watch {
     start: Instant,
 }

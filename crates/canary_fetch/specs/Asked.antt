@@ -6,6 +6,7 @@ use Rattle.std.specs.declared.net.socket_addr.SocketAddr.{SocketAddr}
 use Rattle.canary_fetch.specs.declared.fault.ExchangeFault.{ExchangeFault}
 use Rattle.canary_fetch.specs.declared.fault.ExchangeFault.TheVariants.{Timeout}
 use Rattle.canary_fetch.specs.declared.fetcher.Fetcher.{Fetcher}
+use Rattle.canary_fetch.specs.declared.local.LocalFault.{LocalFault}
 use Rattle.canary_fetch.specs.declared.query.PendingMessage.{PendingMessage}
 use Rattle.canary_fetch.specs.declared.reply.HttpReply.{HttpReply}
 use Rattle.canary_fetch.specs.declared.underway.Underway.{Underway}
@@ -13,6 +14,10 @@ use Rattle.canary_fetch.specs.declared.underway.Underway.{Underway}
 -- a message has this token, and was not answered yet
 abbrev pub is_there : Underway → ℕ → Bool
 is_there u token = is_some (get nat_cmp u.queries token)
+
+-- a connection was begun for it
+abbrev pub is_begun : Underway → ℕ → Bool
+is_begun u token = is_some (get nat_cmp u.flights token)
 
 -- where a message goes, and its bytes
 abbrev pub message_of : PendingMessage → SocketAddr × List ℕ
@@ -42,3 +47,7 @@ asked_message f token = message_at f.underway token
 -- the most connections at a time
 abbrev pub most_connections : Fetcher → ℕ
 most_connections f = f.underway.most
+
+-- the last fault of this machine
+abbrev pub hindrance_of : Fetcher → Option LocalFault
+hindrance_of f = f.underway.hindrance

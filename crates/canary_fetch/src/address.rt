@@ -5,28 +5,63 @@ ghost use Rattle.std.specs.List.{list_all};
 ghost use Rattle.canary_fetch.specs.Addresses.{IsAddress, IsCut, IsSite, IsPort};
 ghost use Rattle.canary_fetch.specs.Addresses.{is_name, is_number, is_name_byte, is_number_byte};
 
-use std::io::{self, ErrorKind};
-use std::net::{Net, SocketAddr, ToSocketAddrs};
-use thiserror::Error;
+use crate::names::{NameFault, fault_of};
+use std::io;
+use std::net::{IpAddr, Ipv6Addr, Net, SocketAddr, ToSocketAddrs};
 
 // The port of an address that has none.
 const PORT: u16 = 80;
 
+// The most bytes of a host's name, and of a part of it.
+const MAX_NAME: usize = 253;
+
+const MAX_PART: usize = 63;
+
 /// Why a text is no address that can be asked.
-#[derive(Clone, Copy, Debug, PartialEq, Eq, Error)]
+#[derive(Clone, Copy, Debug, PartialEq, Eq)]
 pub enum AddressFault {
     /// It begins with `https://`.
-    #[error("https is not spoken here: have a proxy on this machine speak it, and name that")]
     Https,
     /// It begins otherwise.
-    #[error("an address begins with http://")]
     Scheme,
     /// What follows is no host, or more than a host and a port.
-    #[error("the address has no host, or more than a host, a port and a path")]
     Host,
     /// The port is no number from 1 to 65,535.
-    #[error("the port is no number from 1 to 65535")]
     Port,
+    /// The host has digits and dots alone and is no number of IPv4, or brackets and is none of IPv6.
+    Number,
+    /// The host's name has more than 253 bytes, or a part of it more than 63, or none.
+    Name,
+    /// No one host has it: the host is a number for multicast or broadcast, or a link-local one of
+    /// IPv6, which says nothing of the link.
+    Shared,
+}
+
+impl AddressFault {
+    /// What is wrong.
+    pub fn text(self) -> &'static str {
+        match self {
+            AddressFault::Https => {
+                "https is not spoken here: have a proxy on this machine speak it, and name that"
+            }
+            AddressFault::Scheme => "an address begins with http://",
+            AddressFault::Host => {
+                "the address has no host, or more than a host, a port and a path"
+            }
+            AddressFault::Port => "the port of the address is no number from 1 to 65535",
+            AddressFault::Number => {
+                "the host of the address is no number of IPv4, as 127.0.0.1, and none of IPv6, as \
+                 [::1]"
+            }
+            AddressFault::Name => {
+                "the host of the address is no name: its parts have 1 to 63 bytes, and all 253 at \
+                 most"
+            }
+            AddressFault::Shared => {
+                "no one host has this address: it is for multicast or broadcast, or link-local"
+            }
+        }
+    }
 }
 
 /// The address of a provider: `http://HOST`, `http://HOST:PORT` or either with `/PATH`.
@@ -41,7 +76,7 @@ pub struct Address<'a> {
 }
 
 // A host and a port.
-#[derive(Clone, Copy, Debug)]
+#[derive(Clone, Copy)]
 pub(crate) struct HostPort<'a> {
     pub(crate) host: &'a str,
     pub(crate) port: u16,
@@ -60,11 +95,14 @@ impl<'a> Address<'a> {
         };
         let (site, path) = cut(rest);
         match host_port_of(site) {
-            Ok(site) => Ok(Address {
-                host: site.host,
-                port: site.port,
-                path,
-            }),
+            Ok(site) => match host_fault(site.host) {
+                Some(fault) => Err(fault),
+                None => Ok(Address {
+                    host: site.host,
+                    port: site.port,
+                    path,
+                }),
+            },
             Err(fault) => Err(fault),
         }
     }
@@ -73,21 +111,27 @@ impl<'a> Address<'a> {
     /// is looked up, and nothing else is done meanwhile.
     ///
     /// # Errors
-    /// What the system answers if it does not know the name.
-    pub fn resolve<R: Net>(&self, rt: &R) -> io::Result<SocketAddr> {
+    /// `Unknown` if there is no such name; `Local` if this machine cannot look it up now.
+    pub fn resolve<R: Net + AllocGlobal>(&self, rt: &R) -> Result<SocketAddr, NameFault> {
+        match self.looked_up(rt) {
+            Ok(Some(address)) => Ok(address),
+            Ok(None) => Err(NameFault::Unknown),
+            Err(error) => Err(fault_of(rt, &error)),
+        }
+    }
+
+    // The same; none if the name has no address, or what the system answers.
+    fn looked_up<R: Net>(&self, rt: &R) -> io::Result<Option<SocketAddr>> {
         let mut found = None;
         for address in (self.host, self.port).to_socket_addrs(rt)? {
             if address.is_ipv4() {
-                return Ok(address);
+                return Ok(Some(address));
             }
             if found.is_none() {
                 found = Some(address);
             }
         }
-        match found {
-            Some(address) => Ok(address),
-            None => Err(ErrorKind::NotFound.into()),
-        }
+        Ok(found)
     }
 }
 
@@ -108,6 +152,59 @@ fn cut(text: &str) -> (&str, &str)
         Some((site, path)) => (site, path),
         None => (text, ""),
     }
+}
+
+// Why no connection can ever go to a host of that spelling.
+fn host_fault(host: &str) -> Option<AddressFault> {
+    match host.parse::<IpAddr>() {
+        Ok(number) if is_shared(number) => Some(AddressFault::Shared),
+        Ok(_) => None,
+        Err(_) if is_like_number(host) => Some(AddressFault::Number),
+        Err(_) if is_like_name(host) => None,
+        Err(_) => Some(AddressFault::Name),
+    }
+}
+
+// Whether a number is not that of one host.
+fn is_shared(number: IpAddr) -> bool {
+    match number {
+        IpAddr::V4(number) => number.is_multicast() || number.is_broadcast(),
+        IpAddr::V6(number) => number.is_multicast() || is_link_local(number),
+    }
+}
+
+// Whether it is a number of IPv6 that is known on one link alone: fe80::/10.
+fn is_link_local(number: Ipv6Addr) -> bool {
+    let octets = number.octets();
+    octets[0] == 0xfe && octets[1] / 64 == 2
+}
+
+// Whether it is meant as a number: one of IPv6, or digits and dots.
+fn is_like_number(host: &str) -> bool {
+    host.contains(':') || (host.contains('.') && are_digits_and_dots(host.as_bytes()))
+}
+
+// Whether these are digits and dots alone.
+fn are_digits_and_dots(bytes: &[u8]) -> bool {
+    bytes
+        .iter()
+        .all(|byte| byte.is_ascii_digit() || *byte == b'.')
+}
+
+// Whether a resolver may know a host of that name (RFC 1035, section 2.3.4).
+fn is_like_name(host: &str) -> bool {
+    let name = host.strip_suffix('.').unwrap_or(host);
+    name.len() <= MAX_NAME && are_parts(name)
+}
+
+// Whether each part of a name has as many bytes as it may.
+fn are_parts(name: &str) -> bool {
+    for part in name.split('.') {
+        if part.is_empty() || part.len() > MAX_PART {
+            return false;
+        }
+    }
+    true
 }
 
 // The host and the port that a text spells.

@@ -1,4 +1,5 @@
 //! Why a message has no reply.
+use crate::local::LocalFault;
 use thiserror::Error;
 
 /// Why a message has no reply.
@@ -25,4 +26,22 @@ pub enum ExchangeFault {
     /// An allocation was refused.
     #[error("out of memory")]
     Memory,
+    /// This machine made no connection, or has no memory for it.
+    #[error("this machine asks nobody")]
+    Local(LocalFault),
+}
+
+impl ExchangeFault {
+    ghost use Rattle.std.specs.Prelude.{◌≡◌};
+    ghost use Rattle.canary_fetch.specs.Locals.{is_local};
+
+    /// Whether it is a fault of this machine, which says nothing of the provider.
+    pub fn is_local(self) -> bool
+        ensures { result ≡ is_local self }
+    {
+        match self {
+            ExchangeFault::Memory | ExchangeFault::Local(_) => true,
+            _ => false,
+        }
+    }
 }

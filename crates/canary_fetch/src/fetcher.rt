@@ -2,6 +2,7 @@
 ghost use Rattle.std.specs.Prelude.{◌≡◌, ℕ, IfOk, OnOk, OnErr, MatchOption, IfSome, true, false, Err, Some};
 ghost use Rattle.canary_fetch.specs.Asking.{AreSame, Comes, Goes};
 
+use crate::local::LocalFault;
 use crate::query::{FetchCompletion, StartFault};
 use crate::underway::Underway;
 use mio::{Events, Poll};
@@ -38,7 +39,7 @@ pub struct Fetcher {
 
 impl Fetcher {
     ghost use Rattle.canary_fetch.specs.Asked.{is_asked, asked_message, asked_outcome};
-    ghost use Rattle.canary_fetch.specs.Asked.{most_connections};
+    ghost use Rattle.canary_fetch.specs.Asked.{most_connections, hindrance_of};
 
     /// One with nothing to ask, and so many connections at a time at most.
     ///
@@ -64,6 +65,14 @@ impl Fetcher {
     /// How many messages were taken in and not answered yet.
     pub fn count(&self) -> usize {
         self.underway.count()
+    }
+
+    /// Why messages wait for a connection, if the last one could not be begun by a fault of this
+    /// machine. It is tried again until one is begun, or the time of the message is over.
+    pub fn hindrance(&self) -> Option<LocalFault>
+        ensures { IfSome result (λ fault. hindrance_of self.now ≡ Some fault) }
+    {
+        self.underway.hindrance()
     }
 
     /// Takes in a message to this address, which is answered under the token within the limit.

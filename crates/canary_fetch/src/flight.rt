@@ -1,5 +1,6 @@
 //! A connection on which a message is sent and its reply is heard.
 use crate::fault::ExchangeFault;
+use crate::local::{LocalFault, is_exhausted};
 use crate::reply::{HttpReply, Incoming};
 use mio::net::TcpStream;
 use mio::{Interest, Registry, Token};
@@ -70,7 +71,7 @@ impl Flight {
         if self.is_reported(registry, token) {
             return told;
         }
-        Err(ExchangeFault::Cut)
+        Err(ExchangeFault::Local(LocalFault::Memory))
     }
 
     // Its turn: it sends what can be sent of the message, and hears what came.
@@ -101,7 +102,8 @@ impl Flight {
                 self.is_connected = self.stream.peer_addr().is_ok();
                 Ok(())
             }
-            _ => Err(ExchangeFault::Refused),
+            Ok(Some(error)) => Err(fault_or(&error, ExchangeFault::Refused)),
+            Err(error) => Err(fault_or(&error, ExchangeFault::Refused)),
         }
     }
 
@@ -152,9 +154,18 @@ impl Flight {
             Err(error) => match error.kind() {
                 ErrorKind::WouldBlock => Ok(ReadProgress::Nothing),
                 ErrorKind::Interrupted => Ok(ReadProgress::More),
-                _ => Err(ExchangeFault::Cut),
+                _ => Err(fault_or(&error, ExchangeFault::Cut)),
             },
         }
+    }
+}
+
+// What an error of a connection that was begun means: this, unless no memory is left for it.
+fn fault_or(error: &io::Error, fault: ExchangeFault) -> ExchangeFault {
+    if is_exhausted(error) {
+        ExchangeFault::Local(LocalFault::Memory)
+    } else {
+        fault
     }
 }
 

@@ -21,7 +21,7 @@ const MAX_REPLY_HEAD: usize = 16_384;
 pub(crate) const MAX_BODY: usize = 1_048_576;
 
 /// What some bytes begin with.
-#[derive(Clone, Copy, Debug)]
+#[derive(Clone, Copy)]
 pub(crate) enum Front {
     /// A head that is not whole yet.
     Part,
@@ -32,7 +32,7 @@ pub(crate) enum Front {
 }
 
 /// The head of a reply.
-#[derive(Clone, Copy, Debug)]
+#[derive(Clone, Copy)]
 pub(crate) struct Head {
     /// The status.
     pub(crate) status: u16,

@@ -7,7 +7,7 @@
 //! In use (canary_agent, src/asking.rt):
 //!
 //!     match self.fetcher.start(rt, token, address, message, limit) {
-//!         Ok(()) => Ok(AskResult::Message(Message::new(token, provider))),
+//!         Ok(()) => Ok(Some(AskResult::Message(Message::new(token, provider)))),
 #![tactic(auto)]
 
 pub mod address;
@@ -16,6 +16,8 @@ pub mod fetcher;
 mod flight;
 mod heads;
 pub mod laws;
+pub mod local;
+pub mod names;
 pub mod query;
 pub mod reply;
 mod underway;

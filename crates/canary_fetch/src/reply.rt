@@ -37,7 +37,7 @@ pub struct HttpReply {
 }
 
 // What of a reply comes next.
-#[derive(Clone, Copy, Debug)]
+#[derive(Clone, Copy)]
 pub(crate) enum ReplyStage {
     // Its head.
     Head,
@@ -46,7 +46,7 @@ pub(crate) enum ReplyStage {
 }
 
 // What one step of the reader came to.
-#[derive(Clone, Copy, Debug)]
+#[derive(Clone, Copy)]
 pub(crate) enum ParseProgress {
     // Another step may follow.
     Goes,

@@ -6,13 +6,19 @@ ghost use Rattle.canary_fetch.specs.Asking.{AreSame, Comes, Goes};
 
 use crate::fault::ExchangeFault;
 use crate::flight::Flight;
+use crate::local::LocalFault;
 use crate::query::{FetchCompletion, FetchResult, PendingMessage, StartFault};
 use crate::reply::HttpReply;
 use mio::{Events, Poll, Token};
 use std::alloc::Global;
 use std::collections::{BTreeMap, VecDeque};
+use std::io;
 use std::net::{Net, SocketAddr};
 use std::time::Duration;
+
+// The time between two tries to begin a connection that this machine could not begin, in
+// milliseconds.
+const RETRY_MILLIS: u64 = 100;
 
 // Messages, and their connections.
 #[derive(Drop)]
@@ -29,11 +35,14 @@ pub(crate) struct Underway {
     most: usize,
     // The present time.
     pub(crate) now: Duration,
+    // Why the last connection could not be begun, if that was a fault of this machine.
+    hindrance: Option<LocalFault>,
     ghost few: { btree_map_len flights ≤ most },
 }
 
 impl Underway {
-    ghost use Rattle.canary_fetch.specs.Asked.{is_there, message_at, outcome_at};
+    ghost use Rattle.canary_fetch.specs.Asked.{is_there, is_begun, message_at, outcome_at};
+    ghost use Rattle.canary_fetch.specs.Locals.{late_fault};
 
     // None.
     pub(crate) fn new(alloc: Global, poll: Poll, most: usize) -> Underway
@@ -48,6 +57,7 @@ impl Underway {
             queue: VecDeque::new(alloc),
             most,
             now: Duration::ZERO,
+            hindrance: None,
         }
     }
 
@@ -112,10 +122,24 @@ impl Underway {
         None
     }
 
-    // How long is waited at most: until the first message is late that came to nothing yet, and not
-    // at all if one came to something.
+    // Why messages wait for a connection, if the last one could not be begun by a fault of this
+    // machine.
+    pub(crate) fn hindrance(&self) -> Option<LocalFault>
+        ensures { IfSome result (λ fault. self.entry.now.hindrance ≡ Some fault) }
+    {
+        match self.hindrance {
+            Some(fault) if !self.queue.is_empty() => Some(fault),
+            _ => None,
+        }
+    }
+
+    // How long is waited at most: until the first message is late that came to nothing yet, or a
+    // connection is to be tried again, and not at all if one came to something.
     pub(crate) fn time_to_wait(&self, most: Duration) -> Duration {
         let mut wait = most;
+        if self.hindrance().is_some() {
+            wait = wait.min(Duration::from_millis(RETRY_MILLIS));
+        }
         'queries: for (_, query) in self.queries.range(0..) {
             wait = wait.min(query.time_left(self.now));
         }
@@ -146,7 +170,29 @@ impl Underway {
         };
         match Flight::begun(rt, self.alloc, self.poll.registry(), Token(token), address) {
             Ok(flight) => self.take_off(token, flight),
-            Err(_) => self.settle(token, Err(ExchangeFault::Refused)),
+            Err(error) => self.hinder(token, &error),
+        }
+    }
+
+    // No connection could be begun for a message. If that was a fault of this machine, it is tried
+    // again: the message waits behind the others.
+    fn hinder(&mut self, token: usize, error: &io::Error)
+        ensures { AreSame (is_there self.old) (is_there self.new) }
+    {
+        match LocalFault::of(error) {
+            Some(fault) => self.put_back(token, fault),
+            None => self.settle(token, Err(ExchangeFault::Refused)),
+        }
+    }
+
+    // A message waits for a connection once more, for that fault of this machine. What it came to
+    // stays as it was, if there is memory.
+    fn put_back(&mut self, token: usize, fault: LocalFault)
+        ensures same { AreSame (is_there self.old) (is_there self.new) }
+    {
+        self.hindrance = Some(fault);
+        if self.queue.push_back(token).is_err() {
+            self.settle(token, Err(ExchangeFault::Memory));
         }
     }
 
@@ -155,6 +201,7 @@ impl Underway {
         requires { btree_map_len self.old.flights + 1 ≤ self.old.most }
         ensures { AreSame (is_there self.old) (is_there self.new) }
     {
+        self.hindrance = None;
         if self.flights.insert(token, flight).is_err() {
             self.settle(token, Err(ExchangeFault::Memory));
         }
@@ -211,7 +258,7 @@ impl Underway {
         }
     }
 
-    // Ends the messages whose time is over.
+    // Ends the messages whose time is over. Only one that has a connection waited for its provider.
     pub(crate) fn end_late(&mut self)
         ensures { AreSame (is_there self.old) (is_there self.new) }
     {
@@ -220,9 +267,20 @@ impl Underway {
             let Some(token) = self.late(from) else {
                 return;
             };
-            self.settle(token, Err(ExchangeFault::Timeout));
+            let fault = self.late_fault(token);
+            self.settle(token, Err(fault));
             from = token;
         }
+    }
+
+    // The fault of a message whose time is over.
+    fn late_fault(&self, token: usize) -> ExchangeFault
+        ensures { result ≡ late_fault (is_begun self.entry.now token) self.entry.now.hindrance }
+    {
+        if self.flights.contains_key(&token) {
+            return ExchangeFault::Timeout;
+        }
+        ExchangeFault::Local(self.hindrance.unwrap_or(LocalFault::Crowd))
     }
 
     // The first token, from one on, of those whose time is over.

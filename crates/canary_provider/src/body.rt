@@ -1,5 +1,5 @@
 //! The body of a message.
-ghost use Rattle.std.specs.Prelude.{◌≡◌, [], Some, codes, false, true, IfOk};
+ghost use Rattle.std.specs.Prelude.{◌≡◌, [], Some, None, codes, false, true, IfOk, option_map};
 ghost use Rattle.json.specs.Find.{as_str};
 ghost use Rattle.json.specs.Print.{print};
 ghost use Rattle.json.specs.Tree.{HasNumbers, json_tokens};
@@ -26,14 +26,37 @@ pub(crate) fn body_of(alloc: Global, value: &Value<'_>, method: Method) -> Resul
     ensures { IfOk result (λ body. IsBody (given_at (codes "body") (value_view value.now))
         (given_at (codes "jsonBody") (value_view value.now)) body.bytes.items body.is_json) }
 {
-    let json = given_at(value, "jsonBody");
-    match given_at(value, "body") {
-        Some(text) if json.is_none() => text_body(alloc, text, method),
-        Some(_) => Err(PlanFault::Refused(ProviderRefusal::TwoBodies)),
-        None => match json {
-            Some(json) => json_body(alloc, json, method),
-            None => Ok(nothing(alloc)),
-        },
+    match given_at(value, "jsonBody") {
+        Some(json) => body_in_json(alloc, given_at(value, "body"), json, method),
+        None => body_in_text(alloc, given_at(value, "body"), method),
+    }
+}
+
+// The body that is JSON; refused if there is a text, too.
+fn body_in_json(
+    alloc: Global,
+    text: Option<&Value<'_>>,
+    json: &Value<'_>,
+    method: Method,
+) -> Result<Body, PlanFault>
+    requires { HasNumbers (value_view json.now) }
+    ensures { IfOk result (λ body. IsBody (option_map (λ v. value_view v.now) text.entry)
+        (Some (value_view json.now)) body.bytes.items body.is_json) }
+{
+    if text.is_some() {
+        return Err(PlanFault::Refused(ProviderRefusal::TwoBodies));
+    }
+    json_body(alloc, json, method)
+}
+
+// The body that is a text, if there is one.
+fn body_in_text(alloc: Global, text: Option<&Value<'_>>, method: Method) -> Result<Body, PlanFault>
+    ensures { IfOk result (λ body. IsBody (option_map (λ v. value_view v.now) text.entry)
+        None body.bytes.items body.is_json) }
+{
+    match text {
+        Some(text) => text_body(alloc, text, method),
+        None => Ok(nothing(alloc)),
     }
 }
 

@@ -1,7 +1,7 @@
 //! Why a provider of a plan is not asked.
 
 /// Why a provider of a plan is not asked.
-#[derive(Clone, Copy, Debug, PartialEq, Eq)]
+#[derive(Clone, Copy)]
 pub enum ProviderRefusal {
     /// It is neither Prometheus nor a service that answers in JSON.
     Kind,
