@@ -11,7 +11,7 @@
 //! never another's file.
 use crate::copying::{Pair, copy_pair};
 use crate::fault::BackupFault;
-use crate::node::{Node, is_kept, own_folder, random};
+use crate::node::{Node, is_kept, own_folder, random, split};
 use std::env::{self, VarError};
 use std::fs::{self, DirBuilder};
 use std::os::unix::fs::DirBuilderExt;
@@ -151,6 +151,15 @@ impl OwnCopy {
     /// Removes the copy and its folder.
     pub fn remove(&self, rt: &HostRuntime) {
         self.folder.remove(rt);
+    }
+}
+
+/// Whether a name stands in this folder, where all links of both folders lead.
+pub fn is_within(rt: &HostRuntime, folder: &str, name: &str) -> bool {
+    let (place, _) = split(name);
+    match fs::metadata(rt, folder) {
+        Ok(found) => Node::of(&found).is_led_to(rt, place),
+        Err(_) => false,
     }
 }
 
