@@ -32,7 +32,7 @@ def names_of_desk(place):
 
 def try_names_of_desk(program, folder):
     """`page` refuses the desk's file, its log and the name of a rollback journal as OUT, by
-    whatever name, before it writes anything."""
+    whatever name, and the file and the log of another desk, before it writes anything."""
     place = folder_in(folder, "names")
     file = os.path.join(place, "desk.db")
     make_desk(program, file)
@@ -52,6 +52,12 @@ def try_names_of_desk(program, folder):
         os.link(os.path.join(place, of), os.path.join(place, "hard"))
         want_refused(["page", "--db", "desk.db", "hard"])
         os.remove(os.path.join(place, "hard"))
+    other = os.path.join(place, "other.db")
+    make_killed_desk(program, other)
+    there = pair(other)
+    for out in ("other.db", "other.db-wal", "around/other.db"):
+        want_refused(["page", "--db", "desk.db", out])
+        expect(f"page on {out}: another desk", pair(other), there)
     os.remove(file + "-wal")
     before = pair(file)
     for out in ("desk.db-wal", "around/desk.db-wal"):

@@ -347,13 +347,13 @@ pub(crate) fn copy_pair(rt: &HostRuntime, from: &Pair, to: &Pair) -> Result<(), 
 
 // Copies the files, and tells whether the log was not begun anew meanwhile.
 fn is_copied_at_once(rt: &HostRuntime, from: &Pair, to: &Pair) -> Result<bool, BackupFault> {
-    let before = header(rt, &from.log)?;
+    let before = header(rt, from.log.as_str())?;
     copy_once(rt, from, to)?;
-    has_header(rt, &from.log, before.as_slice())
+    has_header(rt, from.log.as_str(), before.as_slice())
 }
 
 // Whether the header of the log is still the one that was read before.
-fn has_header(rt: &HostRuntime, log: &String, before: &[u8]) -> Result<bool, BackupFault> {
+fn has_header(rt: &HostRuntime, log: &str, before: &[u8]) -> Result<bool, BackupFault> {
     Ok(header(rt, log)?.as_slice() == before)
 }
 
@@ -402,10 +402,14 @@ fn make_empty(rt: &HostRuntime, name: &str) -> Result<(), BackupFault> {
     }
 }
 
-// The first bytes of a log, as many as its header has; none where there is no log.
-fn header(rt: &HostRuntime, log: &String) -> Result<Vec<u8>, BackupFault> {
+/// The first bytes of a log, or of another file, as many as a log's header has; none if there is no
+/// such file.
+///
+/// # Errors
+/// `File` if it is no file, or cannot be read; `Memory` if an allocation was refused.
+pub(crate) fn header(rt: &HostRuntime, name: &str) -> Result<Vec<u8>, BackupFault> {
     let mut bytes = Vec::new(rt.alloc());
-    let file = match open_regular(rt, log.as_str()) {
+    let file = match open_regular(rt, name) {
         Ok(file) => file,
         Err(error) if error.kind() == ErrorKind::NotFound => return Ok(bytes),
         Err(error) => return Err(file_fault(error.kind())),
