@@ -262,8 +262,8 @@ def make_read_only(place, kind):
         os.chmod(place, 0o555)
 
 
-# The ways in which a desk may be read and not written, and those in which a copy of its file alone
-# may be wrong, or cannot be made.
+# The ways in which a desk may be read and not written, and those in which a copy of it may be
+# wrong, or cannot be made.
 READ_ONLY = ("both files", "the log", "a folder, too", "no log, and none can be made")
 UNREADABLE = {
     "a journal": lambda file: write(file + "-journal", "1"),
@@ -297,8 +297,8 @@ def want_read_only(program, place, other, kind, user):
 
 
 def try_read_only(program, folder):
-    """`status`, `page` and `backup` of a desk that may be read and not written; and what is not read
-    of a copy of the file."""
+    """`status`, `page` and `backup` of a desk that may be read and not written; and desks of which
+    no copy is read."""
     user = OTHER_USER if os.geteuid() == 0 else os.geteuid()
     program = shutil.copy(program, os.path.join(folder, "read-only-program"))
     os.chmod(program, 0o755)
@@ -313,6 +313,7 @@ def try_read_only(program, folder):
             os.chown(name, user, -1)
         if kind in READ_ONLY:
             want_read_only(program, place, other, kind, user)
+            os.chmod(place, 0o755)
             continue
         for name in (file, file + "-wal"):
             os.chmod(name, 0o444)

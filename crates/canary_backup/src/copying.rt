@@ -81,8 +81,8 @@ impl Pair {
         )
     }
 
-    /// Whether the database can be read, and not opened as one, since this process may not write its
-    /// file or its log, or there is no log, and none can be made. This is false if the file has
+    /// Whether the database can be read, and not opened as one, since this process may not write
+    /// its file or its log, or there is no log, and none can be made. This is false if the file has
     /// another hard link, whose log may be another, or a rollback journal beside it: what is read
     /// of its copy may be wrong then.
     ///

@@ -20,13 +20,10 @@ const OWN_STATUS: &str = "/proc/self/status";
 
 const MASK: &str = "\nUmask:";
 
-// The first bytes of a database of SQLite, and of its logs: sums of the latter have the order of
-// bytes that the last one says.
+// The first bytes of a database of SQLite, and of a log of one.
 const DATABASE: &[u8] = b"SQLite format 3\0";
 
-const LOG: &[u8] = b"\x37\x7f\x06\x82";
-
-const OTHER_LOG: &[u8] = b"\x37\x7f\x06\x83";
+const LOG: &[u8] = b"\x37\x7f\x06";
 
 // Where the system keeps links that are not links, but open files.
 const OPEN_FILES: &str = "/proc/";
@@ -133,7 +130,7 @@ fn is_of_database(rt: &HostRuntime, name: &str) -> Result<bool, BackupFault> {
 
 // Whether a file that begins with these bytes is a database, or a log.
 fn begins_database(bytes: &[u8]) -> bool {
-    bytes.starts_with(DATABASE) || bytes.starts_with(LOG) || bytes.starts_with(OTHER_LOG)
+    bytes.starts_with(DATABASE) || bytes.starts_with(LOG)
 }
 
 // Whether this name is a link whose next target is in /proc, as the open files of processes are.

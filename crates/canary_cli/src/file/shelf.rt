@@ -14,9 +14,6 @@ use std::fs;
 // The file that lists the services. No service has its name, since no name has that sign.
 const LIST: &str = "_services";
 
-// The ending of each of their names.
-const ENDING: &str = ".json";
-
 /// The folder, and the desk's own files, which are never written over.
 #[derive(Clone, Copy)]
 pub(crate) struct Shelf<'a> {
@@ -38,13 +35,13 @@ pub(crate) fn look_at_folder(rt: &HostRuntime, folder: &str, out: &str) -> Resul
 
 // Whether a name ends as those of the files in JSON do, and stands in this folder.
 fn is_of_shelf(rt: &HostRuntime, folder: &str, name: &str) -> bool {
-    name.ends_with(ENDING) && is_within(rt, folder, name)
+    name.ends_with(".json") && is_within(rt, folder, name)
 }
 
 impl Shelf<'_> {
     // The name of a file in it.
     fn path(&self, rt: &HostRuntime, name: &str) -> Result<String, AllocError> {
-        format!(in rt.alloc(); "{}/{name}{ENDING}", self.folder)
+        format!(in rt.alloc(); "{}/{name}.json", self.folder)
     }
 
     // Makes a draft of the file of this name.
