@@ -1,5 +1,5 @@
 //! Looking at a desk in a file, also while it serves.
-use crate::file::open::{FileBook, names_of, open_found};
+use crate::file::open::{names_of, open_found};
 use crate::file::progress::ProgressDisplay;
 use crate::file::shelf::{Shelf, fill};
 use canary_backup::copying::Pair;
@@ -49,8 +49,8 @@ pub(crate) fn look<W: Write, F: Write>(
     errors: &mut F,
     is_terminal: bool,
 ) -> Result<String, Fault> {
-    match open_found(rt, file, errors, is_terminal) {
-        Ok(book) => look_at_opened(rt, book, sight, output, errors, is_terminal),
+    match look_once(rt, file, sight, output, errors, is_terminal) {
+        Ok(text) => Ok(text),
         Err(fault) => look_unopened(rt, file, fault, sight, output, errors, is_terminal),
     }
 }
@@ -87,37 +87,40 @@ fn look_at_copy<W: Write, F: Write>(
     is_terminal: bool,
 ) -> Result<String, Fault> {
     let copy = OwnCopy::of(rt, file, "status-copy")?;
-    let looked = look_at_own_copy(rt, &copy, sight, output, errors, is_terminal);
+    let looked = look_once(rt, copy.database(), sight, output, errors, is_terminal);
     copy.remove(rt);
     looked
 }
 
-// The same of a copy. A function of its own, so that the caller removes the copy after any fault.
-fn look_at_own_copy<W: Write, F: Write>(
+// The same of the file itself.
+fn look_once<W: Write, F: Write>(
     rt: &HostRuntime,
-    copy: &OwnCopy,
+    file: &str,
     sight: Sight<'_>,
     output: &mut W,
     errors: &mut F,
     is_terminal: bool,
 ) -> Result<String, Fault> {
-    let book = open_found(rt, copy.database(), errors, is_terminal)?;
-    look_at_opened(rt, book, sight, output, errors, is_terminal)
+    let opened = open_found(rt, file, errors, is_terminal);
+    look_at_opened(rt, opened, sight, output, errors, is_terminal)
 }
 
-// The same of the book in a file that was opened, by a function for any type of store.
-fn look_at_opened<W: Write, F: Write>(
+// The same of a book over any store, if it was opened.
+fn look_at_opened<S: Alter + Drop, W: Write, F: Write>(
     rt: &HostRuntime,
-    book: FileBook,
+    opened: Result<TableBook<S>, Fault>,
     sight: Sight<'_>,
     output: &mut W,
     errors: &mut F,
     is_terminal: bool,
 ) -> Result<String, Fault> {
-    look_at_tables(rt, book, sight, output, errors, is_terminal)
+    match opened {
+        Ok(book) => look_at_tables(rt, book, sight, output, errors, is_terminal),
+        Err(fault) => Err(fault),
+    }
 }
 
-// The same of a book over any store: the text of a status, or a page and no text.
+// The same of an open book: the text of a status, or a page and no text.
 fn look_at_tables<S: Alter + Drop, W: Write, F: Write>(
     rt: &HostRuntime,
     book: TableBook<S>,
