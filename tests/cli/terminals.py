@@ -141,12 +141,19 @@ def try_reading(program, place):
            + ERASED, shown)
     expect(f"{words}: megabytes", sorted(set(found)), [b"0", b"1", b"2"])
     expect(f"{words}: their order", found, sorted(found))
-    words = ["import", "--db", "desk.db", "-"]
-    written, shown = run_showing(program, words, place, content)
-    expect(words, written, refused)
-    found = counts(words, judged(words, shown), rb"canary: (\d+) MB read")
-    expect(f"{words}: megabytes", found, [0, 1, 2])
-    return 2
+    fifo = os.path.join(place, "fifo")
+    os.mkfifo(fifo)
+    for name in ("-", "fifo"):
+        feeding = subprocess.Popen(["cp", os.path.join(place, "long.csv"), fifo])
+        words = ["import", "--db", "desk.db", name]
+        written, shown = run_showing(program, words, place, content)
+        feeding.kill()
+        feeding.wait()
+        expect(words, written, refused)
+        found = counts(words, judged(words, shown), rb"canary: (\d+) MB read")
+        expect(f"{words}: megabytes", found, [0, 1, 2])
+    os.unlink(fifo)
+    return 3
 
 
 def try_missing(program, place):
@@ -210,6 +217,7 @@ def try_faults(program, place):
         (["status", "--db", "text"], b"storage", b"text" + cannot),
         (["backup", "--db", "text", "copy"], b"other-schema", b"text, copy" + no_desk),
         (["import", "--db", "desk.db", "none.csv"], b"file", b"desk.db, none.csv" + unfound),
+        (["import", "--db", "none.db", "."], b"file", b"none.db, ." + unfound),
         (["page", "--db", "desk.db", "no/out"], b"file", b"desk.db, no/out" + unfound),
         (["check", "none.json"], b"file", b"none.json" + unfound),
         (["check", "no\x1b[2J\u202ene"], b"file", b"no\\u001b[2J\\u202ene" + unfound),
@@ -226,6 +234,8 @@ def try_faults(program, place):
                               capture_output=True)
         expect(f"{words}, on no terminal", (done.returncode, without_progress(done.stderr)),
                (1, line))
+    expect("import of a folder: a desk's file", os.path.exists(os.path.join(place, "none.db")),
+           False)
     with open(os.path.join(place, "errors"), "w", encoding="ascii") as errors:
         desk = subprocess.Popen([program, "serve", "--listen", "127.0.0.1:0", "--db", "desk.db"],
                                 cwd=place, stdout=subprocess.PIPE, stderr=errors)

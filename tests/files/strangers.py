@@ -3,8 +3,10 @@ FOLDER. `page`, `backup` and `status` write no file that was there but OUT, what
 the file, and nothing that they write is open to others before it is whole."""
 import os
 import shutil
+import sqlite3
 import subprocess
 import sys
+from contextlib import closing
 
 from conversation import without_progress
 from places import (
@@ -30,7 +32,7 @@ def names_of_desk(place):
 
 def try_names_of_desk(program, folder):
     """`page` refuses the desk's file, its log and the name of a rollback journal as OUT, by
-    whatever name, before it writes anything."""
+    whatever name, and the file and the log of another desk, before it writes anything."""
     place = folder_in(folder, "names")
     file = os.path.join(place, "desk.db")
     make_desk(program, file)
@@ -50,6 +52,12 @@ def try_names_of_desk(program, folder):
         os.link(os.path.join(place, of), os.path.join(place, "hard"))
         want_refused(["page", "--db", "desk.db", "hard"])
         os.remove(os.path.join(place, "hard"))
+    other = os.path.join(place, "other.db")
+    make_killed_desk(program, other)
+    there = pair(other)
+    for out in ("other.db", "other.db-wal", "around/other.db"):
+        want_refused(["page", "--db", "desk.db", out])
+        expect(f"page on {out}: another desk", pair(other), there)
     os.remove(file + "-wal")
     before = pair(file)
     for out in ("desk.db-wal", "around/desk.db-wal"):
@@ -139,16 +147,17 @@ def try_modes(program, folder):
 
 
 def try_modes_of_backups(program, folder):
-    """A copy may be read by those who may read the desk's file, and so may its log."""
+    """A copy may be read by those who may read the desk's file, and so may its log. Its owner may
+    write both."""
     place = folder_in(folder, "backup-modes")
     file, copy = os.path.join(place, "desk.db"), os.path.join(place, "copy")
     make_desk(program, file)
-    for mode in (0o600, 0o640, 0o644):
+    for mode in (0o600, 0o640, 0o644, 0o400, 0o444):
         for name in (file, file + "-wal"):
             os.chmod(name, mode)
         expect("backup", told([program, "backup", "--db", file, copy], umask=0o022), DONE)
         expect(f"backup of files of mode {mode:o}", [mode_of(copy), mode_of(copy + "-wal")],
-               [oct(mode)] * 2)
+               [oct(mode | 0o600)] * 2)
         os.remove(copy)
         os.remove(copy + "-wal")
 
@@ -235,11 +244,93 @@ def try_folder_that_is_shut(program, folder):
     want_names("status: what is left", place, ["desk[.]db", "desk[.]db-wal"])
 
 
+def make_read_only(place, kind):
+    """Makes the desk of this folder one that may be read and not written, in this way."""
+    file, log = (os.path.join(place, name) for name in ("desk.db", "desk.db-wal"))
+    if kind in ("both files", "a folder, too"):
+        os.chmod(file, 0o444)
+        os.chmod(log, 0o444)
+    if kind == "the log":
+        os.chmod(log, 0o444)
+    if kind == "no log, and none can be made":
+        with closing(sqlite3.connect(file)) as desk, closing(sqlite3.connect(file + "-1")) as one:
+            desk.backup(one)
+        os.replace(file + "-1", file)
+        for name in set(os.listdir(place)) - {"desk.db"}:
+            os.remove(os.path.join(place, name))
+    if kind in ("a folder, too", "no log, and none can be made"):
+        os.chmod(place, 0o555)
+
+
+# The ways in which a desk may be read and not written, and those in which a copy of it may be
+# wrong, or cannot be made.
+READ_ONLY = ("both files", "the log", "a folder, too", "no log, and none can be made")
+UNREADABLE = {
+    "a journal": lambda file: write(file + "-journal", "1"),
+    "a second name": lambda file: os.link(file, file + "-too"),
+    "a file of others": lambda file: os.chmod(file, 0o200),
+    "a log of others": lambda file: os.chmod(file + "-wal", 0o200)}
+
+
+def looks(file, out, copy):
+    """The programs that read a desk's file, also one that may not be written."""
+    return (["status", "--db", file], ["status", "--json", "--db", file],
+            ["page", "--db", file, out], ["backup", "--db", file, copy])
+
+
+def want_read_only(program, place, other, kind, user):
+    """What `status`, `page` and `backup` make of such a desk, and that they leave it as it is."""
+    file = os.path.join(place, "desk.db")
+    there = dict(os.environ, TMPDIR=other, XDG_RUNTIME_DIR="")
+    out, copy = os.path.join(other, "out"), os.path.join(other, "copy")
+    before = (pair(file), sorted(os.listdir(place)))
+    for words in looks(file, out, copy):
+        status, output, errors = told([program, *words], env=there, user=user)
+        expect(f"{words}: {kind}", (status, errors, b"web" in output),
+               (0, b"", words[0] == "status"))
+    expect(f"a page: {kind}", b"web" in bytes_of(out), True)
+    want_names(f"what is left: {kind}", other, ["copy", "copy-wal", "out"])
+    expect(f"history: {kind}", told([program, "history", "--db", file, "web"], user=user),
+           (1, b"", b"canary: storage\n"))
+    expect(f"the desk: {kind}", (pair(file), sorted(os.listdir(place))), before)
+    want_started(f"the copy: {kind}", program, copy)
+
+
+def try_read_only(program, folder):
+    """`status`, `page` and `backup` of a desk that may be read and not written; and desks of which
+    no copy is read."""
+    user = OTHER_USER if os.geteuid() == 0 else os.geteuid()
+    program = shutil.copy(program, os.path.join(folder, "read-only-program"))
+    os.chmod(program, 0o755)
+    os.chmod(folder, 0o755)
+    for number, kind in enumerate((*READ_ONLY, *UNREADABLE)):
+        place = folder_in(folder, f"read-only-{number}", 0o755)
+        other = folder_in(folder, f"read-only-out-{number}", 0o1777)
+        file = os.path.join(place, "desk.db")
+        make_desk(program, file)
+        make_read_only(place, kind)
+        for name in (place, *(os.path.join(place, name) for name in os.listdir(place))):
+            os.chown(name, user, -1)
+        if kind in READ_ONLY:
+            want_read_only(program, place, other, kind, user)
+            os.chmod(place, 0o755)
+            continue
+        for name in (file, file + "-wal"):
+            os.chmod(name, 0o444)
+        UNREADABLE[kind](file)
+        there = dict(os.environ, TMPDIR=other, XDG_RUNTIME_DIR="")
+        for words in (["status", "--db", file], ["page", "--db", file, os.path.join(other, "out")]):
+            expect(f"{words}: {kind}", told([program, *words], env=there, user=user),
+                   (1, b"", b"canary: storage\n"))
+        want_names(f"what is left: {kind}", other, [])
+
+
 def main():
     program, folder, *names = sys.argv[1:]
     try:
         for part in (try_names_of_desk, try_planted, try_kinds, try_modes, try_modes_of_backups,
-                     try_links_to_desks, try_at_once, try_odd_logs, try_folder_that_is_shut):
+                     try_links_to_desks, try_at_once, try_odd_logs, try_folder_that_is_shut,
+                     try_read_only):
             if not names or part.__name__ in names:
                 part(os.path.realpath(program), folder)
     except (Wrong, subprocess.TimeoutExpired) as fault:

@@ -377,6 +377,33 @@ def try_folders(program, folder):
     os.chmod(place, 0o700)
 
 
+def try_page_among(program, folder):
+    """A page that would have the name of a file beside it is refused, by whatever name, before
+    anything is written. Another name in that folder is a page's."""
+    place, _, words = places_of_names(folder)
+    linked, desk = os.path.join(folder, "linked-names"), words[:4]
+    os.symlink(place, linked)
+    there = {name: read(os.path.join(place, name)) for name in os.listdir(place)}
+    want("a page among files: the files", sorted(there),
+         ["_services.json", "stranger.json", "web.json"])
+    for out in (*(os.path.join(place, name) for name in (*there, "none.json", ".json")),
+                os.path.join(linked, "web.json"), os.path.join(place, ".", "web.json"),
+                os.path.join(place, "..", "linked-names", "_services.json")):
+        want(f"a page among files: {out}", tried(program, *desk, out), REFUSED)
+        want(f"the same by a link: {out}", tried(program, *desk[:3], linked, out), REFUSED)
+    want("a page among files: web.json", tried(program, *desk, "web.json", cwd=place), REFUSED)
+    want("a page among files: after", {name: read(os.path.join(place, name))
+                                       for name in os.listdir(place)}, there)
+    page = os.path.join(place, "web.html")
+    want("a page beside files", tried(program, *desk, page), DONE)
+    want("a page beside files: it", (read(page)[-8:], value_in(os.path.join(place, "web.json"))[
+        "service"]), (b"</html>\n", "web"))
+    os.unlink(page)
+    other = os.path.join(folder, "elsewhere.json")
+    want("a page with that ending elsewhere", tried(program, *desk, other), DONE)
+    want("a page with that ending elsewhere: it", read(other)[-8:], b"</html>\n")
+
+
 def try_full(program, folder):
     """A disk that is full in the midst of a file: the file is as it was, and nothing is left."""
     file, place = os.path.join(folder, "thinned.db"), folder_in(folder, "full")
@@ -448,6 +475,7 @@ def try_all(program, folder, make_desk):
     try_pages(program, folder, make_desk)
     try_refused(program, folder)
     try_replaced(program, folder)
+    try_page_among(program, folder)
     try_folders(program, folder)
     try_full(program, folder)
     try_kills(program, folder)

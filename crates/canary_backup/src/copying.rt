@@ -16,7 +16,7 @@ ghost use Rattle.canary_backup.specs.declared.fault.BackupFault.TheVariants as f
 
 use crate::fault::BackupFault;
 use crate::folder::OwnFolder;
-use crate::node::{Node, open_regular, split, sync_folder};
+use crate::node::{Node, is_denied, open_regular, split, sync_folder, takes_no_file};
 use std::alloc::Global;
 use std::fs::{self, File, OpenFile, OpenOptions};
 use std::io::{self, ErrorKind, Read};
@@ -30,6 +30,9 @@ const MAX_TRIES: u32 = 100;
 
 // Who may read and write a file, of its mode.
 const PERMISSION_BITS: u32 = 0o777;
+
+// That its owner may, of that.
+const OWNER_ALONE: u32 = 0o600;
 
 /// The two files of a database: the database's own, and the log beside it.
 #[derive(Drop)]
@@ -76,6 +79,32 @@ impl Pair {
                 || is_same(rt, self.log.as_str(), name, real.as_str())
                 || is_same(rt, journal.as_str(), name, real.as_str()),
         )
+    }
+
+    /// Whether the database can be read, and not opened as one, since this process may not write
+    /// its file or its log, or there is no log, and none can be made. This is false if the file has
+    /// another hard link, whose log may be another, or a rollback journal beside it: what is read
+    /// of its copy may be wrong then.
+    ///
+    /// # Errors
+    /// `Memory` if an allocation was refused.
+    pub fn is_for_reading(&self, rt: &HostRuntime) -> Result<bool, BackupFault> {
+        let database = self.database.as_str();
+        let journal = format!(in rt.alloc(); "{database}-journal")?;
+        let is_whole = has_one_name(rt, database) && is_missing(rt, journal.as_str());
+        Ok(is_whole && self.is_readable(rt) && self.is_shut(rt))
+    }
+
+    // Whether its file can be read, and its log, if there is one.
+    fn is_readable(&self, rt: &HostRuntime) -> bool {
+        let (database, log) = (self.database.as_str(), self.log.as_str());
+        can_be_read(rt, database) && (is_missing(rt, log) || can_be_read(rt, log))
+    }
+
+    // Whether its file or its log may not be written, or there is no log, and none can be made.
+    fn is_shut(&self, rt: &HostRuntime) -> bool {
+        let (database, log) = (self.database.as_str(), self.log.as_str());
+        is_denied(rt, database) || is_denied(rt, log) || is_unmakeable(rt, log)
     }
 
     /// The name of the database's own file.
@@ -174,6 +203,25 @@ fn is_missing(rt: &HostRuntime, name: &str) -> bool {
         Ok(_) => false,
         Err(error) => error.kind() == ErrorKind::NotFound,
     }
+}
+
+// Whether this name is that of a file, the only one.
+fn has_one_name(rt: &HostRuntime, name: &str) -> bool {
+    match fs::symlink_metadata(rt, name) {
+        Ok(found) => found.is_file() && found.nlink() == 1,
+        Err(_) => false,
+    }
+}
+
+// Whether this is the name of a file that this process may read.
+fn can_be_read(rt: &HostRuntime, name: &str) -> bool {
+    open_regular(rt, name).is_ok()
+}
+
+// Whether nothing has this name, and this process can make no file there.
+fn is_unmakeable(rt: &HostRuntime, name: &str) -> bool {
+    let (folder, _) = split(name);
+    is_missing(rt, name) && takes_no_file(rt, folder)
 }
 
 // Has the bytes of the file of this name on the disk.
@@ -299,13 +347,13 @@ pub(crate) fn copy_pair(rt: &HostRuntime, from: &Pair, to: &Pair) -> Result<(), 
 
 // Copies the files, and tells whether the log was not begun anew meanwhile.
 fn is_copied_at_once(rt: &HostRuntime, from: &Pair, to: &Pair) -> Result<bool, BackupFault> {
-    let before = header(rt, &from.log)?;
+    let before = header(rt, from.log.as_str())?;
     copy_once(rt, from, to)?;
-    has_header(rt, &from.log, before.as_slice())
+    has_header(rt, from.log.as_str(), before.as_slice())
 }
 
 // Whether the header of the log is still the one that was read before.
-fn has_header(rt: &HostRuntime, log: &String, before: &[u8]) -> Result<bool, BackupFault> {
+fn has_header(rt: &HostRuntime, log: &str, before: &[u8]) -> Result<bool, BackupFault> {
     Ok(header(rt, log)?.as_slice() == before)
 }
 
@@ -318,7 +366,8 @@ fn copy_once(rt: &HostRuntime, from: &Pair, to: &Pair) -> Result<(), BackupFault
     copy_file(rt, from.log.as_str(), to.log.as_str())
 }
 
-// Copies a file to one that is new, and that just those may read who may read the first.
+// Copies a file to one that is new, and that just those may read who may read the first, and its
+// owner, who may write it too: a database is opened to be written.
 fn copy_file(rt: &HostRuntime, from: &str, to: &str) -> Result<(), BackupFault> {
     match copy_bytes(rt, from, to) {
         Ok(()) => Ok(()),
@@ -326,11 +375,12 @@ fn copy_file(rt: &HostRuntime, from: &str, to: &str) -> Result<(), BackupFault> 
     }
 }
 
-// Copies the bytes of a regular file to a new one, with at most the permissions of the first.
+// Copies the bytes of a regular file to a new one, which has the permissions of the first, as far
+// as the process's mask leaves them, and those of its owner.
 fn copy_bytes(rt: &HostRuntime, from: &str, to: &str) -> io::Result<()> {
     let mut source = open_regular(rt, from)?;
     let mode = source.metadata()?.mode() & PERMISSION_BITS;
-    let mut copy = new_file(rt, to, mode)?;
+    let mut copy = new_file(rt, to, mode | OWNER_ALONE)?;
     io::copy(&mut source, &mut copy)?;
     Ok(())
 }
@@ -346,16 +396,20 @@ fn new_file(rt: &HostRuntime, name: &str, mode: u32) -> io::Result<File> {
 
 // Makes an empty file that its owner alone may read and write, as the copy of a missing log.
 fn make_empty(rt: &HostRuntime, name: &str) -> Result<(), BackupFault> {
-    match new_file(rt, name, 0o600) {
+    match new_file(rt, name, OWNER_ALONE) {
         Ok(_) => Ok(()),
         Err(error) => Err(file_fault(error.kind())),
     }
 }
 
-// The first bytes of a log, as many as its header has; none where there is no log.
-fn header(rt: &HostRuntime, log: &String) -> Result<Vec<u8>, BackupFault> {
+/// The first bytes of a log, or of another file, as many as a log's header has; none if there is no
+/// such file.
+///
+/// # Errors
+/// `File` if it is no file, or cannot be read; `Memory` if an allocation was refused.
+pub(crate) fn header(rt: &HostRuntime, name: &str) -> Result<Vec<u8>, BackupFault> {
     let mut bytes = Vec::new(rt.alloc());
-    let file = match open_regular(rt, log.as_str()) {
+    let file = match open_regular(rt, name) {
         Ok(file) => file,
         Err(error) if error.kind() == ErrorKind::NotFound => return Ok(bytes),
         Err(error) => return Err(file_fault(error.kind())),

@@ -1,5 +1,5 @@
 //! A file that has its name once it is whole.
-use crate::copying::file_fault;
+use crate::copying::{file_fault, header};
 use crate::fault::BackupFault;
 use crate::node::{Node, is_own, random, sync_folder};
 use std::fs::{self, File, OpenOptions, Permissions};
@@ -20,6 +20,11 @@ const OWN_STATUS: &str = "/proc/self/status";
 
 const MASK: &str = "\nUmask:";
 
+// The first bytes of a database of SQLite, and of a log of one.
+const DATABASE: &[u8] = b"SQLite format 3\0";
+
+const LOG: &[u8] = b"\x37\x7f\x06";
+
 // Where the system keeps links that are not links, but open files.
 const OPEN_FILES: &str = "/proc/";
 
@@ -37,7 +42,8 @@ impl Draft {
     ///
     /// # Errors
     /// `File` if something other than a file stands at `to`, or a link that leads to one or to an
-    /// open file of a process (/dev/stdout), or if no file can be made beside it; `Memory` if an
+    /// open file of a process (/dev/stdout), if a database of SQLite or a log of one stands there,
+    /// which may be another desk's, or if no file can be made beside it; `Memory` if an
     /// allocation was refused. Nothing is made then.
     pub fn of(rt: &HostRuntime, to: &str) -> Result<Draft, BackupFault> {
         if !may_be_replaced(rt, to)? {
@@ -100,12 +106,31 @@ impl Draft {
     }
 }
 
-// Whether nothing stands at this name, or a file, or a link that leads to one of these.
+// Whether nothing stands at this name, or a file that is no database, or a link that leads to a
+// file or to nothing.
 fn may_be_replaced(rt: &HostRuntime, name: &str) -> Result<bool, BackupFault> {
     match fs::metadata(rt, name) {
-        Ok(found) => Ok(found.is_file() && !leads_to_open_file(rt, name)?),
+        Ok(found) if found.is_file() => {
+            Ok(!leads_to_open_file(rt, name)? && !is_of_database(rt, name)?)
+        }
+        Ok(_) => Ok(false),
         Err(error) => Ok(error.kind() == io::ErrorKind::NotFound),
     }
+}
+
+// Whether the file of this name begins as a database of SQLite does, or as a log of one, as far as
+// it can be read. A link to one is replaced, and not the file.
+fn is_of_database(rt: &HostRuntime, name: &str) -> Result<bool, BackupFault> {
+    match header(rt, name) {
+        Ok(bytes) => Ok(begins_database(bytes.as_slice())),
+        Err(BackupFault::Memory) => Err(BackupFault::Memory),
+        Err(_) => Ok(false),
+    }
+}
+
+// Whether a file that begins with these bytes is a database, or a log.
+fn begins_database(bytes: &[u8]) -> bool {
+    bytes.starts_with(DATABASE) || bytes.starts_with(LOG)
 }
 
 // Whether this name is a link whose next target is in /proc, as the open files of processes are.

@@ -11,7 +11,7 @@
 //! never another's file.
 use crate::copying::{Pair, copy_pair};
 use crate::fault::BackupFault;
-use crate::node::{Node, is_kept, own_folder, random};
+use crate::node::{Node, is_kept, own_folder, random, split};
 use std::env::{self, VarError};
 use std::fs::{self, DirBuilder};
 use std::os::unix::fs::DirBuilderExt;
@@ -120,12 +120,7 @@ impl OwnCopy {
     /// As `beside`.
     pub fn of(rt: &HostRuntime, file: &str, word: &str) -> Result<OwnCopy, BackupFault> {
         let from = Pair::found(rt, file)?;
-        let runtime = place_of(rt, "XDG_RUNTIME_DIR", "")?;
-        if let Some(copy) = copied_within(rt, &from, runtime.as_str(), word)? {
-            return Ok(copy);
-        }
-        let temporary = place_of(rt, "TMPDIR", TEMPORARY)?;
-        match copied_within(rt, &from, temporary.as_str(), word)? {
+        match copied_for_now(rt, &from, word)? {
             Some(copy) => Ok(copy),
             None => OwnCopy::beside(rt, file, word),
         }
@@ -152,6 +147,40 @@ impl OwnCopy {
     pub fn remove(&self, rt: &HostRuntime) {
         self.folder.remove(rt);
     }
+}
+
+/// Whether a name stands in this folder, where all links of both folders lead.
+pub fn is_within(rt: &HostRuntime, folder: &str, name: &str) -> bool {
+    let (place, _) = split(name);
+    match fs::metadata(rt, folder) {
+        Ok(found) => Node::of(&found).is_led_to(rt, place),
+        Err(_) => false,
+    }
+}
+
+// A copy where files stand for a while; none if there is no such place.
+fn copied_for_now(
+    rt: &HostRuntime,
+    from: &Pair,
+    word: &str,
+) -> Result<Option<OwnCopy>, BackupFault> {
+    match copied_in(rt, from, "XDG_RUNTIME_DIR", "", word)? {
+        Some(copy) => Ok(Some(copy)),
+        None => copied_in(rt, from, "TMPDIR", TEMPORARY, word),
+    }
+}
+
+// A copy in a folder of the place that a variable names, or of another if it is not set; none if
+// others may change the place, or it has no room.
+fn copied_in(
+    rt: &HostRuntime,
+    from: &Pair,
+    variable: &str,
+    other: &str,
+    word: &str,
+) -> Result<Option<OwnCopy>, BackupFault> {
+    let place = place_of(rt, variable, other)?;
+    copied_within(rt, from, place.as_str(), word)
 }
 
 // A copy in a folder of this place; none if others may change the place, or it has no room.

@@ -1,9 +1,9 @@
 //! Files by what they are, and not by their names alone: whoever may write to a folder may put
 //! another file, or a link, under each name in it.
-ghost use Rattle.std.specs.Prelude.{◌≡◌, ◌↔◌, IsTrue, bit_and};
+ghost use Rattle.std.specs.Prelude.{◌≡◌, ◌↔◌, IsTrue, bit_and, false};
 
 use crate::fault::BackupFault;
-use std::fs::{self, File, Metadata};
+use std::fs::{self, File, Metadata, OpenOptions};
 use std::hash::{BuildHasher, RandomState};
 use std::io::{self, ErrorKind};
 use std::os::unix::fs::MetadataExt;
@@ -16,6 +16,9 @@ const OTHERS_ENTER: u32 = 0o077;
 
 // That only its owner may remove or rename a file of the folder, of its mode.
 const STICKY: u32 = 0o1000;
+
+// That a folder's owner may write it, of its mode.
+const OWNER_WRITES: u32 = 0o200;
 
 // The owner of the system's own folders.
 const ROOT: u32 = 0;
@@ -112,6 +115,47 @@ pub(crate) fn is_kept(rt: &HostRuntime, name: &str) -> bool {
             found.is_dir() && is_trusted && keeps_names(found.mode())
         }
         Err(_) => false,
+    }
+}
+
+/// Whether the regular file of this name may not be written, as the system says when it is opened
+/// for that: it is read-only, or this user may not. Nothing of it is changed.
+pub(crate) fn is_denied(rt: &HostRuntime, name: &str) -> bool {
+    match fs::symlink_metadata(rt, name) {
+        Ok(found) if found.is_file() => is_denial(OpenOptions::new().write(true).open(rt, name)),
+        _ => false,
+    }
+}
+
+// Whether a file was not opened since that is not allowed.
+fn is_denial(opened: io::Result<File>) -> bool {
+    match opened {
+        Ok(_) => false,
+        Err(error) => matches!(
+            error.kind(),
+            ErrorKind::PermissionDenied | ErrorKind::ReadOnlyFilesystem
+        ),
+    }
+}
+
+/// Whether by its mode this user may make no file in the folder of this name.
+pub(crate) fn takes_no_file(rt: &HostRuntime, name: &str) -> bool {
+    match fs::metadata(rt, name) {
+        Ok(found) => libc::geteuid() != ROOT && is_shut_to(found.mode(), is_own(&found)),
+        Err(_) => false,
+    }
+}
+
+/// Whether nobody of those may write a folder of this mode to whom this user belongs: its owner, or
+/// all others.
+pub(crate) fn is_shut_to(mode: u32, is_owner: bool) -> bool
+    ensures owner { IsTrue is_owner → (IsTrue result ↔ (bit_and mode OWNER_WRITES ≡ 0)) }
+    ensures others { is_owner ≡ false → (IsTrue result ↔ (bit_and mode OTHERS_WRITE ≡ 0)) }
+{
+    if is_owner {
+        mode & OWNER_WRITES == 0
+    } else {
+        mode & OTHERS_WRITE == 0
     }
 }
 

@@ -170,16 +170,50 @@ fn split_at_kept(copies: &[String], keep: u64) -> Option<(&[String], &str)> {
 // The names of the copies in a folder up to this one, the oldest first.
 fn copies_until(rt: &HostRuntime, folder: &str, newest: &str) -> Result<Vec<String>, BackupFault> {
     let mut names = Vec::new(rt.alloc());
-    let entries = listed(fs::read_dir(rt, folder))?;
-    for entry in entries {
-        if let Some(entry) = known(entry)?
-            && is_copy_until(rt, &entry, newest)?
-        {
-            keep_name(&mut names, rt.alloc(), entry.file_name())?;
-        }
-    }
+    list_copies(rt, folder, newest, &mut names)?;
     names.sort()?;
     Ok(names)
+}
+
+// Adds the names of these copies, in any order.
+fn list_copies(
+    rt: &HostRuntime,
+    folder: &str,
+    newest: &str,
+    names: &mut Vec<String>,
+) -> Result<(), BackupFault> {
+    let entries = listed(fs::read_dir(rt, folder))?;
+    for entry in entries {
+        note_entry(rt, entry, newest, names)?;
+    }
+    Ok(())
+}
+
+// Adds the name of an entry of the folder, if it is such a copy.
+fn note_entry(
+    rt: &HostRuntime,
+    entry: io::Result<DirEntry>,
+    newest: &str,
+    names: &mut Vec<String>,
+) -> Result<(), BackupFault> {
+    let found = known(entry)?;
+    match &found {
+        Some(entry) => note_copy(rt, entry, newest, names),
+        None => Ok(()),
+    }
+}
+
+// The same of an entry whose name is known.
+fn note_copy(
+    rt: &HostRuntime,
+    entry: &DirEntry,
+    newest: &str,
+    names: &mut Vec<String>,
+) -> Result<(), BackupFault> {
+    if is_copy_until(rt, entry, newest)? {
+        keep_name(names, rt.alloc(), entry.file_name())?;
+    }
+    Ok(())
 }
 
 // Adds a copy of this name, since the entry that has it goes.

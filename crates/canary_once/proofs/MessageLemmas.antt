@@ -153,6 +153,7 @@ holds_of goes p q xs went = record {
   each = went.each;
   moments = went.moments;
   honest = went.honest;
+  in_memory = went.in_memory;
   sure = went.sure;
   sound = went.sound;
   answers = λ h. (handled_are goes p.book.contents q.book.contents xs (went.handled h)).0;

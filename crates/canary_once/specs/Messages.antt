@@ -79,6 +79,7 @@ pub record AnsweredInOrder {M R : Type 0} (Is : Exchange M R → Type 0) (old ne
   pub moments : (moment_at : ℕ → ℕ) → old.clock moment_at
       → AreFirst moment_at (moments_of xs) × new.clock (λ k. moment_at (k + length xs))
   pub honest : new.book.is_honest → old.book.is_honest
+  pub in_memory : StaysInMemory old.book new.book
   pub sure : (new.book.is_sure ≡ old.book.is_sure)
       × AllByRecursion (λ x. IsSureDisposition old.book.is_sure x.disposition) xs
   pub sound : new.book.is_honest → AreSoundContents old.book.contents

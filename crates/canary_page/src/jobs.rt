@@ -98,20 +98,26 @@ pub(crate) struct PageSetup<'a> {
 // The parts of the page of these services.
 pub(crate) fn jobs_of(alloc: Global, placed: &[PlacedService]) -> Result<Vec<Job>, Memory> {
     let mut jobs = Vec::new(alloc);
+    push_page(&mut jobs, placed)?;
+    Ok(jobs)
+}
+
+// Adds the parts of the page of these services.
+fn push_page(jobs: &mut Vec<Job>, placed: &[PlacedService]) -> Result<(), Memory> {
     jobs.push(Job::Head)?;
     if placed.len() > MAX_WITHOUT_INDEX {
-        push_index(&mut jobs, placed)?;
+        push_index(jobs, placed)?;
     }
     jobs.push(Job::Waiting)?;
-    push_cards(&mut jobs, placed, &WAITING)?;
+    push_cards(jobs, placed, &WAITING)?;
     jobs.push(Job::Going)?;
-    push_cards(&mut jobs, placed, &[AttentionLevel::Goes])?;
+    push_cards(jobs, placed, &[AttentionLevel::Goes])?;
     jobs.push(Job::Done)?;
     if count_standing(placed, AttentionLevel::Done) > 0 {
-        push_table(&mut jobs, placed)?;
+        push_table(jobs, placed)?;
     }
     jobs.push(Job::Foot)?;
-    Ok(jobs)
+    Ok(())
 }
 
 // The links to those that wait for somebody stand first.

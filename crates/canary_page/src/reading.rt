@@ -86,11 +86,9 @@ pub(crate) fn shown_of<B: Book>(
 ) -> Result<ShownService, PageFault>
     ensures { Stays (B.state book.old) (B.state book.new) }
 {
-    let Passed { service, effects } = passed;
-    let now = now.max(service.last());
-    let lines = lines_of(book, name, effects.as_slice())?;
-    let attempts = drawn_attempts(alloc, service.state(), lines.as_slice(), now)?;
-    let runs = runs_of(alloc, book, name, &attempts, effects.as_slice())?;
+    let now = now.max(passed.service.last());
+    let (lines, attempts, runs) = past_of(alloc, book, name, &passed, now)?;
+    let Passed { service, .. } = passed;
     Ok(ShownService {
         service,
         now,
@@ -98,6 +96,24 @@ pub(crate) fn shown_of<B: Book>(
         attempts,
         runs,
     })
+}
+
+// The history of a service that was passed to a moment, the attempts of which runs are drawn, and
+// these runs.
+fn past_of<B: Book>(
+    alloc: Global,
+    book: &mut B,
+    name: &Name,
+    passed: &Passed,
+    now: Moment,
+) -> Result<(Vec<Line>, Attempts, Vec<ShownRun>), PageFault>
+    ensures { Stays (B.state book.old) (B.state book.new) }
+{
+    let effects = passed.effects.as_slice();
+    let lines = lines_of(book, name, effects)?;
+    let attempts = drawn_attempts(alloc, passed.service.state(), lines.as_slice(), now)?;
+    let runs = runs_of(alloc, book, name, &attempts, effects)?;
+    Ok((lines, attempts, runs))
 }
 
 // The runs of these attempts, with their measurements.

@@ -10,32 +10,37 @@ use canary_metric::verdict::is_completed;
 use canary_plan::analysis_parts::Revision;
 use canary_release::runs::OpenRun;
 use canary_release::service::Service;
-use std::alloc::Global;
+use std::alloc::{AllocError, Global};
 
 // Adds the line of a service.
 pub(crate) fn add_value(alloc: Global, text: &mut String, service: &Service) -> Result<(), Memory> {
     let name = service.name();
-    text.push_str(format!(in alloc; "{{\"name\":\"{name}\",\"runs\":[")?.as_str())?;
+    put(text, format!(in alloc; "{{\"name\":\"{name}\",\"runs\":["))?;
     for (place, run) in service.open_runs().iter().enumerate() {
         add_comma(text, place)?;
         add_run(alloc, text, run)?;
     }
-    text.push_str(front(alloc, service)?.as_str())?;
-    text.push_str(back(alloc, service)?.as_str())?;
+    put(text, front(alloc, service))?;
+    put(text, back(alloc, service))
+}
+
+// Adds a text, unless there was no memory to make it.
+fn put(text: &mut String, made: Result<String, AllocError>) -> Result<(), Memory> {
+    text.push_str(made?.as_str())?;
     Ok(())
 }
 
 // What a line has after its runs.
-fn front(alloc: Global, service: &Service) -> Result<String, Memory> {
+fn front(alloc: Global, service: &Service) -> Result<String, AllocError> {
     let (stable, status, step) = (service.stable(), service.status().text(), service.step());
-    Ok(format!(in alloc; "],\"stable\":\"{stable}\",\"status\":\"{status}\",\"step\":{step}")?)
+    format!(in alloc; "],\"stable\":\"{stable}\",\"status\":\"{status}\",\"step\":{step}")
 }
 
 // The rest of a line, from the number of steps on, with the newline that ends it.
-fn back(alloc: Global, service: &Service) -> Result<String, Memory> {
+fn back(alloc: Global, service: &Service) -> Result<String, AllocError> {
     let steps = service.strategy().steps().len();
     let (version, weight) = (service.version(), service.weight());
-    Ok(format!(in alloc; ",\"steps\":{steps},\"version\":\"{version}\",\"weight\":{weight}}}\n")?)
+    format!(in alloc; ",\"steps\":{steps},\"version\":\"{version}\",\"weight\":{weight}}}\n")
 }
 
 // Adds a comma, unless the place is 0: nothing comes before the first item of a list.
@@ -54,7 +59,7 @@ fn add_run(alloc: Global, text: &mut String, run: &OpenRun) -> Result<(), Memory
         add_comma(text, place)?;
         add_metric(alloc, text, run, metric, tally)?;
     }
-    text.push_str(number_and_step(alloc, run.number, run.step)?.as_str())?;
+    put(text, number_and_step(alloc, run.number, run.step))?;
     for (place, revision) in run.analysis.revisions().iter().enumerate() {
         add_comma(text, place)?;
         add_template(alloc, text, *revision)?;
@@ -64,19 +69,20 @@ fn add_run(alloc: Global, text: &mut String, run: &OpenRun) -> Result<(), Memory
 }
 
 // The step is null in a run of the background.
-fn number_and_step(alloc: Global, run: u32, step: Option<u32>) -> Result<String, Memory> {
+fn number_and_step(alloc: Global, run: u32, step: Option<u32>) -> Result<String, AllocError> {
     match step {
-        Some(step) => Ok(format!(in alloc; "],\"run\":{run},\"step\":{step},\"templates\":[")?),
-        None => Ok(format!(in alloc; "],\"run\":{run},\"step\":null,\"templates\":[")?),
+        Some(step) => format!(in alloc; "],\"run\":{run},\"step\":{step},\"templates\":["),
+        None => format!(in alloc; "],\"run\":{run},\"step\":null,\"templates\":["),
     }
 }
 
 // Adds the object of a template: its name, and the number of the revision that the run is bound to.
 fn add_template(alloc: Global, text: &mut String, revision: Revision) -> Result<(), Memory> {
     let (template, number) = (revision.template, revision.number);
-    let value = format!(in alloc; "{{\"name\":\"{template}\",\"revision\":{number}}}")?;
-    text.push_str(value.as_str())?;
-    Ok(())
+    put(
+        text,
+        format!(in alloc; "{{\"name\":\"{template}\",\"revision\":{number}}}"),
+    )
 }
 
 // Adds the object of a metric of an open run: how many are counted, when it is due, and its phase.
@@ -89,14 +95,16 @@ fn add_metric(
 ) -> Result<(), Memory> {
     let phase = tally.phase(metric, false);
     let counted = tally.counted();
-    text.push_str(format!(in alloc; "{{\"counted\":{counted},\"due\":")?.as_str())?;
+    put(text, format!(in alloc; "{{\"counted\":{counted},\"due\":"))?;
     add_due(text, tally.due(metric, run.started), phase)?;
     let name = metric.name();
-    text.push_str(format!(in alloc; ",\"name\":\"{name}\",\"passAfter\":")?.as_str())?;
-    text.push_str(passes(alloc, metric.pass_after(), tally.passes())?.as_str())?;
+    put(
+        text,
+        format!(in alloc; ",\"name\":\"{name}\",\"passAfter\":"),
+    )?;
+    put(text, passes(alloc, metric.pass_after(), tally.passes()))?;
     let phase = phase.text();
-    text.push_str(format!(in alloc; "\"phase\":\"{phase}\"}}")?.as_str())?;
-    Ok(())
+    put(text, format!(in alloc; "\"phase\":\"{phase}\"}}"))
 }
 
 // When the next measurement is due; null if none is wanted.
@@ -116,9 +124,9 @@ fn add_moment(text: &mut String, moment: Moment) -> Result<(), Memory> {
 }
 
 // The value of `passAfter`, null for a metric without it, then the member `passes` and a comma.
-fn passes(alloc: Global, wanted: Option<u32>, passes: u32) -> Result<String, Memory> {
+fn passes(alloc: Global, wanted: Option<u32>, passes: u32) -> Result<String, AllocError> {
     match wanted {
-        Some(wanted) => Ok(format!(in alloc; "{wanted},\"passes\":{passes},")?),
-        None => Ok(format!(in alloc; "null,\"passes\":{passes},")?),
+        Some(wanted) => format!(in alloc; "{wanted},\"passes\":{passes},"),
+        None => format!(in alloc; "null,\"passes\":{passes},"),
     }
 }

@@ -125,17 +125,47 @@ fn with_table(text: String, table: &Table) -> Result<String, Memory> {
     Ok(text)
 }
 
-// The cells of a service, in the order of `SERVICE_TITLES`.
+// The cells of a service.
 fn service_row(alloc: Global, service: &Service) -> Result<Vec<String>, Memory> {
-    let (step, steps) = (service.step(), service.strategy().steps().len());
     let mut row = Vec::new(alloc);
-    row.push(String::from_str(alloc, service.name().as_str())?)?;
-    row.push(String::from_str(alloc, service.status().text())?)?;
-    row.push(format!(in alloc; "{step}/{steps}")?)?;
-    row.push(bar(alloc, service.weight())?)?;
-    row.push(String::from_str(alloc, service.version().as_str())?)?;
-    row.push(String::from_str(alloc, service.stable().as_str())?)?;
+    add_service_cells(alloc, &mut row, service)?;
     Ok(row)
+}
+
+// Adds the cells of a service, in the order of `SERVICE_TITLES`.
+fn add_service_cells(
+    alloc: Global,
+    row: &mut Vec<String>,
+    service: &Service,
+) -> Result<(), Memory> {
+    push_cell(row, copied(alloc, service.name().as_str()))?;
+    push_cell(row, copied(alloc, service.status().text()))?;
+    push_cell(row, steps_text(alloc, service))?;
+    push_cell(row, bar(alloc, service.weight()))?;
+    push_cell(row, copied(alloc, service.version().as_str()))?;
+    push_cell(row, copied(alloc, service.stable().as_str()))
+}
+
+// Adds a cell, unless there was no memory for its text.
+fn push_cell(row: &mut Vec<String>, made: Result<String, Memory>) -> Result<(), Memory> {
+    row.push(made?)?;
+    Ok(())
+}
+
+// A copy of a text.
+fn copied(alloc: Global, text: &str) -> Result<String, Memory> {
+    Ok(String::from_str(alloc, text)?)
+}
+
+// A number in digits.
+fn digits(alloc: Global, number: u64) -> Result<String, Memory> {
+    Ok(format!(in alloc; "{number}")?)
+}
+
+// The present step of a service, and how many it has.
+fn steps_text(alloc: Global, service: &Service) -> Result<String, Memory> {
+    let (step, steps) = (service.step(), service.strategy().steps().len());
+    Ok(format!(in alloc; "{step}/{steps}")?)
 }
 
 // A weight as a bar, of which a cell is full for each ten percent, and in percent.
@@ -163,7 +193,7 @@ fn add_run(
     Ok(())
 }
 
-// The cells of a metric of an open run, in the order of `RUN_TITLES`.
+// The cells of a metric of an open run.
 fn metric_row(
     alloc: Global,
     service: Name,
@@ -171,18 +201,39 @@ fn metric_row(
     metric: &Metric,
     tally: &Tally,
 ) -> Result<Vec<String>, Memory> {
-    let (number, counted, phase) = (run.number, tally.counted(), tally.phase(metric, false));
     let mut row = Vec::new(alloc);
-    row.push(format!(in alloc; "{number}")?)?;
-    row.push(String::from_str(alloc, service.as_str())?)?;
-    row.push(analysis(alloc, run.step)?)?;
-    row.push(templates_text(alloc, run.analysis.revisions())?)?;
-    row.push(name_of(alloc, metric.name())?)?;
-    row.push(String::from_str(alloc, phase.text())?)?;
-    row.push(format!(in alloc; "{counted}")?)?;
-    row.push(passes_text(alloc, metric.pass_after(), tally.passes())?)?;
-    row.push(due_text(alloc, run, metric, tally, phase)?)?;
+    add_run_cells(alloc, &mut row, service, run)?;
+    add_metric_cells(alloc, &mut row, run, metric, tally)?;
     Ok(row)
+}
+
+// Adds the first cells of a metric, in the order of `RUN_TITLES`: those of its run.
+fn add_run_cells(
+    alloc: Global,
+    row: &mut Vec<String>,
+    service: Name,
+    run: &OpenRun,
+) -> Result<(), Memory> {
+    push_cell(row, digits(alloc, u64::from(run.number)))?;
+    push_cell(row, copied(alloc, service.as_str()))?;
+    push_cell(row, analysis(alloc, run.step))?;
+    push_cell(row, templates_text(alloc, run.analysis.revisions()))
+}
+
+// Adds the other cells of a metric, from its name on.
+fn add_metric_cells(
+    alloc: Global,
+    row: &mut Vec<String>,
+    run: &OpenRun,
+    metric: &Metric,
+    tally: &Tally,
+) -> Result<(), Memory> {
+    let phase = tally.phase(metric, false);
+    push_cell(row, name_of(alloc, metric.name()))?;
+    push_cell(row, copied(alloc, phase.text()))?;
+    push_cell(row, digits(alloc, u64::from(tally.counted())))?;
+    push_cell(row, passes_text(alloc, metric.pass_after(), tally.passes()))?;
+    push_cell(row, due_text(alloc, run, metric, tally, phase))
 }
 
 // The name of a metric as people read it: its label, without an ending that says how its numbers

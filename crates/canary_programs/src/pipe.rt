@@ -1,5 +1,6 @@
 //! A stream answered over a book.
 ghost use Rattle.std.specs.Prelude.{◌≡◌, Err};
+ghost use Rattle.canary_once.specs.BookCalls.{StaysInMemory};
 ghost use Rattle.canary_once.specs.Contents.{KeepsReceipts};
 ghost use Rattle.canary_once.specs.Messages.{desk_state};
 ghost use Rattle.canary_programs.specs.declared.fault.Fault.TheVariants as fault;
@@ -31,6 +32,7 @@ pub fn answer<R: Read, W: Write, C: Clock, B: Book>(
     ensures memory { result ≡ Err fault.Memory → (input.new ≡ input.old)
         × (output.new ≡ output.old) × (clock.new ≡ clock.old) × (book.new ≡ book.old) }
     ensures honest { (B.state book.new).is_honest → (B.state book.old).is_honest }
+    ensures in_memory { StaysInMemory (B.state book.old) (B.state book.new) }
     ensures sure { (B.state book.new).is_sure ≡ (B.state book.old).is_sure }
     ensures receipts { (B.state book.new).is_honest
         → KeepsReceipts (B.state book.old).contents (B.state book.new).contents }

@@ -84,10 +84,15 @@ impl Families {
     /// Adds the samples of a service that was passed to a moment, and of its open runs.
     pub(crate) fn add(&mut self, service: &Service) -> Result<(), Memory> {
         let labels = service_label(self.alloc, service.name())?;
-        self.add_versions(labels.as_str(), service)?;
-        self.add_status(labels.as_str(), service.status())?;
-        self.add_numbers(labels.as_str(), service)?;
-        self.add_runs(labels.as_str(), service)
+        self.add_labelled(labels.as_str(), service)
+    }
+
+    // Adds the samples of a service with this label, and of its open runs.
+    fn add_labelled(&mut self, labels: &str, service: &Service) -> Result<(), Memory> {
+        self.add_versions(labels, service)?;
+        self.add_status(labels, service.status())?;
+        self.add_numbers(labels, service)?;
+        self.add_runs(labels, service)
     }
 
     // Adds the sample of a service that is always 1: its labels say both versions.

@@ -1,6 +1,7 @@
 //! Serving a stream.
 ghost use Rattle.std.specs.Prelude.{◌≡◌, [], ◌++◌, IfOk, Err};
 ghost use Rattle.std.specs.List.{list_all};
+ghost use Rattle.canary_once.specs.BookCalls.{StaysInMemory};
 ghost use Rattle.canary_once.specs.Contents.{KeepsReceipts};
 ghost use Rattle.canary_once.specs.Messages.{desk_state};
 ghost use Rattle.canary_wire.specs.Cut.{is_newline, rejecting};
@@ -97,6 +98,7 @@ pub fn serve<R: Read, W: Write, C: Clock, B: Book>(
     ensures memory { result ≡ Err ServeFault.Memory → (reader.new ≡ reader.old)
         × (writer.new ≡ writer.old) × (clock.new ≡ clock.old) × (book.new ≡ book.old) }
     ensures honest { (B.state book.new).is_honest → (B.state book.old).is_honest }
+    ensures in_memory { StaysInMemory (B.state book.old) (B.state book.new) }
     ensures sure { (B.state book.new).is_sure ≡ (B.state book.old).is_sure }
     ensures receipts { (B.state book.new).is_honest
         → KeepsReceipts (B.state book.old).contents (B.state book.new).contents }

@@ -1,6 +1,7 @@
 //! `import`: the rows of a measurement file as requests.
 use crate::file::open::DeskFile;
 use crate::file::work::{BookTask, on_file};
+use canary_backup::series::is_folder;
 use canary_programs::fault::Fault;
 use std::fs::{self, OpenFile};
 use std::io::{ErrorKind, Read, Write};
@@ -13,9 +14,9 @@ const INPUT: &str = "-";
 /// shown on a terminal.
 ///
 /// # Errors
-/// `File` where the measurement file cannot be opened: the book is not opened then. What `open` and
-/// canary_programs' `import_rows` answer. `Storage` where the book's file fails as it is closed;
-/// what was settled is settled.
+/// `File` where the measurement file cannot be opened, or is a folder: the book is not opened then.
+/// What `open` and canary_programs' `import_rows` answer. `Storage` where the book's file fails as
+/// it is closed; what was settled is settled.
 pub fn import<R: Read, W: Write, F: Write>(
     rt: &HostRuntime,
     file: DeskFile<'_>,
@@ -29,20 +30,29 @@ pub fn import<R: Read, W: Write, F: Write>(
         let work = BookTask::Import { whole: None };
         return on_file(rt, file, work, input, output, errors, is_terminal);
     }
-    let mut rows = match fs::File::open(rt, csv) {
-        Ok(rows) => rows,
-        Err(error) => return Err(file_fault(error.kind())),
-    };
+    let mut rows = opened(rt, csv)?;
     let whole = length_of(&rows);
     let work = BookTask::Import { whole };
     on_file(rt, file, work, &mut rows, output, errors, is_terminal)
 }
 
-// How many bytes a file has, where that is known.
+// The measurement file of this name, opened. A folder is refused: to open one succeeds, and nothing
+// can be read of it.
+fn opened(rt: &HostRuntime, csv: &str) -> Result<fs::File, Fault> {
+    if is_folder(rt, csv) {
+        return Err(Fault::File);
+    }
+    match fs::File::open(rt, csv) {
+        Ok(rows) => Ok(rows),
+        Err(error) => Err(file_fault(error.kind())),
+    }
+}
+
+// How many bytes a file has, where that is known: a FIFO and a device have as many as come.
 fn length_of<O: OpenFile>(file: &O) -> Option<u64> {
     match file.metadata() {
-        Ok(found) => Some(found.len()),
-        Err(_) => None,
+        Ok(found) if found.is_file() => Some(found.len()),
+        _ => None,
     }
 }
 

@@ -1,7 +1,8 @@
 //! Looking at a desk in a file, also while it serves.
-use crate::file::open::{FileBook, names_of, open_found};
+use crate::file::open::{names_of, open_found};
 use crate::file::progress::ProgressDisplay;
 use crate::file::shelf::{Shelf, fill};
+use canary_backup::copying::Pair;
 use canary_backup::folder::OwnCopy;
 use canary_base::moments::Moment;
 use canary_base::names::Name;
@@ -32,9 +33,9 @@ pub(crate) enum Sight<'a> {
 /// Looks at the desk in a file, once. A page is written to the output meanwhile, part by part, and
 /// a terminal shows how far it has come; then the files of its services, as `fill` says. Of a
 /// status this gives the text, to be drawn once the file is closed; of a page, none. The file is
-/// opened as `open_found` does it, and no row of it is changed. If a desk has it open, a copy is
-/// read, which stands meanwhile where `OwnCopy` of canary_backup says, in a folder that its owner
-/// alone may read.
+/// opened as `open_found` does it, and no row of it is changed. If a desk has it open, or this
+/// process may not write it, a copy is read, which stands meanwhile where `OwnCopy` of
+/// canary_backup says, in a folder that its owner alone may read.
 ///
 /// # Errors
 /// `File` if there is no such file, and nothing is made then, or if no copy can be made.
@@ -48,14 +49,35 @@ pub(crate) fn look<W: Write, F: Write>(
     errors: &mut F,
     is_terminal: bool,
 ) -> Result<String, Fault> {
-    match open_found(rt, file, errors, is_terminal) {
-        Ok(book) => look_at_opened(rt, book, sight, output, errors, is_terminal),
-        Err(Fault::InUse) => look_at_copy(rt, file, sight, output, errors, is_terminal),
-        Err(fault) => Err(fault),
+    match look_once(rt, file, sight, output, errors, is_terminal) {
+        Ok(text) => Ok(text),
+        Err(fault) => look_unopened(rt, file, fault, sight, output, errors, is_terminal),
     }
 }
 
-// The same of a file that a desk has open.
+// The same of a file that was not opened, by this fault.
+fn look_unopened<W: Write, F: Write>(
+    rt: &HostRuntime,
+    file: &str,
+    fault: Fault,
+    sight: Sight<'_>,
+    output: &mut W,
+    errors: &mut F,
+    is_terminal: bool,
+) -> Result<String, Fault> {
+    if fault == Fault::InUse || fault == Fault::Storage && is_for_reading(rt, file)? {
+        return look_at_copy(rt, file, sight, output, errors, is_terminal);
+    }
+    Err(fault)
+}
+
+// Whether a copy of the file can be looked at, and the file itself not: it may not be written.
+fn is_for_reading(rt: &HostRuntime, file: &str) -> Result<bool, Fault> {
+    let desk = Pair::found(rt, file)?;
+    Ok(desk.is_for_reading(rt)?)
+}
+
+// The same of a copy of the file.
 fn look_at_copy<W: Write, F: Write>(
     rt: &HostRuntime,
     file: &str,
@@ -65,37 +87,40 @@ fn look_at_copy<W: Write, F: Write>(
     is_terminal: bool,
 ) -> Result<String, Fault> {
     let copy = OwnCopy::of(rt, file, "status-copy")?;
-    let looked = look_at_own_copy(rt, &copy, sight, output, errors, is_terminal);
+    let looked = look_once(rt, copy.database(), sight, output, errors, is_terminal);
     copy.remove(rt);
     looked
 }
 
-// The same of a copy. A function of its own, so that the caller removes the copy after any fault.
-fn look_at_own_copy<W: Write, F: Write>(
+// The same of the file itself.
+fn look_once<W: Write, F: Write>(
     rt: &HostRuntime,
-    copy: &OwnCopy,
+    file: &str,
     sight: Sight<'_>,
     output: &mut W,
     errors: &mut F,
     is_terminal: bool,
 ) -> Result<String, Fault> {
-    let book = open_found(rt, copy.database(), errors, is_terminal)?;
-    look_at_opened(rt, book, sight, output, errors, is_terminal)
+    let opened = open_found(rt, file, errors, is_terminal);
+    look_at_opened(rt, opened, sight, output, errors, is_terminal)
 }
 
-// The same of the book in a file that was opened, by a function for any type of store.
-fn look_at_opened<W: Write, F: Write>(
+// The same of a book over any store, if it was opened.
+fn look_at_opened<S: Alter + Drop, W: Write, F: Write>(
     rt: &HostRuntime,
-    book: FileBook,
+    opened: Result<TableBook<S>, Fault>,
     sight: Sight<'_>,
     output: &mut W,
     errors: &mut F,
     is_terminal: bool,
 ) -> Result<String, Fault> {
-    look_at_tables(rt, book, sight, output, errors, is_terminal)
+    match opened {
+        Ok(book) => look_at_tables(rt, book, sight, output, errors, is_terminal),
+        Err(fault) => Err(fault),
+    }
 }
 
-// The same of a book over any store: the text of a status, or a page and no text.
+// The same of an open book: the text of a status, or a page and no text.
 fn look_at_tables<S: Alter + Drop, W: Write, F: Write>(
     rt: &HostRuntime,
     book: TableBook<S>,

@@ -12,7 +12,7 @@ use canary_tables::fault::TableFault;
 use canary_tables_file::connect::connect;
 use canary_tables_schema::first::is_first;
 use canary_tables_schema::recognize::is_desk;
-use sqlite::{Alter, Error, ErrorCode, File, FileStore};
+use sqlite::{Alter, Connection, Error, ErrorCode, File, FileStore};
 use std::fs::{self, Files};
 use std::io::{self, ErrorKind, Read, Write};
 
@@ -205,11 +205,19 @@ pub(crate) enum TablesVersion {
 /// `OtherSchema` if the file is not a database of SQLite; `Memory` if an allocation was refused;
 /// `Storage` if it cannot be opened otherwise.
 pub(crate) fn tables_version(rt: &HostRuntime, file: &str) -> Result<TablesVersion, Fault> {
-    match connect(rt, file) {
+    let opened = connect(rt, file);
+    version_of(&opened)
+}
+
+// Of which version the tables are to which a connection was opened, over any store.
+fn version_of<S: Alter + Drop>(
+    opened: &Result<Connection<S>, Error>,
+) -> Result<TablesVersion, Fault> {
+    match opened {
         Ok(conn) if is_desk(conn.schema()) => Ok(TablesVersion::Desk),
         Ok(conn) if is_first(conn.schema()) => Ok(TablesVersion::First),
         Ok(_) => Ok(TablesVersion::Other),
-        Err(error) => Err(unopened(error)),
+        Err(error) => Err(unopened(*error)),
     }
 }
 

@@ -1,6 +1,6 @@
 //! `page`: the services of a desk as a page.
 use crate::file::look::{Sight, look};
-use crate::file::shelf::{Shelf, find_folder};
+use crate::file::shelf::{Shelf, look_at_folder};
 use canary_backup::copying::Pair;
 use canary_backup::draft::Draft;
 use canary_programs::fault::Fault;
@@ -23,8 +23,9 @@ const STANDARD_OUTPUT: &str = "-";
 /// # Errors
 /// As `status` of this crate; `File` also if `out`, or the name of a file in JSON, is a name that a
 /// desk uses for this file, or another name of such a file, if what stands there is not a file, or
-/// if no file can be made beside it, or given its name; and if there is no folder `json`. There is
-/// no part of a page or of a file then, but for one on `output`.
+/// if no file can be made beside it, or given its name; if there is no folder `json`; and if `out`
+/// stands in it and ends with `.json`, as the names of the files in JSON do. There is no part of a
+/// page or of a file then, but for one on `output`.
 pub fn page<W: Write, F: Write>(
     rt: &HostRuntime,
     file: &str,
@@ -58,7 +59,7 @@ fn page_once<W: Write, F: Write>(
     is_terminal: bool,
 ) -> Result<(), Fault> {
     if let Some(folder) = json {
-        find_folder(rt, folder)?;
+        look_at_folder(rt, folder, out)?;
     }
     let desk = Pair::found(rt, file)?;
     let shelf = shelf_of(json, &desk);

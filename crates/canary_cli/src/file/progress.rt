@@ -208,7 +208,8 @@ impl<'a, F: Write> ProgressDisplay<'a, F> {
         format!(in alloc; "{before}canary: {text}{behind}")
     }
 
-    // How much is done of what. All the megabytes are rounded up.
+    // How much is done of what. All the megabytes are rounded up. A file that has grown since it
+    // was opened has no whole.
     fn text(&self, alloc: Global) -> Result<String, AllocError> {
         let done = self.number();
         match (self.unit, self.whole) {
@@ -218,11 +219,11 @@ impl<'a, F: Write> ProgressDisplay<'a, F> {
             }
             (Unit::Services, Some(whole)) => format!(in alloc; "{done} of {whole} services drawn"),
             (Unit::Services, None) => format!(in alloc; "{done} services drawn"),
-            (Unit::Bytes, Some(whole)) => {
+            (Unit::Bytes, Some(whole)) if self.done <= whole => {
                 let megabytes = whole.div_ceil(MEGABYTE);
                 format!(in alloc; "{done} of {megabytes} MB read")
             }
-            (Unit::Bytes, None) => format!(in alloc; "{done} MB read"),
+            (Unit::Bytes, _) => format!(in alloc; "{done} MB read"),
         }
     }
 

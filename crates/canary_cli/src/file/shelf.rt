@@ -1,6 +1,7 @@
 //! A folder with a file in JSON for each service of a desk.
 use canary_backup::copying::Pair;
 use canary_backup::draft::Draft;
+use canary_backup::folder::is_within;
 use canary_base::moments::Moment;
 use canary_base::names::Name;
 use canary_once::book::Book;
@@ -20,15 +21,21 @@ pub(crate) struct Shelf<'a> {
     pub(crate) desk: &'a Pair,
 }
 
-/// Whether there is a folder of this name, where all links lead.
+/// Looks whether there is a folder of this name, where all links lead, and the page `out` takes the
+/// name of no file that may be written in it.
 ///
 /// # Errors
-/// `File` if there is none.
-pub(crate) fn find_folder(rt: &HostRuntime, folder: &str) -> Result<(), Fault> {
+/// `File` if there is no such folder, or `out` stands in it and ends with `.json`.
+pub(crate) fn look_at_folder(rt: &HostRuntime, folder: &str, out: &str) -> Result<(), Fault> {
     match fs::metadata(rt, folder) {
-        Ok(found) if found.is_dir() => Ok(()),
+        Ok(found) if found.is_dir() && !is_of_shelf(rt, folder, out) => Ok(()),
         _ => Err(Fault::File),
     }
+}
+
+// Whether a name ends as those of the files in JSON do, and stands in this folder.
+fn is_of_shelf(rt: &HostRuntime, folder: &str, name: &str) -> bool {
+    name.ends_with(".json") && is_within(rt, folder, name)
 }
 
 impl Shelf<'_> {

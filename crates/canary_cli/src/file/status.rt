@@ -8,11 +8,11 @@ use std::time::Duration;
 
 /// Draws a table of the services in a file, and of their open runs, or a JSON value for each
 /// service, as they stand at the present moment. The file is opened as `open_found` does it, and no
-/// row of it is changed. If a desk has it open, a copy is read, which stands beside the file
-/// meanwhile, in a folder that its owner alone may read.
+/// row of it is changed. If a desk has it open, or this process may not write it, a copy is read,
+/// as `look` says.
 ///
 /// # Errors
-/// `File` if there is no such file, and nothing is made then, or if no copy can be made beside it.
+/// `File` if there is no such file, and nothing is made then, or if no copy can be made.
 /// What `open` answers, but `InUse` only if the file changes too fast to be copied. `Write` if the
 /// output failed.
 pub fn status<W: Write, F: Write>(

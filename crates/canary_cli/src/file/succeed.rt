@@ -2,6 +2,7 @@
 use crate::file::named::bytes_of;
 use crate::file::open::{fault_of, find, has_other_bytes, is_blank, names_of, open};
 use crate::file::progress::ProgressDisplay;
+use crate::file::work::end_with;
 use canary_backup::copying::StagedCopy;
 use canary_base::error::Memory;
 use canary_base::moments::Moment;
@@ -89,10 +90,8 @@ fn make<F: Write>(
     errors: &mut F,
     is_terminal: bool,
 ) -> Result<(), Fault> {
-    match connect(rt, old) {
-        Ok(conn) => make_of(rt, old, conn, part, errors, is_terminal),
-        Err(error) => Err(unopened(error)),
-    }
+    let opened = connect(rt, old);
+    make_of(rt, old, opened, part, errors, is_terminal)
 }
 
 // Why the file of the old desk could not be opened.
@@ -104,17 +103,20 @@ fn unopened(error: Error) -> Fault {
     }
 }
 
-// Makes the new desk from an open connection to the file of this name, which is closed once the new
-// file has its name.
+// Makes the new desk from a connection to the file of this name, if it was opened, which is closed
+// once the new file has its name.
 fn make_of<S: Alter + Drop, F: Write>(
     rt: &HostRuntime,
     file: &str,
-    conn: Connection<S>,
+    opened: Result<Connection<S>, Error>,
     part: &StagedCopy,
     errors: &mut F,
     is_terminal: bool,
 ) -> Result<(), Fault> {
-    let mut conn = conn;
+    let mut conn = match opened {
+        Ok(conn) => conn,
+        Err(error) => return Err(unopened(error)),
+    };
     let templates = template_names(rt.alloc(), &mut conn)?;
     let mut book = adopted(rt, file, conn, errors, is_terminal)?;
     let services = names_of(&mut book)?;
@@ -181,25 +183,34 @@ fn fill<A: Book, F: Write>(
     errors: &mut F,
     is_terminal: bool,
 ) -> Result<(), Fault> {
-    let book = open(rt, new, errors, is_terminal)?;
-    let (done, book) = filled(rt, old, names, book);
-    let closed = book.into_connection().close();
-    done?;
-    closed.or(Err(Fault::Storage))
+    let opened = open(rt, new, errors, is_terminal);
+    end_with(filled(rt, old, names, opened))
 }
 
-// Makes the new desk in a book, and gives it back. It knows no type of book, as `on_watched`.
-fn filled<A: Book, B: Book + Drop>(
+// Makes the new desk in a book over any store, if it was opened, and gives its connection back.
+fn filled<A: Book, S: Alter + Drop>(
     rt: &HostRuntime,
     old: &mut A,
     names: &Names,
-    book: B,
-) -> (Result<(), Fault>, B) {
-    let mut new = book;
+    opened: Result<TableBook<S>, Fault>,
+) -> (Result<(), Fault>, Option<Connection<S>>) {
+    let mut new = match opened {
+        Ok(book) => book,
+        Err(fault) => return (Err(fault), None),
+    };
+    let done = fill_book(rt, old, names, &mut new);
+    (done, Some(new.into_connection()))
+}
+
+// Makes the new desk in an open book.
+fn fill_book<A: Book, B: Book>(
+    rt: &HostRuntime,
+    old: &mut A,
+    names: &Names,
+    new: &mut B,
+) -> Result<(), Fault> {
     let (templates, services) = (names.templates.as_slice(), names.services.as_slice());
-    let now = now(rt);
-    let done = succeed_in(rt.alloc(), old, templates, services, now, &mut new);
-    (done, new)
+    succeed_in(rt.alloc(), old, templates, services, now(rt), new)
 }
 
 // The moment of all requests of the new desk: the present one by the machine's clock.

@@ -1,6 +1,6 @@
 //! Work on the book in a file, from its opening to its end.
-ghost use Rattle.std.specs.Prelude.{◌≡◌, ◌≢◌, Err};
-ghost use Rattle.canary_cli.specs.Opened.{IsReading, settles, tells_of_made};
+ghost use Rattle.std.specs.Prelude.{◌≡◌, ◌≢◌, Err, IfErr};
+ghost use Rattle.canary_cli.specs.Opened.{IsOfOpening, IsReading, settles, tells_of_made};
 ghost use Rattle.canary_programs.specs.declared.fault.Fault.TheVariants as fault;
 
 use crate::file::open::{DeskFile, is_missing, open};
@@ -19,6 +19,8 @@ use canary_programs::history::write_history;
 use canary_programs::import::import_rows;
 use canary_programs::pipe::answer;
 use canary_programs::serve::{Listening, serve_book};
+use canary_tables::book::TableBook;
+use sqlite::{Alter, Connection, File, FileStore};
 use std::io::{self, Read, Write};
 
 /// What is done with a book.
@@ -72,19 +74,116 @@ pub(crate) fn on_file<R: Read, W: Write, F: Write>(
 ) -> Result<(), Fault>
     ensures { IsReading work → result ≢ Err fault.BadName }
 {
-    let makes = work.tells_of_made() && is_missing(rt, file.name);
-    let before = Identity::of(rt, file.name);
-    let book = open(rt, file.name, errors, is_terminal)?.with_room(file.room());
-    let seat = Seat::taken(rt, file.name, before)?;
-    if makes {
+    let place = Place::of(rt, file.name);
+    let opened = open(rt, file.name, errors, is_terminal);
+    end_with(on_opened(
+        rt,
+        file,
+        place,
+        opened,
+        work,
+        input,
+        output,
+        errors,
+        is_terminal,
+    ))
+}
+
+// What stood at the path of a file before that was opened.
+#[derive(Clone, Copy)]
+struct Place {
+    is_missing: bool,
+    identity: Option<Identity>,
+}
+
+impl Place {
+    // What stands there now.
+    fn of(rt: &HostRuntime, path: &str) -> Place {
+        Place {
+            is_missing: is_missing(rt, path),
+            identity: Identity::of(rt, path),
+        }
+    }
+}
+
+// Does this work on the book in a file, if it was opened, and gives the connection back where that
+// is to be closed.
+fn on_opened<S: Alter + Drop, R: Read, W: Write, F: Write>(
+    rt: &HostRuntime,
+    file: DeskFile<'_>,
+    place: Place,
+    opened: Result<TableBook<S>, Fault>,
+    work: BookTask,
+    input: &mut R,
+    output: &mut W,
+    errors: &mut F,
+    is_terminal: bool,
+) -> (Result<(), Fault>, Option<Connection<S>>)
+    requires { IfErr opened IsOfOpening }
+    ensures { IsReading work → result.0 ≢ Err fault.BadName }
+{
+    match opened {
+        Ok(book) => {
+            let book = book.with_room(file.room());
+            on_placed(
+                rt,
+                file,
+                place,
+                book,
+                work,
+                input,
+                output,
+                errors,
+                is_terminal,
+            )
+        }
+        Err(fault) => (Err(fault), None),
+    }
+}
+
+// The same on an open book, unless its path was given to another file meanwhile.
+fn on_placed<S: Alter + Drop, R: Read, W: Write, F: Write>(
+    rt: &HostRuntime,
+    file: DeskFile<'_>,
+    place: Place,
+    book: TableBook<S>,
+    work: BookTask,
+    input: &mut R,
+    output: &mut W,
+    errors: &mut F,
+    is_terminal: bool,
+) -> (Result<(), Fault>, Option<Connection<S>>)
+    ensures { IsReading work → result.0 ≢ Err fault.BadName }
+{
+    let seat = match Seat::taken(rt, file.name, place.identity) {
+        Ok(seat) => seat,
+        Err(fault) => return (Err(fault), None),
+    };
+    if place.is_missing && work.tells_of_made() {
         tell_made(rt.alloc(), file.name, errors, is_terminal);
     }
     let settles = work.settles();
     let (done, book) = on_watched(rt, seat, book, work, input, output, errors, is_terminal);
     if !settles || matches!(done, Err(Fault::Replaced)) {
-        return done;
+        return (done, None);
     }
-    let closed = book.into_connection().close();
+    (done, Some(book.into_connection()))
+}
+
+/// Ends work on the book in a file: closes the connection that is left after it, if there is one.
+///
+/// # Errors
+/// What came of the work; `Storage` if the file fails as it is closed.
+pub(crate) fn end_with(
+    worked: (Result<(), Fault>, Option<Connection<FileStore<File>>>),
+) -> Result<(), Fault>
+    ensures { result ≡ Err fault.BadName → worked.0 ≡ Err fault.BadName }
+{
+    let (done, left) = worked;
+    let Some(conn) = left else {
+        return done;
+    };
+    let closed = conn.close();
     done?;
     closed.or(Err(Fault::Storage))
 }

@@ -116,6 +116,17 @@ fn with_points(
     Ok(shown)
 }
 
+// The text of a condition as it is shown, and what the condition names of a result.
+fn side_of(
+    alloc: Global,
+    units: Units,
+    condition: &Option<Text>,
+) -> Result<(Option<Text>, Mentions), Memory> {
+    let mentions = mentions_of(alloc, text_of(condition))?;
+    let text = shown_text(alloc, condition, mentions.thresholds.as_slice(), units)?;
+    Ok((text, mentions))
+}
+
 // The conditions of these texts, with their bounds and all that they name of a result.
 fn with_mentions(
     alloc: Global,
@@ -124,14 +135,14 @@ fn with_mentions(
     success: &Option<Text>,
     failure: &Option<Text>,
 ) -> Result<Conditions, Memory> {
-    let in_success = mentions_of(alloc, text_of(success))?;
-    let in_failure = mentions_of(alloc, text_of(failure))?;
+    let (success, in_success) = side_of(alloc, units, success)?;
+    let (failure, in_failure) = side_of(alloc, units, failure)?;
     let spots = spots_of(alloc, &in_success, &in_failure)?;
     Ok(Conditions {
         is_known,
         units,
-        success: shown_text(alloc, success, in_success.thresholds.as_slice(), units)?,
-        failure: shown_text(alloc, failure, in_failure.thresholds.as_slice(), units)?,
+        success,
+        failure,
         success_bounds: in_success.thresholds,
         failure_bounds: in_failure.thresholds,
         spots,
@@ -149,13 +160,19 @@ pub(crate) fn text_of(condition: &Option<Text>) -> &str {
 // What the two conditions name of a result, each once, in order; `Whole` if they name nothing.
 fn spots_of(alloc: Global, success: &Mentions, failure: &Mentions) -> Result<Vec<Spot>, Memory> {
     let mut spots = Vec::new(alloc);
-    add_spots(&mut spots, success.spots.as_slice())?;
-    add_spots(&mut spots, failure.spots.as_slice())?;
+    add_named(&mut spots, success, failure)?;
+    Ok(spots)
+}
+
+// Adds what the two conditions name to an empty list.
+fn add_named(spots: &mut Vec<Spot>, success: &Mentions, failure: &Mentions) -> Result<(), Memory> {
+    add_spots(spots, success.spots.as_slice())?;
+    add_spots(spots, failure.spots.as_slice())?;
     if spots.is_empty() {
         spots.push(Spot::Whole)?;
     }
     spots.sort()?;
-    Ok(spots)
+    Ok(())
 }
 
 // Adds those that are not there yet.

@@ -125,6 +125,15 @@ struct Scan<'a> {
 }
 
 impl Scan<'_> {
+    // Takes all bytes of the condition, which this is.
+    fn take_all(&mut self, condition: &str) -> Result<(), Memory> {
+        for (place, byte) in condition.as_bytes().iter().enumerate() {
+            self.take(place, *byte)?;
+        }
+        self.end_word(condition.len())?;
+        self.end_result()
+    }
+
     // Takes the byte at this place.
     fn take(&mut self, place: usize, byte: u8) -> Result<(), Memory> {
         let kind = kind_of(byte);
@@ -224,11 +233,7 @@ pub(crate) fn mentions_of(alloc: Global, condition: &str) -> Result<Mentions, Me
             thresholds: Vec::new(alloc),
         },
     };
-    for (place, byte) in condition.as_bytes().iter().enumerate() {
-        scan.take(place, *byte)?;
-    }
-    scan.end_word(condition.len())?;
-    scan.end_result()?;
+    scan.take_all(condition)?;
     let Scan { found, .. } = scan;
     Ok(found)
 }
