@@ -157,8 +157,9 @@ def in_lanes(gate):
             ready = [it for it in left if is_over or not gate.libraries.lacking(it.crate)]
             left = [it for it in left if it not in ready]
             made += [pool.submit(gate.safely, it) for it in ready]
-            if gate.lanes.is_beside and gate.libraries.are_alone():
+            if is_over and gate.lanes.is_beside:
                 gate.lanes.take_part()
+                kit.stamp_libraries(gate.crates.values(), gate.libraries.begun())
             time.sleep(0.5)
         return [it.result() for it in made]
 

@@ -40,19 +40,13 @@ class BuiltBeside(Built):
 
     def look(self):
         """Takes those that have come. Whether `rt ci` has ended, so that no more are to come."""
-        was_over, self.is_over = self.is_over, os.path.exists(f"{self.folder}/status")
+        self.is_over = os.path.exists(f"{self.folder}/status")
         # In the end each counts that is there: a kit may say it in other words, or build elsewhere.
         told = self.crates if self.is_over else PROVED.findall(text_of(f"{self.folder}/lines"))
         for name in told:
             if name in self.crates and name not in self.there:
                 self.take(self.crates[name])
-        if self.is_over and not was_over:
-            kit.stamp_libraries(self.crates.values(), self.begun())
         return self.is_over
-
-    def are_alone(self):
-        """Whether `rt ci` has ended, and what runs after it, as long as there is a file `busy`."""
-        return self.is_over and not os.path.exists(f"{self.folder}/busy")
 
     def lacking(self, crate):
         """Which libraries below a crate are not there. Before the first one nothing is tried, since

@@ -1,7 +1,7 @@
 """Where the time of proofs goes, by crate: times.py ROOT [--keep] [--told FOLDER] COMMAND.. runs a
 command and looks, each second, at the checks of the prover below it. What they took is in
 tests/proofs/out/times, of which `tests/proofs/prove --times` prints a table. A `rt ci` proves as
-many crates at a time as there are processors, if there is memory for that. With --keep what its
+many crates at a time as there are processors, and memory for. With --keep what its
 checks made is then kept for `rt check` (kept.py). The files of FOLDER tell others of the command:
 `process` has its number, `lines` has what it has printed on standard output so far, and `status`
 comes once it has ended."""
@@ -187,11 +187,12 @@ def ended(ran, folder):
 
 
 def take_lanes():
-    """Has a `rt ci` below this prove a crate on each processor, if there is memory for that. It
-    plans with about twice the memory that its checks take, and then has processors wait."""
+    """Has a `rt ci` below this prove a crate on each processor, or on as many as there is memory
+    for. It plans with about twice the memory that its checks take, and then has processors wait."""
     rt = kit.load_rt()
-    if rt.free() >= MEMORY * rt.processors():
-        os.environ.setdefault("RT_JOBS", str(rt.processors()))
+    lanes = min(rt.processors(), int(rt.free() // MEMORY))
+    if lanes > 1:
+        os.environ.setdefault("RT_JOBS", str(lanes))
 
 
 def main():
