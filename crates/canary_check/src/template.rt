@@ -117,7 +117,7 @@ fn name_shown(metric: &Value) -> &str {
     }
 }
 
-// Adds the name of a metric to these, unless it is one of them, which is told.
+// Adds the name of a metric to these, unless it is one of them, which is reported.
 fn add_name(lines: &mut Lines, place: JsonPlace, names: &mut Vec<Label>, metric: &Value) {
     let Some(name) = metric_name(metric) else {
         return;
