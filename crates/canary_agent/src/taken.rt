@@ -37,8 +37,8 @@ pub struct Taken {
     pub came: Came,
 }
 
-/// What came of a message to a provider; none if that is a fault of this machine, which says nothing
-/// of the provider.
+/// What came of a message to a provider; none if that is a fault of this machine, which says
+/// nothing of the provider.
 ///
 /// # Errors
 /// `Memory` if an allocation was refused.

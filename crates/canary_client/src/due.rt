@@ -325,8 +325,8 @@ impl NextMeasurement<'_> {
     }
 }
 
-// The next measurement of a metric; none if the desk waits for none. `ReplyUnread` if the reply does
-// not say so.
+// The next measurement of a metric; none if the desk waits for none. `ReplyUnread` if the reply
+// does not say so.
 fn next_of(metric: &Value) -> Result<Option<NextMeasurement<'_>>, Stop> {
     if matches!(metric.get("due"), Some(Value::Null)) {
         return Ok(None);

@@ -51,8 +51,8 @@ pub fn report_body(
 ///
 /// # Errors
 /// `NoService`, `NoRun` and `NoMetric` if there is none; `NoDesk` if the desk did not answer,
-/// `Query` if it refused the query, `ReplyUnread` if its reply cannot be read or no ordinal is left;
-/// `Memory`.
+/// `Query` if it refused the query, `ReplyUnread` if its reply cannot be read or no ordinal is
+/// left; `Memory`.
 pub fn next_ordinal<N: Network>(
     alloc: Global,
     network: &mut N,

@@ -278,8 +278,8 @@ fn text_of(alloc: Global, service: &Value, standing: &Standing) -> Result<String
     Ok(line)
 }
 
-// Adds to a desk's reply why the service stands so, the run of its analysis or of its abort, and when
-// its pause ends, in seconds since 1970-01-01T00:00:00Z.
+// Adds to a desk's reply why the service stands so, the run of its analysis or of its abort, and
+// when its pause ends, in seconds since 1970-01-01T00:00:00Z.
 fn add_why(alloc: Global, service: &mut Value, standing: &Standing) -> Result<(), Stop> {
     let (word, run, until) = members_of(standing.why);
     let Some(members) = service.as_object_mut() else {

@@ -28,7 +28,8 @@ pub enum AddressFault {
     Host,
     /// The port is no number from 1 to 65,535.
     Port,
-    /// The host has digits and dots alone and is no number of IPv4, or brackets and no number of IPv6.
+    /// The host has digits and dots alone and is no number of IPv4, or brackets and no number of
+    /// IPv6.
     Number,
     /// The host's name has more than 253 bytes, or a part of it more than 63, or none.
     Name,
