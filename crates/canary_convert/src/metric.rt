@@ -137,11 +137,9 @@ fn has_condition(metric: &Value) -> bool {
 
 // The name, with its places filled in. If it is invalid, that is reported.
 fn name_of(work: &mut Conversion, spot: &TemplateMetric) -> Option<Label> {
-    let mut name = Draft::new(work.alloc);
-    if push_plain(work, spot, "name", &mut name) {
-        read_name(work, spot, name.as_str())
-    } else {
-        None
+    match filled_text(work, spot, "name") {
+        Some(name) => read_name(work, spot, name.as_str()),
+        None => None,
     }
 }
 
@@ -219,6 +217,15 @@ fn push_plain(
     }
 }
 
+// The text under that key, with its places filled in, empty if memory was refused, which is
+// remembered; none if it is no text, or a place cannot be filled in, which is reported.
+fn filled_text(work: &mut Conversion, spot: &TemplateMetric, key: &'static str) -> Option<String> {
+    let mut text = Draft::new(work.alloc);
+    let is_filled = push_plain(work, spot, key, &mut text);
+    let text = work.end(text);
+    if is_filled { Some(text) } else { None }
+}
+
 /// How the metric is called at the desk. If it has no valid name there, that is
 /// reported.
 pub(crate) fn call(work: &mut Conversion, spot: &TemplateMetric) -> Option<Called> {
@@ -275,14 +282,13 @@ fn read_long(work: &mut Conversion, spot: &TemplateMetric, text: &str) -> Option
 // The form in which the values are reported. If a condition is not translated, that is
 // reported.
 fn form_of(work: &mut Conversion, spot: &TemplateMetric, kind: &str) -> Option<Form> {
-    let mut success = Draft::new(work.alloc);
-    let mut failure = Draft::new(work.alloc);
-    let has_success = push_plain(work, spot, SUCCESS, &mut success);
-    let has_failure = push_plain(work, spot, FAILURE, &mut failure);
-    if has_success && has_failure {
-        form_of_conditions(work, spot, kind, success.as_str(), failure.as_str())
-    } else {
-        None
+    let success = filled_text(work, spot, SUCCESS);
+    let failure = filled_text(work, spot, FAILURE);
+    match (&success, &failure) {
+        (Some(success), Some(failure)) => {
+            form_of_conditions(work, spot, kind, success.as_str(), failure.as_str())
+        }
+        _ => None,
     }
 }
 
@@ -415,10 +421,10 @@ fn push_translated(
     form: Form,
     out: &mut Draft,
 ) {
-    let mut text = Draft::new(work.alloc);
-    push_plain(work, spot, key, &mut text);
-    if !text.as_str().is_empty() {
-        push_translation(work, spot, key, form, text.as_str(), out);
+    if let Some(text) = filled_text(work, spot, key) {
+        if !text.as_str().is_empty() {
+            push_translation(work, spot, key, form, text.as_str(), out);
+        }
     }
 }
 
