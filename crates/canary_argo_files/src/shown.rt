@@ -34,7 +34,7 @@ pub fn text_of(
 // A template, and a line for each of its metrics.
 fn push_template(alloc: Global, text: &mut String, made: &Made) -> Result<(), Memory> {
     write!(text, "template {}\n", made.name.as_str())?;
-    let manifest = Value::from_str(alloc, made.json.as_str()).unwrap_or(Value::Null);
+    let manifest = manifest_of(alloc, made)?;
     let metrics = manifest
         .pointer("/spec/metrics")
         .and_then(|list| list.as_array());
@@ -45,6 +45,15 @@ fn push_template(alloc: Global, text: &mut String, made: &Made) -> Result<(), Me
         push_metric(alloc, text, metric)?;
     }
     Ok(())
+}
+
+// The value of a manifest; null if its text is no JSON. Or `Memory`.
+fn manifest_of(alloc: Global, made: &Made) -> Result<Value, Memory> {
+    match Value::from_str(alloc, made.json.as_str()) {
+        Ok(value) => Ok(value),
+        Err(fault) if fault.is_memory() => Err(Memory),
+        Err(_) => Ok(Value::Null),
+    }
 }
 
 // Appends the name of a metric of the desk's template, and a line for each of its conditions.
