@@ -33,9 +33,11 @@ def shares_of(line):
 
 
 def say(text):
-    """Says it on standard error, if that is open and somebody reads it."""
+    """Says it on standard error, if that is open and somebody reads it. What a terminal would obey,
+    as in words of a proxy, is escaped."""
+    shown = "".join(mark if mark.isprintable() else repr(mark)[1:-1] for mark in f"{text}")
     with contextlib.suppress(OSError, ValueError):
-        print(text, file=sys.stderr, flush=True)
+        print(shown, file=sys.stderr, flush=True)
 
 
 def follow(service, act, read=shares_of):

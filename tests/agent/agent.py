@@ -20,15 +20,19 @@ import runs
 import silence
 import streams
 import web
-from world import World, Wrong, running
+from world import World, Wrong, running, slowness
 
 # The parts that are left out without these tools.
 PARTS_WITH = {"prometheus": ("try_releases", "try_kills"), "strace": ("try_health_race",),
-              "cc": ("try_hindered", "try_unresolved", "try_hindered_once")}
+              "cc": ("try_hindered", "try_begun", "try_crowded", "try_other_provider",
+                     "try_unresolved", "try_two_addresses", "try_unresolved_once",
+                     "try_hindered_once", "try_abort_late_away", "try_abort_late_others")}
 # The most seconds of a part, and five times as many with --all.
 LONGEST = 180
 # How many parts run beside one another: they wait more than they compute.
 BESIDE = 12
+# How many times as long a part may take on a machine that is busy.
+MOST_SLOW = 4
 
 
 def parts_of(*modules):
@@ -55,7 +59,7 @@ def try_part(name, world):
     """Tries a part in this process, and ends it."""
     parts.clear()
     signal.signal(signal.SIGALRM, give_up)
-    signal.alarm(LONGEST * (5 if world.is_whole else 1))
+    signal.alarm(LONGEST * (5 if world.is_whole else 1) * world.slowness)
     begun = time.monotonic()
     try:
         told, status = PARTS[name](world) or "passed", 0
@@ -121,10 +125,12 @@ def main():
     failed = try_all(world, names, BESIDE)
     if failed:
         # A machine that is busy may be too slow for many parts at a time. So what failed is tried
-        # once more, alone, in a folder of its own.
+        # once more, alone, in a folder of its own, with the time that such a machine takes.
         again = os.path.join(words.folder, "again")
         os.mkdir(again)
-        world = World(world.program, again, words.all, words.seed)
+        world = World(world.program, again, words.all, words.seed, slowness(MOST_SLOW))
+        print(f"agent: again, with {world.slowness} times the seconds: {' '.join(failed)}",
+              file=sys.stderr, flush=True)
         failed = try_all(world, failed, 1)
     if failed:
         sys.exit(f"agent: --seed {words.seed} repeats it: {' '.join(failed)}")

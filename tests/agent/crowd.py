@@ -9,17 +9,16 @@ from agents import (
 from world import Wrong, expect
 
 SERVICES = 200
-INTERVAL = 10
-# How late a measurement may be, in seconds.
-MOST_LATE = 2
+# Seconds, and how many of them a measurement may be late.
+INTERVAL, MOST_LATE = 10, 2
 
 
-def lateness(desk, names, found):
+def lateness(desk, names, found, interval):
     """By how many seconds each measurement was taken behind the moment at which it was due: the
     first one as its run began, the others an interval behind the one before."""
     late, last = [], {}
     for each in found:
-        due = last[each.service] + INTERVAL if each.service in last \
+        due = last[each.service] + interval if each.service in last \
             else ask(desk, f"/services/{each.service}/runs/1")["started"]
         last[each.service] = each.taken
         late.append(each.taken - due)
@@ -37,10 +36,10 @@ def seconds_of(agent):
 def try_crowd(world):
     """200 services, each with an interval of 10 seconds, by one agent on one core: each is measured
     each time, two seconds late at most."""
-    names = [f"s-{at}" for at in range(SERVICES)]
+    names, interval = [f"s-{at}" for at in range(SERVICES)], INTERVAL * world.slowness
     with provider(lambda asked, client: reply("0.5")) as server, \
             desk_for(world, "crowd") as desk:
-        of = template("load", metric("load", of_web(server.port, "load"), interval=f"{INTERVAL}s",
+        of = template("load", metric("load", of_web(server.port, "load"), interval=f"{interval}s",
                                      successCondition="result < 0.75"))
         manifests = [of, *(measured_beside(name, "load") for name in names)]
         release(desk, listed(*manifests), is_begun=False)
@@ -48,13 +47,13 @@ def try_crowd(world):
             os.sched_setaffinity(agent.process.pid, {min(os.sched_getaffinity(0))})
             time.sleep(1)
             begin(desk, *names)
-            time.sleep(62 if world.is_whole else 22)
+            time.sleep((6 if world.is_whole else 2) * interval + 2 * world.slowness)
             took = seconds_of(agent)
         found = measured(desk, *names)
-        late = lateness(desk, names, found)
+        late = lateness(desk, names, found, interval)
         want_once("crowd", found)
         count = collections.Counter(each.service for each in found)
-        if max(late) > MOST_LATE:
+        if max(late) > MOST_LATE * world.slowness:
             raise Wrong(f"late by {sorted(late)[-5:]} seconds")
         wanted = 6 if world.is_whole else 2
         if min(count.values()) < wanted:

@@ -23,6 +23,8 @@ from world import (
 from world import ask as ask_bytes
 
 ONCE = ("--once",)
+NO_DEADLINE = ("the desk ignores it, and has no deadline: have a job look for late measurements, and "
+               "abort")
 NOBODY = 65534
 
 
@@ -73,7 +75,26 @@ def try_statuses(world, server):
         expect("measured beside these", len(measured(desk)), 4)
         want_once("statuses", measured(desk))
         want_reported("statuses", desk, measured(desk))
+        want_warned(desk, server.port)
         want_words(desk)
+
+
+def want_warned(desk, port):
+    """What `canary argo` warns of is said once, and changes no status."""
+    made = services(port, "web")
+    made[1]["spec"]["progressDeadlineSeconds"] = 600
+    text = json.dumps(listed(*made))
+    desk.write("warned.json", text)
+    line = (f"canary: warning: warned.json:1:{text.index('600') + 1}: "
+            f"items[1].spec.progressDeadlineSeconds: {NO_DEADLINE}\n")
+    for options in (ONCE, ("--dry-run",)):
+        ended = run_agent(desk, "warned.json", options=options)
+        expect(f"warned: {options}", (ended.status, ended.errors), (DONE, line))
+    with agent_of(desk, "warned.json") as agent:
+        wait_until("warned", lambda: agent.errors() == line)
+        desk.write("next.json", text.replace("600", "700"))
+        os.replace(desk.folder / "next.json", desk.folder / "warned.json")
+        wait_until("warned again, once changed", lambda: agent.errors() == line * 2)
 
 
 def want_words(desk):

@@ -6,8 +6,8 @@ import socket
 import time
 
 from agents import (
-    agent_of, begin, beside, desk_for, listed, measured, measured_beside, metric, of_web,
-    provider, release, reply, run_agent, template, wait_measured, wait_until, want_once)
+    agent_of, analysis, begin, beside, desk_for, listed, measured, measured_beside, metric, of_web,
+    provider, release, reply, rollout, run_agent, template, wait_measured, wait_until, want_once)
 from replies import want_plain
 from world import WORDS, Wrong, expect
 
@@ -61,6 +61,46 @@ def try_edited(world):
             put(desk, listed(template_of(server.port), web))
             wait_more(desk, "q.e6", 3)
             want_once("edited", measured(desk))
+
+
+def try_two_of_a_name(world):
+    """A run's label is in no file, and two metrics of the files have its name: neither is measured
+    for it, which is said once."""
+    other = template("other", metric("p", of_web(1, "two"), count=1,
+                                     successCondition="result < 0.5000001"))
+    web = rollout("web", {"setWeight": 20}, {"pause": {}}, {"analysis": analysis("other")},
+                  analysis=analysis("of"))
+    with provider(lambda *_: reply("0.25")) as server:
+        first = template_of(server.port, names=("p",))
+        with desk_for(world, "two-of-a-name", first, measured_beside("web", "of")) as desk:
+            desk.write("more.json", listed(template_of(server.port, SEVEN, names=("p",)), other,
+                                           web))
+            with agent_of(desk, "more.json") as agent:
+                agent.wait_said("no file has this metric")
+                time.sleep(3)
+                expect("said once", agent.errors().count("no file has this metric"), 1)
+                expect("measured", measured(desk), [])
+                expect("asked", server.targets(), [])
+
+
+def try_within_a_second(world):
+    """A file is written in its place, as long as it was, within the second of its last change: it
+    is read again."""
+    with provider(lambda *_: reply("0.25")) as server:
+        web = measured_beside("web", "of")
+        with desk_for(world, "within-a-second", template_of(server.port), web) as desk:
+            path = desk.folder / "manifests.json"
+            second = int(time.time()) * 1_000_000_000
+            os.utime(path, ns=(second, second))
+            with agent_of(desk) as agent:
+                wait_more(desk, "p.e6")
+                text = path.read_text(encoding="utf-8").replace("/old", "/new")
+                with open(path, "r+", encoding="utf-8") as file:
+                    file.write(text)
+                    file.flush()
+                    os.utime(file.fileno(), ns=(second, second + 1))
+                wait_until("the new query", lambda: "/new" in server.targets()
+                           or agent.must_run(), 8)
 
 
 def try_asked_before(world):

@@ -15,6 +15,8 @@ from world import Wrong, expect
 INVALID_LINE = "a line of --values is no SERVICE METRIC VALUE of these files"
 # Of a kind that no agent asks.
 OTHER = {"datadog": {"query": "avg:errors"}}
+# Whose metric has no condition of its own: the desk's is result == 1.
+JOB = {"job": {"spec": {}}}
 # What lines say, and what is reported: of `result`, of a place, of places, and of all there is.
 SAID = [
     ("one", "result < 1", "0.25", "250000"),
@@ -26,6 +28,13 @@ SAID = [
     ("nan", "isNaN(result) || result < 1", "NaN", NAN),
     ("inf", "isInf(result) || result < 1", "-Inf", LESS),
     ("nil", "default(result, 0) < 1", "null", "-9223372036854775806"),
+]
+# What lines say of jobs, and what is reported, or how a failure goes.
+OF_JOBS = [
+    ("done", "1", "1", None),
+    ("part", "0.5", None, "whole number"),
+    ("more", "[1, 0]", None, "whole number"),
+    ("null", "null", None, "null"),
 ]
 # Lines that are none, and lines of what is not here.
 HOSTILE = [
@@ -41,7 +50,9 @@ def manifests_of(rows, port):
     """A service for each row, which another program measures, and one whose provider is asked."""
     made = []
     for name, condition, *_ in rows:
-        made += [template(name, metric("m", OTHER, successCondition=condition, interval="2s")),
+        of_other = {"provider": OTHER, "successCondition": condition}
+        made += [template(name, metric("m", interval="2s", **of_other if condition
+                                       else {"provider": JOB})),
                  measured_beside(name, name)]
     return [*made, template("asked", metric("m", of_web(port), successCondition="result < 1")),
             measured_beside("asked", "asked")]
@@ -104,6 +115,26 @@ def try_values(world):
     return f"{len(SAID)} values by each"
 
 
+def try_jobs(world):
+    """A job's value is reported as it stands; what is not one whole number is a failure."""
+    rows = [(name, None, text) for name, text, *_ in OF_JOBS]
+    with reading(world, "jobs", rows, "-") as (desk, agent, write):
+        def said_of(name):
+            texts = {each.result or each.failure for each in measured(desk, name)}
+            return {text for text in texts if "no value" not in text}
+        for _ in range(3):
+            for name, _, text in rows:
+                write(f"{name} m {text}\n".encode())
+            time.sleep(.8)
+        for name, text, result, says in OF_JOBS:
+            wait_until(f"{name} is reported", lambda name=name: said_of(name) or agent.must_run(),
+                       8)
+            found = said_of(name)
+            if any(each != result if result else says not in each for each in found):
+                raise Wrong(f"{name} {text}: {found} in place of {result or says}")
+    return f"{len(rows)} values"
+
+
 def try_no_values(world):
     """Without a line a measurement is a failure in time. A later line takes the place of an earlier
     one, and each is reported once. The input's end is said once."""
@@ -137,17 +168,17 @@ def try_hostile_lines(world):
         write(b"\n")
         want_no_more(agent, begun)
         wait_until("a good line", lambda: write(b"one m 0.25\n") or time.sleep(.3)
-                   or reported_of(desk, "one"), 15)
+                   or reported_of(desk, "one"), 15 * world.slowness)
         for _ in range(300):
             write(b"".join(line + b"\n" for line in HOSTILE[:20]))
         write(b"one m 0.5\r\n")
         wait_until("behind many", lambda: write(b"one m.e6 0.5\n") or time.sleep(.3)
-                   or "500000" in reported_of(desk, "one"), 15)
+                   or "500000" in reported_of(desk, "one"), 15 * world.slowness)
         expect("nothing else is reported", set(reported_of(desk, "one")), {"250000", "500000"})
         found = measured(desk, "asked")
         expect("what is asked", {each.result for each in found}, {"250000"})
         moments = [each.taken for each in found]
-        if max(two - one for one, two in zip(moments, moments[1:])) > 3:
+        if max(two - one for one, two in zip(moments, moments[1:])) > 3 * world.slowness:
             raise Wrong(f"the other service was measured at {moments}")
         want_plain("its errors", agent.errors(), "\n")
         want_plain("its output", agent.output.read_text(encoding="utf-8"), "\n")

@@ -2,12 +2,14 @@
 import errno
 import os
 import resource
+import signal
 import subprocess
 import time
 
 from agents import (
     Agent, agent_of, beside, count_measured, desk_for, journals_of, measured, measured_beside,
-    metric, provider, reply, template, wait_measured, wait_until, want_once)
+    metric, of_web, provider, reply, template, wait_measured, wait_until, want_once)
+from rows import silent
 from world import DONE, LOCAL, Wrong, expect
 
 HINDERED = ("this machine cannot ask a provider, which is tried again, and nothing is reported of"
@@ -24,6 +26,8 @@ OWN = {
 OF_PROVIDER = (errno.ECONNREFUSED, errno.ECONNRESET, errno.ETIMEDOUT, errno.EHOSTUNREACH,
                errno.EINVAL)
 EAI_AGAIN, EAI_NONAME, EAI_FAIL, EAI_MEMORY, EAI_SYSTEM = -3, -2, -4, -10, -11
+# How many messages have a connection at a time (docs/AGENT.md, "Limits").
+CONNECTIONS = 64
 
 
 def services(port, *names, host="127.0.0.1", interval="1s"):
@@ -48,12 +52,12 @@ class Hindered(Agent):
     """An agent whose calls fail as long as the file `while` has an error: from its beginning, if
     there are numbers."""
 
-    def __init__(self, desk, library, *numbers, **more):
+    def __init__(self, desk, library, *numbers, faster=1, files=(), **more):
         self.file = desk.folder / "while"
         if numbers:
             self.hinder(*numbers)
-        super().__init__(desk, variables={"LD_PRELOAD": str(library), "WHILE": str(self.file)},
-                         **more)
+        variables = {"LD_PRELOAD": str(library), "WHILE": str(self.file), "FASTER": str(faster)}
+        super().__init__(desk, *files, variables=variables, **more)
 
     def hinder(self, *numbers):
         made = self.file.with_suffix(".new")
@@ -96,6 +100,91 @@ def try_hindered(world):
     return f"{len(OWN) + len(OF_PROVIDER)} errors"
 
 
+def try_begun(world):
+    """A connection that was begun and is refused then is a failure that says so."""
+    library = library_of(world)
+    with provider(lambda *_: reply("0.25")) as server, \
+            desk_for(world, "begun", *services(server.port)) as desk:
+        agent = Hindered(desk, library)
+        wait_measured(desk, 2)
+        agent.hinder(errno.ECONNREFUSED, -1)
+        wait_until("failures", lambda: len(failures_of(desk)) > 1, 15)
+        agent.release()
+        expect("how they go", {failure[:9] for failure in failures_of(desk)}, {"no answer"})
+        agent.must_run()
+        agent.kill()
+
+
+def try_crowded(world):
+    """Providers that do not answer have all connections, after another fault that is over: that
+    messages wait for one until their time is over is said by its own cause."""
+    library = library_of(world)
+    with provider(lambda _, client: silent()(client)) as server:
+        long, short = ([f"{name}-{at}" for at in range(count)]
+                       for name, count in (("long", CONNECTIONS), ("short", 4)))
+        made = [entry for names, interval in ((long, "30s"), (short, "1s")) for entry in (
+            template(names[0], metric("m", of_web(server.port), interval=interval,
+                                      successCondition="result < 1")),
+            *(measured_beside(name, names[0]) for name in names))]
+        with desk_for(world, "crowded", *made) as desk:
+            agent = Hindered(desk, library, errno.EMFILE, server.port)
+            agent.wait_said("EMFILE", seconds=60)
+            agent.release()
+            agent.wait_said("providers that do not answer have all connections", seconds=40)
+            agent.must_run()
+            agent.kill()
+
+
+def try_other_provider(world):
+    """Of two metrics of a run the second has a provider that this machine cannot reach: the first
+    one's measurements count, and the second is measured once it is reached."""
+    library = library_of(world)
+    with provider(lambda *_: reply("0.25")) as one, provider(lambda *_: reply("0.5")) as two:
+        of = template("of", *(metric(name, of_web(server.port), successCondition="result < 1")
+                              for name, server in (("one", one), ("two", two))))
+        with desk_for(world, "other-provider", of, measured_beside("web", "of")) as desk:
+            agent = Hindered(desk, library)
+            wait_measured(desk, 1)
+            agent.hinder(errno.EADDRNOTAVAIL, two.port)
+            time.sleep(2.5)
+            before = count_measured(desk)
+            wait_until("the first", lambda: count_measured(desk)["one.e6"] > before["one.e6"] + 1,
+                       15)
+            expect("the second", count_measured(desk)["two.e6"], before["two.e6"])
+            agent.release()
+            wait_measured(desk, before["one.e6"] + 4, seconds=30)
+            agent.must_run()
+            agent.kill()
+            expect("failures", failures_of(desk), [])
+            want_once("other provider", measured(desk))
+
+
+def try_stopped_within(world):
+    """An agent that is stopped after it asked, until the time of the measurement is over: the reply
+    that came meanwhile counts."""
+    agents = []
+
+    def answer(_, client):
+        if agents and len(server.asked) % 3 == 0:
+            time.sleep(.5)
+            agents[0].signal(signal.SIGSTOP)
+            client.sendall(reply("0.5"))
+            time.sleep(2.5)
+            agents[0].signal(signal.SIGCONT)
+            return None
+        return reply("0.25")
+
+    with provider(answer) as server, \
+            desk_for(world, "stopped-within", *services(server.port, interval="2s")) as desk, \
+            agent_of(desk) as agent:
+        agents.append(agent)
+        wait_until("three that it was stopped for",
+                   lambda: [each.result for each in measured(desk)].count("500000") > 2
+                   or failures_of(desk) or agent.must_run(), 60)
+        expect("failures", failures_of(desk), [])
+        want_once("stopped within", measured(desk))
+
+
 def failures_of(desk):
     return [each.failure for each in measured(desk) if each.failure]
 
@@ -136,6 +225,40 @@ def want_unresolved(world, library, port, row, numbers, word):
         wait_measured(desk, before + 2, seconds=30)
         expect(f"{row}: failures", [each for each in measured(desk) if each.failure], [])
         agent.kill()
+
+
+def try_two_addresses(world):
+    """Of a name with an address of IPv6 and one of IPv4 the second is asked; and the address that a
+    name had counts while the resolver gives no answer, also once it was known for a minute."""
+    library = library_of(world)
+    with provider(lambda *_: reply("0.25")) as server, \
+            desk_for(world, "two-addresses",
+                     *services(server.port, host="both.example", interval="3s")) as desk:
+        agent = Hindered(desk, library, faster=10)
+        wait_measured(desk, 1)
+        agent.hinder(EAI_AGAIN, 0)
+        time.sleep(8)
+        before = count_measured(desk)["m.e6"]
+        wait_measured(desk, before + 2, seconds=20)
+        expect("failures", failures_of(desk), [])
+        expect("said", agent.errors().count(HINDERED), 0)
+        agent.must_run()
+        agent.kill()
+
+
+def try_unresolved_once(world):
+    """With --once, and a resolver that gives no answer now: nothing is reported, and the status is
+    5, also beside what is less."""
+    library = library_of(world)
+    with provider(lambda *_: reply("0.25")) as server:
+        made = services(server.port, host="measures.example")
+        for row, more in (("alone", ()), ("beside", (measured_beside("x" * 60, "of"),))):
+            with desk_for(world, f"unresolved-once-{row}", *made, *more) as desk:
+                agent = Hindered(desk, library, EAI_AGAIN, 0, options=("--once",))
+                wait_until("the end", agent.has_ended, 20)
+                expect(f"{row}: {agent.errors()}", agent.process.returncode, LOCAL)
+                expect(f"{row}: measured", measured(desk), [])
+                agent.kill()
 
 
 def try_hindered_once(world):

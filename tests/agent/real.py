@@ -112,7 +112,8 @@ def try_kills(world):
             time.sleep(rng.expovariate(1.2))
             killed.append(kill_and_start(rng, real, desk, agents))
         for name in names:
-            wait_status(desk, "Healthy" if shares[name] == GOOD else "Degraded", name, 60)
+            wait_status(desk, "Healthy" if shares[name] == GOOD else "Degraded", name,
+                        60 * world.slowness)
         agents[-1].must_run()
         agents[-1].kill()
         want_after_kills(desk, names)

@@ -33,17 +33,18 @@ def answering_rows(rows):
     return answer
 
 
-def manifests_of(rows, port):
+def manifests_of(rows, port, slowness):
     """A service for each row, and good ones beside them."""
     made = []
     for row in rows:
         name = name_of(row)
-        made += [template(name, metric("m", provider_of(row, port), interval="3s",
+        made += [template(name, metric("m", provider_of(row, port), interval=f"{3 * slowness}s",
                                        successCondition=row.condition)),
                  measured_beside(name, name)]
     for name in (*GOOD, GONE):
         made += [template(name, metric("m", of_web(free_port() if name == GONE else port, name),
-                                       interval="2s", successCondition="result < 0.5")),
+                                       interval=f"{2 * slowness}s",
+                                       successCondition="result < 0.5")),
                  measured_beside(name, name)]
     return made
 
@@ -72,11 +73,11 @@ def want_plain(row, text, but=()):
         raise Wrong(f"{row}: it has {marks!r} in {text!r}")
 
 
-def want_in_time(name, found, until):
+def want_in_time(name, found, until, patience):
     """The measurements of a good service went on all the time."""
     moments = [each.taken for each in found]
     for one, other in zip(moments, [*moments[1:], int(until)]):
-        if other - one > PATIENCE:
+        if other - one > patience:
             raise Wrong(f"{name}: {other - one} seconds behind the measurement at {one}")
 
 
@@ -84,15 +85,17 @@ def want_rows(world, name, rows):
     """Each reply of a provider becomes the measurement that it says, or a failure that says what
     came. The agent goes on, others are measured in time, and no output has a control character."""
     with provider(answering_rows(rows)) as server, \
-            desk_for(world, name, *manifests_of(rows, server.port)) as desk:
+            desk_for(world, name, *manifests_of(rows, server.port, world.slowness)) as desk:
         names = [*map(name_of, rows), *GOOD, GONE]
         with agent_of(desk) as agent:
-            time.sleep(30 if world.is_whole else 10)
-            wait_until("each row was measured", lambda: services_measured(desk) == len(names), 20)
+            time.sleep((30 if world.is_whole else 10) * world.slowness)
+            wait_until("each row was measured", lambda: services_measured(desk) == len(names),
+                       20 * world.slowness)
             until = time.time()
         found = measured(desk, *names)
-        want_each(rows, found, until)
+        want_each(rows, found, until, PATIENCE * world.slowness)
         want_said(agent, found, len(names))
+        time.sleep(3.2 * world.slowness)
         want_shown(desk, names)
     return f"{len(rows)} kinds of reply, {len(found)} measurements"
 
@@ -107,7 +110,7 @@ def try_bodies(world):
     return want_rows(world, "bodies", [*VALUES, *ANSWERS])
 
 
-def want_each(rows, found, until):
+def want_each(rows, found, until, patience):
     by_service = {}
     for each in found:
         by_service.setdefault(each.service, []).append(each)
@@ -116,7 +119,7 @@ def want_each(rows, found, until):
         raise Wrong("\n".join(wrong))
     for name in GOOD:
         expect(name, {each.result for each in by_service[name]}, {"250000"})
-        want_in_time(name, by_service[name], until)
+        want_in_time(name, by_service[name], until, patience)
     for each in by_service[GONE]:
         want_text(GONE, each.failure)
         if "no answer" not in each.failure and "connection" not in each.failure:
@@ -156,7 +159,6 @@ def run_on_terminal(desk, *words, seconds=60):
 
 def want_shown(desk, names):
     """On a terminal, once: a plain line for each measurement, without a control character."""
-    time.sleep(3.2)
     status, shown = run_on_terminal(desk, "--once")
     expect("--once on a terminal", status, 0)
     want_plain("the terminal", shown, "\r\n")

@@ -1,5 +1,6 @@
 """Providers that are silent, agents that were stopped, and desks that were away: parts of
 agent.py."""
+import json
 import signal
 import time
 
@@ -7,8 +8,10 @@ from agents import (
     agent_of, analysis, begin, desk_for, history, measured, measured_beside, metric, of_web,
     provider, reply, rollout, run_agent, status, template, wait_measured, wait_status,
     wait_until, want_once)
+from machine import Hindered, library_of
 from rows import silent
-from world import Wrong, expect
+from world import Wrong, answering, expect
+from world import ask as ask_bytes
 
 # Of a kind that no agent asks; another program is to measure it, and does not.
 NOBODY = {"datadog": {"query": "avg:errors"}}
@@ -78,13 +81,16 @@ def unmeasured(seconds):
 
 
 def try_nobody_measures(world):
-    """A metric whose provider no agent asks, and that no other program measures: standard error
-    says that its measurement is late, once, and time promotes the release."""
-    with desk_for(world, "nobody", *unmeasured(9)) as desk, agent_of(desk) as agent:
+    """Metrics whose provider no agent asks, and that no other program measures: standard error says
+    of each that its measurement is late, once, and time promotes the release."""
+    made = unmeasured(9)
+    made[0]["spec"]["metrics"].append({**made[0]["spec"]["metrics"][0], "name": "n"})
+    with desk_for(world, "nobody", *made) as desk, agent_of(desk) as agent:
         wait_status(desk, "Healthy", seconds=30)
         expect("nothing was measured", measured(desk), [])
-        late = [line for line in agent.errors().splitlines() if LATE in line]
-        if len(late) != 1 or not late[0].startswith("canary: web run 1 m"):
+        late = sorted(line for line in agent.errors().splitlines() if LATE in line)
+        if len(late) != 2 or not all(line.startswith(f"canary: web run 1 {name}")
+                                     for name, line in zip("mn", late)):
             raise Wrong(f"what is late: {agent.errors()!r}")
 
 
@@ -103,6 +109,68 @@ def try_abort_late(world):
             wait_status(desk, "Degraded", seconds=85)
             expect("aborted again", desk.count("abort"), {"web": 2})
         return "aborted, as nobody measures"
+
+
+def try_abort_late_away(world):
+    """The minute for which a measurement is seen to be due begins anew if the desk is away. The
+    agent has a clock that is ten times as fast."""
+    library = library_of(world)
+    with desk_for(world, "abort-late-away", *unmeasured(110)) as desk:
+        agent = Hindered(desk, library, faster=10, options=("--abort-late", "3"))
+        agent.wait_said(LATE)
+        time.sleep(2)
+        desk.kill()
+        agent.wait_said("no desk")
+        time.sleep(4)
+        desk.start()
+        back = time.monotonic()
+        wait_status(desk, "Degraded", seconds=30)
+        if time.monotonic() - back < 5:
+            raise Wrong(f"aborted {time.monotonic() - back} seconds after the desk was back")
+        agent.kill()
+
+
+class Looks:
+    """What an agent's looks at web find, through a server before the desk. As long as it is so
+    asked, another client reports what is due after each."""
+
+    def __init__(self, desk):
+        self.desk, self.moment, self.since, self.is_reporting = desk, 0, None, True
+
+    def answer(self, client):
+        message = client.recv(65536)
+        found = ask_bytes(self.desk.port, message)
+        client.sendall(found)
+        body = json.loads(found.split(b"\r\n\r\n", 1)[-1] or b"{}")
+        if message.startswith(b"GET /services/web "):
+            self.moment = body["moment"]
+        if message.startswith(b"GET /services/web/runs/1 "):
+            self.take(body["metrics"][0]["due"] <= self.moment)
+
+    def take(self, is_due):
+        """A look found it due or not; since when each did."""
+        self.since = (self.since or time.monotonic()) if is_due else None
+        if is_due and self.is_reporting:
+            self.desk.do("report", "web", "1", "m.e6", "250000", caller="other",
+                         journal="other.journal")
+
+
+def try_abort_late_others(world):
+    """What another client measures after each look is due anew at the next: the minute is that of
+    one measurement, and begins with each. The agent has a clock that is four times as fast."""
+    library = library_of(world)
+    with desk_for(world, "abort-late-others", *unmeasured(110)) as desk:
+        looks = Looks(desk)
+        with answering(looks.answer) as port:
+            agent = Hindered(desk, library, faster=4, port=port, options=("--abort-late", "3"))
+            wait_until("a minute of looks that find it due", lambda: looks.since is not None
+                       and time.monotonic() - looks.since > 16, 80)
+            looks.is_reporting = False
+            time.sleep(8)
+            expect("it goes on", (status(desk), desk.count("abort")), ("Paused", {}))
+            agent.must_run()
+            agent.kill()
+        want_once("others", measured(desk))
 
 
 def try_abort_late_once(world):

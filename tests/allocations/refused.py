@@ -2,6 +2,7 @@
 no refusal: refused.py PROGRAM FOLDER LIBRARY STEP FIRST [CASE..]. LIBRARY is made of refusing.c. Of
 the allocations of a desk on a file each STEP-th is refused, from the FIRST on. The comment at the
 top of tests/allocations/run says what has to come of it; serving.py has the desk that listens."""
+import json
 import os
 import re
 import shutil
@@ -16,6 +17,11 @@ from story_tables import expect_tables
 from story_words import B, Wrong, answer, command, expect, get, messages_of_story, put, query
 
 ROOT = os.path.join(os.path.dirname(os.path.realpath(__file__)), "../..")
+# Parts of another script: files of the first version, and what they become.
+sys.path.append(os.path.join(ROOT, "tests/migrate"))
+
+from first import contents, in_order, make_first, migrated, rows_of  # noqa: E402
+
 MANIFESTS = ("rollouts/step-analysis.json", "templates/success-rate.json")
 WAITS_FOR_NOBODY = (
     b"spec.strategy.canary.steps: no step after weight 20 waits for anybody: a version reaches "
@@ -474,6 +480,29 @@ def try_succeed(trial, share):
     share.refuse_each("succeed", refuse)
 
 
+def try_migrate(trial, share):
+    """A file of the first version is migrated, or `migrate` says that it has no memory and leaves
+    the file as it was, unless it fails as it is closed; and once more, with nothing refused."""
+    make_first(trial.begun, "story")
+    old = contents(trial.begun)
+    words = ["migrate", "--db", trial.file]
+
+    def refuse(number):
+        copy(trial.begun, trial.file)
+        found = trial.run(words, number)
+        asked = trial.asked()
+        row = f"migrate: when allocation {number} is refused"
+        is_old = contents(trial.file) == old
+        if is_old or found != (0, b"migrated\n", b""):
+            expect(row, found, (1, b"", OUT_OF_MEMORY))
+        again = (0, b"migrated\n" if is_old else b"current\n", b"")
+        expect(f"{row}: again, with nothing refused", trial.run(words), again)
+        expect(f"{row}: its rows", in_order(rows_of(trial.file)), migrated(old[1]))
+        return asked
+
+    share.refuse_each("migrate", refuse)
+
+
 def try_page_of_served(trial, share):
     """`page` of a file that a desk has open makes a page, or leaves none, and leaves no copy."""
     make_files(trial)
@@ -564,8 +593,38 @@ def try_argo(trial, share):
     try_line(trial, "argo of what is not translated", ["argo", refused], wanted, share)
 
 
-CASES = (try_lines, try_argo, try_stream, try_tables, try_file, try_opened, try_serve, try_import, try_shown,
-         try_client, try_page, try_backup, try_succeed, try_page_of_served)
+# What an agent measures of web.
+MEASURED = {"kind": "List", "items": [
+    {"kind": "AnalysisTemplate", "metadata": {"name": "t"}, "spec": {"metrics": [
+        {"name": "m", "interval": "1s", "successCondition": "result < 1", "provider": {"web": {
+            "url": "http://127.0.0.1:1/", "jsonPath": "{$.a[0]}",
+            "headers": [{"key": "A", "value": "b"}]}}}]}},
+    {"kind": "Rollout", "metadata": {"name": "web"}, "spec": {"strategy": {"canary": {
+        "analysis": {"templates": [{"templateName": "t"}]},
+        "steps": [{"setWeight": 20}, {"pause": {}}]}}}}]}
+
+
+def try_agent(trial, _):
+    """The agent asks nobody for what it does not know: as its files are read, memory runs out for
+    the call, and no provider is refused for that."""
+    with open(trial.rows, "w", encoding="utf-8") as manifests:
+        json.dump(MEASURED, manifests)
+    words = ["agent", "--dry-run", "--desk", "127.0.0.1:1", "--", trial.rows]
+    away = (3, b"", b"canary: web: no desk answered")
+    expect("agent", trial.run(words), away)
+
+    def refuse(number):
+        found = trial.run(words, number)
+        if found not in (away, (5, b"", b"canary: out of memory"), (1, b"", OUT_OF_MEMORY)):
+            raise Wrong(f"agent: when allocation {number} is refused: {found}")
+        return trial.asked()
+
+    EACH.refuse_each("agent", refuse)
+
+
+CASES = (try_lines, try_argo, try_stream, try_tables, try_file, try_opened, try_serve, try_import,
+         try_shown, try_client, try_page, try_backup, try_succeed, try_migrate, try_page_of_served,
+         try_agent)
 
 
 def main():

@@ -142,7 +142,7 @@ def try_lists(trial):
 
 
 def try_many_findings(trial):
-    """A hundred findings are told, and the others are counted."""
+    """`argo` shows a hundred findings, of translations or of checks, and counts the others."""
     metrics = [{"name": f"m{at}", "successCondition": "result > 1e-18",
                 "provider": {"web": {"url": "http://any/"}}} for at in range(30)]
     items = [{"kind": "AnalysisTemplate", "metadata": {"name": f"t{at}"},
@@ -150,7 +150,60 @@ def try_many_findings(trial):
     done = run(trial.program, ["argo", "-"], listed(*items).encode())
     lines = done.output.decode().splitlines()
     expect("150 findings", (done.status, len(lines), lines[-1]), (1, 101, "and 50 more"))
-    return "150 findings"
+    steps = {"strategy": {"canary": {"steps": [{"setWeight": 101}] * 60}}}
+    items = [{"kind": "Rollout", "metadata": {"name": f"s{at}"}, "spec": steps} for at in range(2)]
+    done = run(trial.program, ["argo", "-"], listed(*items).encode())
+    lines = [line for line in done.output.decode().splitlines() if line[:4] != "    "]
+    expect("120 findings", (done.status, len(lines), lines[-1]), (1, 101, "and 20 more"))
+    return "150 and 120 findings"
+
+
+def documents(count):
+    """A template without a Rollout, after so many documents of another kind."""
+    others = [json.dumps({"kind": "Secret", "metadata": {"name": f"s{at}"}}) for at in range(count)]
+    return "".join(f"---\n{it}\n" for it in [*others, json.dumps(JOB)]).encode()
+
+
+def try_most(trial):
+    """As many documents and items as there may be, and one more. `argo` shows a hundred notes, and
+    counts the others."""
+    faults = Faults()
+    with faults:
+        done = run(trial.program, ["argo", "-"], documents(999))
+        lines = done.errors.decode().splitlines()
+        expect("1,000 documents", (done.status, done.output, len(lines), lines[-1:]), (
+            0, b"template smoke\n  smoke\n    success: result == 1\n", 101,
+            ["canary: note: and 899 more"]))
+    with faults:
+        done = run(trial.program, ["argo", "-"], documents(1000))
+        expect("a document more", tuple(done), (
+            1, b"-:2:1: more than 1,000 documents: convert fewer at a time\n", b""))
+    for count, findings in ((64, []), (65, ["expected a list, of 64 items at most"])):
+        arguments = [{"name": f"a{at}", "value": "x"} for at in range(count)]
+        manifest = {**JOB, "spec": {**JOB["spec"], "args": arguments}}
+        with faults:
+            _, found = in_json(trial, ["-"], json.dumps(manifest).encode())
+            expect(f"{count} arguments", texts_of(found), findings)
+    faults.end()
+    return "4 counts"
+
+
+def try_one_unread(trial):
+    """Beside a file that is no manifest nothing else is found, since it may have what others
+    need."""
+    place, faults = folder_in(trial, "one-unread"), Faults()
+    write(os.path.join(place, "web.json"), json.dumps(rollout("web", "load")))
+    for name, text, line, column in (
+            ("load.yaml", "kind: AnalysisTemplate\nmetadata: {name: load\n", 3, 1),
+            ("load.json", '{"kind": "AnalysisTemplate",,', 1, 29)):
+        write(os.path.join(place, name), text)
+        with faults:
+            status, found = in_json(trial, ["web.json", name], cwd=place)
+            expect(f"{name} beside a Rollout", (status, [
+                (it["file"], it["line"], it["column"]) for it in found["findings"]]),
+                   (1, [(name, line, column)]))
+    faults.end()
+    return "2 files"
 
 
 # ---- what cannot be read

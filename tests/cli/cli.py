@@ -213,6 +213,18 @@ def try_programs(program, folder):
     return count
 
 
+def try_longest(program, folder):
+    """`check` reads a manifest of 16 MiB, and no longer one."""
+    place = os.path.join(folder, "longest")
+    os.mkdir(place)
+    for more, wanted in ((0, (0, b"ok\n")), (1, (1, b""))):
+        with open(os.path.join(place, "long.json"), "wb") as file:
+            file.write(MANIFEST.ljust(16_777_216 + more))
+        done = run(program, ["check", "long.json"], place, capture_output=True)
+        expect(f"check, {more} bytes beyond 16 MiB", (done.returncode, done.stdout), wanted)
+    return 2
+
+
 def try_warnings(program, folder):
     """What `check` warns of stands on standard error, and with --strict among the findings."""
     place = os.path.join(folder, "checks")
@@ -327,7 +339,7 @@ def try_terminals(program, folder):
 
 
 PARTS = (try_cases, try_mistakes, try_help, try_ends, try_faulty_streams, try_programs,
-         try_warnings, try_serving, try_name, try_terminals, *STREAM_PARTS, *FILE_PARTS,
+         try_longest, try_warnings, try_serving, try_name, try_terminals, *STREAM_PARTS, *FILE_PARTS,
          *CLOSED_PARTS, *CALL_PARTS, *CLOSED_CALL_PARTS)
 
 

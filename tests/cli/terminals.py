@@ -113,6 +113,29 @@ def try_pages(program, place):
     return 1
 
 
+def try_shares(program, place):
+    """Rows of each kind are counted, and judged: three receipts of each of two callers; and of a
+    service with a release two rows of its run and its tally, two of what the attempt and the run
+    are bound to, three measurements and five lines. Once these are judged, all of the file is."""
+    sent = [put("ops", 1, command("template errs m,interval=60")),
+            put("ops", 2, command("service v1 setWeight:20 pause background:errs")),
+            put("ops", 3, command("start v2")),
+            *(put("agent", number, command(f"report 1 m:{number}:{after}:5"))
+              for number, after in ((1, 180), (2, 240), (3, 300)))]
+    made = subprocess.run([program, "pipe", "--at", str(B), "--step", "60", "--db", "shares.db"],
+                          input=b"".join(sent), cwd=place, timeout=60, capture_output=True)
+    expect("a release", made.stdout.count(b"HTTP/1.1 200 OK"), len(sent))
+    with open(os.path.join(place, "shares.db-wal"), "wb") as log:
+        log.truncate(LOG)
+    size = os.path.getsize(os.path.join(place, "shares.db")) + LOG
+    words = ["history", "--db", "shares.db", "web"]
+    _, shown = run_showing(program, words, place)
+    found = counts(words, shown, rb"canary: (\d+) of %d MB judged" % -(-size // MEGABYTE))
+    expect(f"{words}: megabytes judged", found,
+           [size * rows // 18 // MEGABYTE for rows in (0, 3, 6, 18)])
+    return 1
+
+
 def try_drawing(program, place):
     """How many services of a page are drawn is shown, behind the judging of the desk's file."""
     words = ["page", "--db", "desk.db", "desk.html"]
@@ -276,6 +299,6 @@ def try_watching(program, place):
 
 def try_terminals(program, new_place):
     """Each of these in a new folder with a desk's file."""
-    parts = (try_judging, try_pages, try_drawing, try_reading, try_missing, try_faults,
+    parts = (try_judging, try_pages, try_shares, try_drawing, try_reading, try_missing, try_faults,
              try_watching)
     return sum(part(program, new_place()) for part in parts)

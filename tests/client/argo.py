@@ -3,8 +3,8 @@ import json
 
 from words import MANIFEST, NO_FILE
 from world import (
-    CONTRADICTION, DONE, KEY_USED, LOCAL, PENDING, WORDS, answering, ask, expect, rollout, shows,
-    want, want_delivered)
+    CONTRADICTION, DONE, KEY_USED, LOCAL, PENDING, REFUSED, WORDS, answering, ask, expect, rollout,
+    shows, want, want_all_said, want_delivered)
 
 ARGO = ("--argo",)
 KEY = ("--argo", "--once", "deploy-77")
@@ -28,6 +28,8 @@ spec:
 FOUND = ("canary: other.yaml:11:23: spec.metrics[0].successCondition: arithmetic: do it in the "
          "query (filled in: isNaN(result[0]) || result[0] + 1 <= 0.5)")
 FILES = ("latency.yaml", "rollouts.yaml")
+NO_DEADLINE = ("the desk ignores it, and has no deadline: have a job look for late measurements, and "
+               "abort")
 NAN = -9223372036854775808
 
 
@@ -95,6 +97,11 @@ def try_argo(world):
             {"service": {"version": "v1", "manifest": made_service("search")}}])
         want("a second time", desk.do("template", *FILES, options=ARGO), DONE,
              registered("latency-for-cart", "latency-for-search", revision=2))
+        # the first one is refused, so the next one is not asked
+        count = len(desk.journal().kept)
+        want("services again", desk.do("service", *FILES, "v1", options=ARGO), REFUSED,
+             '{"code":"service-exists"}\n')
+        expect("asked", len(desk.journal().kept), count + 1)
         for name in ("cart", "search"):
             want(f"start {name}", desk.do("start", name, "v2"), DONE,
                  shows(name, "Progressing", 1, 10) + "\n")
@@ -175,6 +182,33 @@ def try_argo_found(world):
         want("too long", desk.do("template", *FILES, "long.yaml", options=ARGO), WORDS,
              said=MANIFEST)
         want_nothing_sent("too long", desk)
+
+
+def try_argo_warned(world):
+    """What is warned of is said once in each call, and changes neither what is sent nor the
+    status."""
+    with world.desk("argo-warned") as desk:
+        made = rollout("web", {"setWeight": 10}, {"pause": {}})
+        made["spec"]["progressDeadlineSeconds"] = 600
+        text = json.dumps(made)
+        desk.write("web.json", text)
+        desk.write("latency.yaml", LATENCY.replace("{{args.limit}}", "0.5"))
+        said = (f"warning: web.json:1:{text.index('600') + 1}: spec.progressDeadlineSeconds: "
+                f"{NO_DEADLINE}")
+        shown = shows("web", "Healthy", 2, 100) + "\n"
+        for row, options, words, output in (
+                ("templates", ARGO, ("template", "latency.yaml", "web.json"),
+                 registered("latency")),
+                ("a service", KEY, ("service", "web.json", "v1"), shown),
+                ("the same again", KEY, ("service", "web.json", "v1"), shown)):
+            ended = desk.do(*words, options=options)
+            want(row, ended, DONE, output, said)
+            want_all_said(row, ended, said)
+        expect("what was asked", len(desk.journal().kept), 2)
+        del made["spec"]["progressDeadlineSeconds"]
+        desk.write("web.json", json.dumps(made))
+        ended = desk.do("template", "latency.yaml", "web.json", options=ARGO)
+        want("nothing to warn of", ended, DONE, registered("latency", revision=2))
 
 
 def try_argo_words(world):

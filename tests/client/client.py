@@ -14,6 +14,7 @@ import fates
 import journals
 import kills
 import limits
+import looks
 import minutes
 import queries
 import replies
@@ -30,8 +31,8 @@ from world import World, running
 # What needs a command that CHECK_WITHOUT may name.
 PARTS_WITH = {
     "strace": ("try_client_killed", "try_desk_killed", "try_power_cuts", "try_failing_calls",
-               "try_defaults", "try_slow_calls"),
-    "cc": ("try_late_clock",),
+               "try_taken_path", "try_defaults", "try_slow_calls"),
+    "cc": ("try_late_clock", "try_two_addresses"),
 }
 # How many parts run beside one another: they wait more than they compute.
 BESIDE = 6
@@ -45,7 +46,7 @@ def parts_of(*modules):
 
 # The long ones first.
 PARTS = parts_of(storms, kills, journals, fates, copies, replies, wishes, closed, reports, sends,
-                 queries, silence, strangers, unread, limits, words, minutes, argo)
+                 queries, silence, strangers, unread, limits, looks, words, minutes, argo)
 
 
 def fail(why):

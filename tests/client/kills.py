@@ -1,6 +1,7 @@
-"""The client and the desk killed at each call that they make, calls that fail, and power that goes,
-by strace: parts of client.py."""
+"""The client and the desk killed at each call that they make, calls that fail, paths that are taken
+meanwhile, and power that goes, by strace: parts of client.py."""
 import contextlib
+import os
 import re
 import signal
 import subprocess
@@ -8,11 +9,14 @@ import time
 
 from journal_rule import is_new, journal_of
 from world import (
-    DONE, LOCAL, NO_JOURNAL_FILE, PROMOTED, Wrong, add, environment, expect, process, shown, want,
-    want_delivered,
+    DONE, LOCAL, NO_FILE, NO_JOURNAL_FILE, PROMOTED, Wrong, add, environment, expect, process,
+    shown, wait_until, want, want_delivered,
 )
 
 NAME = re.compile(r"^(?:\d+ +)?(\w+)\(", re.MULTILINE)
+STOPPED = re.compile(r"^(\d+) +--- stopped by SIGSTOP", re.MULTILINE)
+# What may take a path.
+TAKES = {"fifo": os.mkfifo, "null": lambda path: path.symlink_to("/dev/null")}
 # How many parts of what was not synced are tried at each call, beside all of it and nothing.
 PARTS = 8
 
@@ -130,6 +134,45 @@ def try_failing_calls(world):
     if count < 20:
         raise Wrong(f"only {count} calls failed")
     return f"{count} calls failed"
+
+
+def run_stopped(world, desk, words, path, meanwhile):
+    """How a client ends that is stopped once it has looked at a path for the first time, and goes
+    on after this."""
+    log = desk.folder / "log"
+    log.unlink(missing_ok=True)
+    with process(["strace", "-f", "-o", str(log), "-P", str(path), "-e", "trace=/stat",
+                  "-e", "inject=/stat:signal=STOP:when=1", world.program, *words],
+                 cwd=desk.folder, env=environment(), stdin=subprocess.DEVNULL,
+                 stdout=subprocess.PIPE, stderr=subprocess.PIPE) as client:
+        wait_until("a client that is stopped",
+                   lambda: log.exists() and STOPPED.search(log.read_text()))
+        meanwhile()
+        os.kill(int(STOPPED.search(log.read_text())[1]), signal.SIGCONT)
+        output, errors = client.communicate(timeout=60)
+        return client.returncode, output.decode(), errors.decode()
+
+
+def try_taken_path(world):
+    """A FIFO or a device that takes the path of a journal once the client has looked at that is
+    refused as one that was there before, whether or not a journal was; nothing is asked."""
+    with world.desk("taken-path") as desk:
+        add(desk)
+        want("tick", desk.do("tick", "web"), DONE, shown(("Paused", 1, 20)))
+        whole = (desk.folder / "ops.journal").read_bytes()
+        for name, before in (("old", whole), ("new", None)):
+            for kind, take in TAKES.items():
+                path = desk.folder / f"{name}-{kind}.journal"
+                if before:
+                    path.write_bytes(before)
+
+                def taken(path=path, take=take):
+                    path.unlink(missing_ok=True)
+                    take(path)
+                words = desk.words("promote", "web", journal=path.name)
+                expect(path.name, run_stopped(world, desk, words, path, taken),
+                       (LOCAL, "", f"canary: {desk.of_file(NO_FILE, path.name)}\n"))
+        expect("promotions", desk.count("promote"), {})
 
 
 @contextlib.contextmanager

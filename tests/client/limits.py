@@ -87,6 +87,29 @@ def try_spellings(world):
         expect("65 fields", (found.status, found.output), (PENDING, ""))
 
 
+def try_longest_heads(world):
+    """A head of 16,384 bytes is one, and one of a byte more is no desk's, in whatever pieces it
+    comes."""
+    place = world.place("longest-heads")
+    front = reply(200, OK, JSON + "X: ").partition(b"X: ")[0]
+    room = 16_384 - len(reply(200, OK, JSON + "X: \r\n")) + len(OK)
+    for more, status, output in ((0, DONE, OK + "\n"), (1, PENDING, ""), (16_384, PENDING, "")):
+        whole = reply(200, OK, f"{JSON}X: {'x' * (room + more)}\r\n")
+        expect(more, whole.index(b"\r\n\r\n") + 4, 16_384 + more)
+        for first in (len(whole), len(front), 16_384):
+            def answer(client, whole=whole, first=first):
+                client.recv(65536)
+                client.sendall(whole[:first])
+                time.sleep(.2)
+                client.sendall(whole[first:])
+            with answering(answer) as port:
+                found = world.run(["get", "--desk", f"127.0.0.1:{port}", "--tries", "2", "web"],
+                                  place)
+                expect(f"{more} {first}", (found.status, found.output), (status, output))
+                if status == PENDING:
+                    want_all_said(f"{more} {first}", found, FOREIGN, NO_DESK)
+
+
 def try_longest_replies(world):
     """A body of 64 MiB is waited for, and one of a byte more is no desk's."""
     place = world.place("longest-replies")

@@ -7,6 +7,7 @@ import re
 import signal
 import subprocess
 
+from conversation import without_progress
 from world import Wrong, environment, expect, free_port, running, shows, want
 
 ROOT = pathlib.Path(__file__).resolve().parents[2]
@@ -69,7 +70,7 @@ def run_session(world, name, document, heading):
         except ProcessLookupError:
             pass
         running.discard(session)
-    return place, output.decode().splitlines(), errors.decode()
+    return place, output.decode().splitlines(), without_progress(errors).decode()
 
 
 def history_in(line):

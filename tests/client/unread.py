@@ -138,6 +138,12 @@ def try_watch_unread(world):
                 found = world.run([*words, "--desk", f"127.0.0.1:{port}", "web"], place)
                 want(f"{words} {number}", found, CONTRADICTION, said=REPLY_UNREAD)
                 want_all_said(f"{words} {number}", found, REPLY_UNREAD)
+    # a pause that would end after the last moment does not end
+    late = reply(200, body_with(code="ok", lines=["9998-12-31T23:59:30Z step 1 pause 60s"]), JSON)
+    with serving(standing, late) as port:
+        found = world.run(["watch", "--until", "Paused", "--desk", f"127.0.0.1:{port}", "web"], place)
+        want("a pause past the last moment", found, DONE,
+             "web Paused, step 1, weight 20%, pause of 60 s, which does not end\n")
     with serving(unread[0][0], standing, lines) as port, process(
             [world.program, "watch", "--forever", "--desk", f"127.0.0.1:{port}", "web"], cwd=place,
             env=environment(), stdin=subprocess.DEVNULL, stdout=subprocess.PIPE,

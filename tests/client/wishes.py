@@ -10,6 +10,7 @@ from world import (
 )
 
 KEY_INSTEAD = "--once and --instead cannot both be given"
+KEY_EMPTY = "the KEY of --once is empty"
 REPORT_INSTEAD = "a report cannot be asked in the place of another command"
 KEY = ("--once", "deploy-77")
 INSTEAD = ("--instead",)
@@ -32,7 +33,7 @@ def acted(desk, *lines):
 
 def try_once(world):
     """A second call with a key gets the same bytes, and nothing acts; the key is of no other
-    command."""
+    command. An empty one is refused."""
     with world.desk("once") as desk:
         add(desk)
         want("first", desk.do("promote", "web", options=KEY), DONE, shown(PROMOTED))
@@ -41,6 +42,9 @@ def try_once(world):
         for words in (("abort", "web"), ("promote-full", "web"), ("promote", "other"),
                       ("start", "web", "v3")):
             want(words, desk.do(*words, options=KEY), CONTRADICTION, said=KEY_USED)
+        for words, more in ((("promote", "web"), ()), (("template", "none.json"), ("--argo",))):
+            want(f"an empty key: {words}", desk.do(*words, options=("--once", "", *more)), WORDS,
+                 said=KEY_EMPTY)
         expect("the journal", (desk.folder / "ops.journal").read_bytes(), kept)
         expect("promotions", acted(desk, "promote"), [1])
         # a refusal is kept, too

@@ -1,6 +1,7 @@
 """Words, variables of the environment, terminals and closed outputs: parts of client.py."""
 import json
 import os
+import pathlib
 import select
 import signal
 import subprocess
@@ -15,6 +16,7 @@ from world import (
     two_pauses, wait_until, want, want_delivered,
 )
 
+ADDRESSES = pathlib.Path(__file__).with_name("addresses.c")
 ADDRESS = "the desk's address is not HOST:PORT (--desk or CANARY_DESK)"
 NO_ADDRESS = "the system knows no address of the desk's name: nothing was asked"
 NO_CALLER = "a caller has to be given: --as NAME or CANARY_AS"
@@ -98,6 +100,19 @@ def try_host_names(world):
             want(command[0], world.run(command, desk.folder), PENDING, said=NO_ADDRESS)
         expect("no journal", (desk.folder / "two.journal").exists(), False)
         want_delivered("names", desk, journal="named.journal")
+
+
+def try_two_addresses(world):
+    """Of a name with addresses of IPv6 and IPv4, that of IPv4 counts, wherever it stands."""
+    with world.desk("two-addresses") as desk:
+        add(desk, "web")
+        library = desk.folder / "addresses.so"
+        subprocess.run(["cc", "-O1", "-fPIC", "-shared", "-o", library, ADDRESSES, "-ldl"],
+                       check=True)
+        for name in ("six-first", "four-first"):
+            want(name, world.run(["get", "--desk", f"{name}:{desk.port}", "--tries", "1", "none"],
+                                 desk.folder, variables={"LD_PRELOAD": str(library)}), REFUSED,
+                 '{"code":"unknown-service"}\n')
 
 
 def try_words(world):

@@ -1,5 +1,6 @@
 """The file of a desk with three services, opened while a call on it fails: a part of disk.py."""
 import os
+import re
 import signal
 import subprocess
 import sys
@@ -77,6 +78,18 @@ class Opening:
         self.tables = tables_of(made)
         self.bytes = bytes_of(made)
 
+    def want_one_opening(self):
+        """The file is opened once: its store is asked before there is a connection over it, so that
+        its rows are held against the schema once."""
+        traced = ["strace", "-f", "-o", self.log, "-P", self.file, "-e", "trace=openat"]
+        copy(self.made, self.file)
+        if told_by_opening(self.row, traced, self.words) != self.well:
+            fail(f"{self.row}: it does otherwise when traced")
+        with open(self.log) as told:
+            opened = re.findall(r", O_RDWR\|O_NOCTTY\|O_CLOEXEC\) = \d", told.read())
+        if len(opened) != 1:
+            fail(f"{self.row}: the file is opened {len(opened)} times")
+
     def fail_call(self, at, is_killed):
         """The call at this place fails: the program says so, writes nothing else, and leaves the
         file as it is; one that a killed desk left may get what its log has."""
@@ -105,6 +118,7 @@ def try_openings(program, folder, step, first):
         for words in OPENED:
             row = f"{words[0]} on the file of a desk that {'was killed' if is_killed else 'ended'}"
             opening = Opening(row, program, folder, words, made)
+            opening.want_one_opening()
             for at in range(first % step, len(opening.names), step):
                 opening.fail_call(at, is_killed)
                 tried += 1

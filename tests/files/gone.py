@@ -155,6 +155,24 @@ def try_begun(program, folder):
                    (1, b"", b"canary: unknown-service\n"))
 
 
+def try_frames(program, folder):
+    """A log without a file has a frame from 568 bytes on, those of its header, the frame's and the
+    smallest page: the next desk makes a file beside a shorter one, and none beside it."""
+    for size in (567, 568):
+        for has_file in (True, False):
+            place = Place(program, folder)
+            write(place.log, BEGUN + bytes(size - len(BEGUN)))
+            if has_file:
+                write(place.file, b"")
+            row, before = f"a log of {size} bytes, file: {has_file}", place.contents()
+            found = place.run(["history", "--db", place.file, "web"])
+            if size == 567:
+                expect(row, found, (1, b"", b"canary: unknown-service\n"))
+                continue
+            expect_advice(row, place.file, found, (b"-wal", b"backup"))
+            expect(f"{row}: what is there", place.contents(), before)
+
+
 def put_kind(kind, path):
     """Puts something else than a file under a name; what it is has to be kept open meanwhile."""
     if kind == "a FIFO":
@@ -259,13 +277,19 @@ def move_folder(place):
     os.mkdir(place.folder)
 
 
+def cover_folder(place):
+    move_folder(place)
+    os.rmdir(place.folder)
+    write(place.folder, b"")
+
+
 def turn_link(place):
     write(os.path.join(place.folder, "other"), b"")
     os.symlink("other", os.path.join(place.folder, "turned"))
     os.rename(os.path.join(place.folder, "turned"), os.path.join(place.folder, "link"))
 
 
-CHANGES = (move, remove, replace, link, move_folder, turn_link)
+CHANGES = (move, remove, replace, link, move_folder, cover_folder, turn_link)
 
 
 def try_change(program, folder, change):
@@ -283,8 +307,8 @@ def try_change(program, folder, change):
         expect(f"{row}: a request", desk.status(put("ops", 4, command("promote"))), 200)
         begun = time.monotonic()
         change(place)
-        log = os.path.join(place.folder + (".moved" if change is move_folder else ""),
-                           "desk.db-wal")
+        is_moved = change in (move_folder, cover_folder)
+        log = os.path.join(place.folder + (".moved" if is_moved else ""), "desk.db-wal")
         before = read(log)
         found, spent = desk.statuses(), time.monotonic() - begun
         if found not in ([200, 503], [503]):
@@ -301,6 +325,25 @@ def try_replaced(program, folder):
     with ThreadPoolExecutor(len(CHANGES)) as pool:
         for tried in [pool.submit(try_change, program, folder, change) for change in CHANGES]:
             tried.result()
+
+
+def try_back(program, folder):
+    """A file that is moved, and comes back at once: from the first 503 on the desk answers nothing
+    else, and ends."""
+    place = Place(program, folder)
+    place.make()
+    with Desk(place) as desk:
+        move(place)
+        end = time.monotonic() + SECONDS
+        while desk.status() == 200:
+            if time.monotonic() > end:
+                raise Wrong("a file that is moved: the desk goes on")
+            time.sleep(0.02)
+        os.rename(place.file + ".moved", place.file)
+        found = desk.statuses()
+        if found not in ([], [503]):
+            raise Wrong(f"a file that comes back: the replies until it ends: {found}")
+        expect("a file that comes back: the end", desk.ended()[0], 1)
 
 
 def try_restored(program, folder):
@@ -369,8 +412,8 @@ def try_unsearched(program, folder):
         expect("a folder that may be searched again", desk.ended()[0], 1)
 
 
-PARTS = (try_log_alone, try_begun, try_kinds, try_replaced, try_restored, try_kept,
-         try_unsearched)
+PARTS = (try_log_alone, try_begun, try_frames, try_kinds, try_replaced, try_back, try_restored,
+         try_kept, try_unsearched)
 
 
 def main():

@@ -1,8 +1,10 @@
 """How much memory a desk takes for what it keeps of its file: rooms.py PROGRAM FOLDER. With
 `--cache` in different sizes, and each time in a new file, a desk registers services of 64 steps.
-Then services grow as their releases begin: each step is analysed by a template of several metrics.
-100 callers send long commands, of which each receipt has one. Last, histories are asked for, and
-grow. No clause says how much memory a program takes."""
+Then services grow as their releases begin: each step is analysed by a template of several metrics;
+and each is read again. 100 callers send long commands, of which each receipt has one. As many long
+templates are read, one for each service that names it. Histories are asked for, and grow. Last, so
+many callers come that their counts alone would take more than there is room for. No clause says how
+much memory a program takes."""
 import json
 import os
 import re
@@ -19,12 +21,16 @@ LEAST = 1_024
 # Releases that begin, and the metrics of each step; callers, and the long commands of each.
 RELEASES, METRICS = 60, 8
 CALLERS, COMMANDS, CONDITIONS, LONG = 100, 2, 30, 1_000
+# Templates as long, of which each is read as a service that names it is registered.
+TEMPLATES = 100
+# Callers of which nothing is settled, each with a request that is ahead of its turn.
+STRANGERS = 40_000
 # Services with long histories, and the releases of each, of which each tells a line for each step.
 TOLD, PASSED = 80, 16
 # The room of these, of which services have three eighths, and receipts and histories an eighth each.
 ROOM = 2 << 20
 SECONDS = 300
-ACCEPTED = b"HTTP/1.1 200 "
+ACCEPTED, CONFLICT = b"HTTP/1.1 200 ", b"HTTP/1.1 409 "
 
 
 def request(caller, number, command):
@@ -48,23 +54,39 @@ def registrations():
 
 
 def releases():
-    """Services that are registered, and each begins a release then, which binds 64 analyses."""
+    """Services that are registered, and each begins a release then, which binds 64 analyses. Then
+    each is asked for, and read if it was not kept."""
     wide = [{"name": f"m{at}"} for at in range(METRICS)]
     steps = STEPS * [{"analysis": {"templates": [{"templateName": "wide"}]}}]
     sent = [template("ops", 1, "wide", wide)]
     for at in range(RELEASES):
         start = {"start": {"service": f"s{at}", "version": "v2"}}
         sent += [registration(2 * at + 2, f"s{at}", steps), request("ops", 2 * at + 3, start)]
-    return sent
+    return sent + [get(query(f"service s{at}")) for at in range(RELEASES)]
+
+
+def long_metrics():
+    """Metrics whose conditions are long."""
+    condition = "result <" + LONG * " " + "5"
+    return [{"name": f"m{at}", "successCondition": condition, "failureCondition": condition}
+            for at in range(CONDITIONS)]
 
 
 def long_commands():
     """Templates of many callers, whose conditions are long."""
-    condition = "result <" + LONG * " " + "5"
-    metrics = [{"name": f"m{at}", "successCondition": condition, "failureCondition": condition}
-               for at in range(CONDITIONS)]
+    metrics = long_metrics()
     return [template(f"c{caller}", number, "long", metrics) for caller in range(CALLERS)
             for number in range(1, COMMANDS + 1)]
+
+
+def templates():
+    """Many such templates, and for each a service that names it, for which it is read."""
+    metrics, sent = long_metrics(), []
+    for at in range(TEMPLATES):
+        steps = [{"analysis": {"templates": [{"templateName": f"t{at}"}]}}]
+        sent += [template("ops", 2 * at + 1, f"t{at}", metrics),
+                 registration(2 * at + 2, f"s{at}", steps)]
+    return sent
 
 
 def histories():
@@ -80,24 +102,29 @@ def histories():
     return sent
 
 
+def ahead():
+    """Requests of many callers, each ahead of its turn: nothing is settled, but that is kept."""
+    return [request(f"c{at}", 2, {"tick": {"service": "web"}}) for at in range(STRANGERS)]
+
+
 def most_memory(process):
     """The most bytes of memory that a process has taken so far."""
     with open(f"/proc/{process.pid}/status", encoding="ascii") as status:
         return 1_024 * int(re.search(r"VmHWM:\s+(\d+) kB", status.read())[1])
 
 
-def wait_for_replies(process, answers, count):
-    """Waits until all requests are accepted."""
+def wait_for_replies(process, answers, count, told):
+    """Waits until all requests have such a reply."""
     end = time.monotonic() + SECONDS
     while time.monotonic() < end and process.poll() is None:
         with open(answers, "rb") as found:
-            if found.read().count(ACCEPTED) == count:
+            if found.read().count(told) == count:
                 return
         time.sleep(0.1)
-    raise Wrong("a desk that keeps what it reads does not accept all requests")
+    raise Wrong("a desk that keeps what it reads does not answer all requests as it must")
 
 
-def memory_with(program, folder, sent, words):
+def memory_with(program, folder, sent, words, told=ACCEPTED):
     """The most memory of a desk with these words, which answers these requests."""
     file, answers = (os.path.join(folder, name) for name in ("roomed", "roomed-answers"))
     for path in (file, f"{file}-wal"):
@@ -108,7 +135,7 @@ def memory_with(program, folder, sent, words):
             stdout=output) as process:
         process.stdin.write(b"".join(sent))
         process.stdin.flush()
-        wait_for_replies(process, answers, len(sent))
+        wait_for_replies(process, answers, len(sent), told)
         most = most_memory(process)
         process.stdin.close()
         if process.wait(SECONDS) != 0:
@@ -127,10 +154,10 @@ def try_services(program, folder):
         raise Wrong(f"a desk keeps more than --cache says: {nothing}, {little} bytes of memory")
 
 
-def try_room(program, folder, row, sent):
+def try_room(program, folder, row, sent, told=ACCEPTED):
     """What a desk keeps of these takes no more than twice the room, which is an estimate. All of it
     would take more than three times the room."""
-    nothing, kept = (memory_with(program, folder, sent, ["--cache", room])
+    nothing, kept = (memory_with(program, folder, sent, ["--cache", room], told)
                      for room in ("1", str(ROOM)))
     print(f"files: {row}: {kept - nothing} bytes of memory more in a room of {ROOM}",
           file=sys.stderr)
@@ -144,7 +171,9 @@ def main():
         try_services(program, folder)
         try_room(program, folder, "services that grow", releases())
         try_room(program, folder, f"receipts of {CALLERS} callers", long_commands())
+        try_room(program, folder, "templates that are read", templates())
         try_room(program, folder, "histories that grow", histories())
+        try_room(program, folder, f"counts of {STRANGERS} callers", ahead(), CONFLICT)
     except (Wrong, subprocess.TimeoutExpired) as fault:
         sys.exit(f"files: {fault}")
 

@@ -252,6 +252,21 @@ def try_held(program, folder):
     want_names("held", place, ["old[.]db", "old[.]db-wal", "new[.]db", "new[.]db-wal"])
 
 
+def try_linked_log(program, folder):
+    """Somebody gives the log of a copy another name before the copy has its own: the copy is not
+    made, since another may write its log."""
+    place, log = folder_in(folder, "linked-log"), os.path.join(folder, "linked-log-calls")
+    file, copy = os.path.join(place, "desk.db"), os.path.join(place, "copy")
+    make_desk(program, file)
+    words = [program, "backup", "--db", file, copy]
+    making = begin(traced(log, ["link"], "link:signal=STOP:when=1") + words)
+    stopped = stopped_in(log)
+    os.link(copy + "-wal", os.path.join(place, "mine"))
+    os.kill(stopped, signal.SIGCONT)
+    expect("a linked log", end_of(making), FILE_FAULT)
+    want_names("a linked log: what is left", place, ["desk[.]db", "desk[.]db-wal", "mine"])
+
+
 def try_page_in_turn(program, folder):
     """A page is made under a name that nobody knows before, is its owner's alone until it is whole,
     and is synced before and after it is named; killed or failing it leaves OUT as it was."""
@@ -304,6 +319,8 @@ def try_places(program, folder):
     if os.geteuid() == 0:
         places["stranger's"] = folder_in(folder, "strangers")
         os.chown(places["stranger's"], 65534, 65534)
+    if os.stat("/tmp").st_uid == 0 and os.stat("/tmp").st_mode & 0o1000:
+        places["tmp"] = "/tmp"
     file = os.path.join(place, "desk.db")
     with serving(program, file, 3):
         for runtime, temporary, wanted in (
@@ -311,8 +328,8 @@ def try_places(program, folder):
                 ("open", "plain", ["plain"]), ("group", "own", ["own"]),
                 ("unset", "sticky", ["sticky"]), ("none", "open", ["beside"]),
                 ("unset", "none", ["beside"]), ("stranger's", "sticky", ["sticky"]),
-                ("unset", "stranger's", ["beside"])):
-            if {runtime, temporary} <= set(places):
+                ("unset", "stranger's", ["beside"]), ("unset", "unset", ["tmp"])):
+            if {runtime, temporary, *wanted} - {"beside"} <= set(places):
                 there = dict(os.environ, XDG_RUNTIME_DIR=places[runtime], TMPDIR=places[temporary])
                 want_places(program, file, log, there, [places.get(name) for name in wanted])
         there = dict(os.environ, XDG_RUNTIME_DIR=places["own"], TMPDIR=places["plain"])
@@ -382,6 +399,23 @@ def try_no_memory(program, folder):
     expect("no memory to open the file: what is left", pair(file), before)
 
 
+def try_replaced(program, folder):
+    """Another desk's file takes the place of the one that a program is about to open: it
+    shows nothing of that file."""
+    place = folder_in(folder, "replaced")
+    file, other = os.path.join(place, "desk.db"), os.path.join(place, "other.db")
+    log = os.path.join(folder, "replaced-log")
+    make_desk(program, file)
+    make_desk(program, other, 2)
+    reading = begin(traced(log, ["openat"], "openat:signal=STOP:when=1")
+                    + ["-P", file, program, "history", "--db", file, "web"])
+    stopped = stopped_in(log)
+    os.rename(other, file)
+    os.kill(stopped, signal.SIGCONT)
+    expect("history, another file in the place of its own", end_of(reading),
+           (1, b"", b"canary: storage\n"))
+
+
 def try_making(program, folder):
     """Each call that writes or syncs fails as a desk's file is made: the program says so. The file
     that is made then has pages of 512 bytes."""
@@ -404,10 +438,10 @@ def try_making(program, folder):
 def main():
     program, folder, *names = sys.argv[1:]
     try:
-        for part in (try_no_memory, try_making, try_mixed_pair, try_killed_backups,
+        for part in (try_no_memory, try_replaced, try_making, try_mixed_pair, try_killed_backups,
                      try_log_begun_anew, try_failing_backups, try_killed_successions,
-                     try_failing_successions, try_held, try_page_in_turn, try_places,
-                     try_folder_taken):
+                     try_failing_successions, try_held, try_linked_log, try_page_in_turn,
+                     try_places, try_folder_taken):
             if not names or part.__name__ in names:
                 part(os.path.realpath(program), folder)
     except (Wrong, subprocess.TimeoutExpired) as fault:

@@ -96,12 +96,22 @@ def environment(**more):
     return {**kept, **more}
 
 
-class World:
-    """The program that is tried, and a folder for the files of each part."""
+def slowness(most):
+    """How many seconds of the clock one of a processor takes here now, `most` at most: 1 on a
+    machine that has little else to do."""
+    clock, processor = time.monotonic(), time.thread_time()
+    while time.thread_time() - processor < .2:
+        pass
+    return min(most, max(1, round((time.monotonic() - clock) / .2)))
 
-    def __init__(self, program, folder, is_whole, share):
+
+class World:
+    """The program that is tried, and a folder for the files of each part. Intervals and patience of
+    parts that are about seconds are `slowness` times what they are else."""
+
+    def __init__(self, program, folder, is_whole, share, slowness=1):
         self.program, self.folder = program, pathlib.Path(folder)
-        self.is_whole, self.share = is_whole, share
+        self.is_whole, self.share, self.slowness = is_whole, share, slowness
 
     def place(self, name):
         """A new folder."""

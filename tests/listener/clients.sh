@@ -135,18 +135,23 @@ want_faults() {
     [ "$found" = "$wanted" ] || miss "other faults on standard error: ${found:-none}"
 }
 
-# The desk has told of $1 clients that were cut off, within four seconds, and of no other fault. Those
-# of one second are one line.
-want_truncated() {
+# The desk has told of $2 faults of the kind $1, within four seconds. Those of one second are one
+# line.
+want_times() {
     local tries times=0
-    leave
-    for ((tries = 0; tries < 80 && times < $1; tries++)); do
+    for ((tries = 0; tries < 80 && times < $2; tries++)); do
         sleep 0.05
-        times=$(awk '/^canary: truncated 127\.0\.0\.1$/ { sum += 1 }
-            /^canary: truncated 127\.0\.0\.1 \([0-9]+ times\)$/ { sum += substr($4, 2) }
+        times=$(awk -v line="canary: $1 127.0.0.1" '$0 == line { sum += 1 }
+            index($0, line " (") == 1 { sum += substr($4, 2) }
             END { print sum + 0 }' "$work/errors")
     done
-    [ "$times" -eq "$1" ] || miss "$times clients were cut off in place of $1"
+    [ "$times" -eq "$2" ] || miss "$times faults of the kind $1 in place of $2"
+}
+
+# The desk has told of $1 clients that were cut off, and of no other fault.
+want_truncated() {
+    leave
+    want_times truncated "$1"
     ! grep -E '^canary: (read|write|memory)' "$work/errors" > /dev/null || miss "another fault"
 }
 

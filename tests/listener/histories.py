@@ -33,6 +33,8 @@ def put(caller, number, command):
 
 
 TICK = '{"tick":{"service":"web"}}'
+CHEAP = b"GET /services/web HTTP/1.1\r\n\r\n"
+SHORT = b"GET /services/short/history HTTP/1.1\r\n\r\n"
 
 
 class Client:
@@ -45,15 +47,16 @@ class Client:
     def begin(self, sent):
         self.socket.sendall(sent)
 
-    def is_answered(self):
-        """Whether a whole reply has come; it reads what is there, or waits for something."""
+    def is_answered(self, count=1):
+        """Whether so many whole replies of one length have come; it reads what is there, or waits
+        for something."""
         some = self.socket.recv(1 << 20)
         if not some:
             sys.exit("a connection ended without its reply")
         self.got += some
-        head, found, body = self.got.partition(b"\r\n\r\n")
+        head, found, _ = self.got.partition(b"\r\n\r\n")
         length = [it for it in head.split(b"\r\n") if it.startswith(b"Content-Length: ")]
-        return bool(found) and len(body) >= int(length[0].split()[1])
+        return bool(found) and len(self.got) >= count * (len(head) + 4 + int(length[0].split()[1]))
 
     def ask(self, sent):
         """Sends something, and reads its reply, whose status it gives."""
@@ -93,9 +96,11 @@ def make_history(port):
 
 
 class Crowd:
-    """Clients of which each has asked for a history, by their numbers, and who was answered."""
+    """Clients of which each has asked for a history, or so often for this one, by their numbers,
+    and who was answered."""
 
-    def __init__(self, port, desk):
+    def __init__(self, port, desk, asked=HISTORY, times=1):
+        self.times = times
         self.clients = [Client(port) for _ in range(CLIENTS)]
         for client in self.clients:
             # The desk has accepted it.
@@ -108,14 +113,14 @@ class Crowd:
         os.kill(desk, signal.SIGSTOP)
         time.sleep(0.2)
         for client in self.clients:
-            client.begin(HISTORY)
+            client.begin(times * asked)
             time.sleep(0.002)
 
     def look(self, seconds=0):
         """Notes the replies that have come, or that come within so many seconds if none has."""
         came = []
         for key, _ in self.ready.select(seconds):
-            if self.clients[key.data].is_answered():
+            if self.clients[key.data].is_answered(self.times):
                 came.append(key.data)
                 self.ready.unregister(key.fileobj)
         self.answered += came
@@ -139,26 +144,25 @@ class Crowd:
 
 
 def try_ticks(port, desk, _):
-    """One that ticks waits for a history or two, each time."""
+    """One that ticks waits for a history or two, each time, and so do its other queries."""
     other = Client(port)
     other.ask(put("tick", 1, TICK))
     crowd = Crowd(port, desk)
-    number, waited = 1, []
-    while number < 10:
-        number += 1
+    waited = []
+    for at in range(10):
         other.got = b""
         before = len(crowd.answered)
-        other.begin(put("tick", number, TICK))
+        other.begin(CHEAP if at % 2 else put("tick", at // 2 + 2, TICK))
         os.kill(desk, signal.SIGCONT)
         while not other.is_answered():
             pass
         crowd.look()
         waited.append(len(crowd.answered) - before)
     if len(crowd.answered) == CLIENTS:
-        sys.exit("late: all histories came before ten ticks were answered")
+        sys.exit("late: all histories came before ten other messages were answered")
     # If this process waits for a processor, more come meanwhile.
     if sorted(waited)[-3] > BESIDE:
-        sys.exit(f"late: so many histories came before each tick: {waited}")
+        sys.exit(f"late: so many histories came before each other message: {waited}")
     crowd.want_rest()
 
 
@@ -184,15 +188,21 @@ class Tracer:
 
 
 def try_order(port, desk, _):
-    """Histories are answered in the order in which they were asked for. Each client was accepted
-    after the one before it, so its descriptor in the desk is a higher one."""
-    crowd = Crowd(port, desk)
-    tracer = Tracer(desk)
-    os.kill(desk, signal.SIGCONT)
-    crowd.want_rest()
-    heads = tracer.heads()
-    if len(heads) != CLIENTS or heads != sorted(set(heads)):
-        sys.exit(f"histories were written to the descriptors {heads}, in this order")
+    """Histories are answered in the order in which they were asked for, and none twice at once for
+    one client. Each client was accepted after the one before it, so its descriptor in the desk is a
+    higher one. A history of one line is unsent for no time, so nothing else makes clients wait."""
+    other = Client(port)
+    other.ask(put("short", 1, SERVICE.replace('"web"', '"short"')))
+    for asked, times in ((HISTORY, 1), (SHORT, 2)):
+        crowd = Crowd(port, desk, asked, times)
+        tracer = Tracer(desk)
+        os.kill(desk, signal.SIGCONT)
+        crowd.want_rest()
+        heads = tracer.heads()
+        first = heads[:CLIENTS]
+        is_whole = len(heads) == times * CLIENTS and sorted(heads) == sorted(times * first)
+        if not is_whole or first != sorted(set(first)):
+            sys.exit(f"histories were written to the descriptors {heads}, in this order")
 
 
 def try_gone(port, desk, seconds):
@@ -201,7 +211,11 @@ def try_gone(port, desk, seconds):
     os.kill(desk, signal.SIGCONT)
     while not crowd.look(1):
         pass
-    gone = range(5, CLIENTS - 1)
+    # on a busy machine more of them may be answered by now
+    crowd.look()
+    gone = [number for number in range(5, CLIENTS - 1) if number not in crowd.answered]
+    if len(gone) < CLIENTS // 2:
+        sys.exit(f"late: {len(crowd.answered)} of {CLIENTS} histories came before a client left")
     for number in gone:
         crowd.leave(number)
     begun = time.monotonic()
@@ -224,6 +238,24 @@ def try_killed(port, desk, _):
     crowd.want_rest()
 
 
+def memory_of(process):
+    """The bytes of memory that a process has."""
+    with open(f"/proc/{process}/status", encoding="ascii") as status:
+        return 1024 * int(re.search(r"VmRSS:\s+(\d+) kB", status.read())[1])
+
+
+def try_memory(port, desk, _):
+    """Once a client has taken a long history, its memory is given back, though the client stays."""
+    clients = [Client(port) for _ in range(CLIENTS + 1)]
+    clients[0].ask(HISTORY)
+    before = memory_of(desk)
+    for client in clients[1:]:
+        client.ask(HISTORY)
+    more, length = memory_of(desk) - before, len(clients[0].got)
+    if more > CLIENTS // 2 * length:
+        sys.exit(f"{more} bytes of memory more after {CLIENTS} histories of {length} bytes")
+
+
 def hold(port):
     """Clients that ask for a history each and read nothing, until this process is killed."""
     clients = [Client(port) for _ in range(10)]
@@ -233,7 +265,8 @@ def hold(port):
     time.sleep(SECONDS)
 
 
-PARTS = {"ticks": try_ticks, "order": try_order, "gone": try_gone, "killed": try_killed}
+PARTS = {"ticks": try_ticks, "order": try_order, "gone": try_gone, "killed": try_killed,
+         "memory": try_memory}
 
 
 def main():

@@ -32,6 +32,7 @@ idle_makes_room() {
     open second
     get /services/nobody >&"$second"
     want_reply "$second" 404
+    sleep 1.2
     open third
     get /services/nobody >&"$third"
     want_reply "$third" 404 5 "an idle client makes no room"
@@ -39,6 +40,32 @@ idle_makes_room() {
     get /services/nobody >&"$second"
     want_reply "$second" 404
     want_faults
+}
+
+# One client has begun a message, and the other one asks again and again: neither makes room, until
+# the other one has been idle for a second.
+busy_makes_no_room() {
+    local begun busy third until asked
+    start --max-clients 2
+    open begun
+    printf 'GET /serv' >&"$begun"
+    open busy
+    get /services/nobody >&"$busy"
+    want_reply "$busy" 404
+    open third
+    get /services/nobody >&"$third"
+    until=$(($(now) + 2500)) asked=$(now)
+    while [ "$asked" -lt "$until" ]; do
+        get /services/nobody >&"$busy"
+        if ! read_reply "$busy" 5; then
+            [ "$(($(now) - asked))" -lt 500 ] || late "this row stood still"
+            miss "a busy client makes room"
+        fi
+        sleep 0.05
+        asked=$(now)
+    done
+    want_reply "$third" 404 5 "a client that is idle by now makes no room"
+    want_end "$busy" 0 2 "$(now)"
 }
 
 # A service whose history has some 3,000 bytes.
@@ -52,7 +79,7 @@ make_history() {
 }
 
 # A client that does not take its replies, so that too much is unsent: `deaf_client` is its process.
-# Opens the connections $1 and $2 of clients whose queries wait.
+# Opens the connections $1 and $2 of clients whose queries wait, the first after an empty line.
 make_queries_wait() {
     local tries
     start --max-unsent-total 1
@@ -60,16 +87,18 @@ make_queries_wait() {
     write_queries 6000 /services/web/history > "$work/stream"
     python3 -c "$deaf" "$port" "$work/reads" < "$work/stream" 2> "$work/deaf" &
     deaf_client=$!
-    for ((tries = 0; tries < 15; tries++)); do
+    for ((tries = 0; tries < 40; tries++)); do
         open "$1"
-        get /services/nobody >&"${!1}"
+        { printf '\r\n' && get /services/nobody; } >&"${!1}"
         read_reply "${!1}" 1 || break
         hang_up "${!1}"
         sleep 0.3
     done
-    [ "$tries" -lt 15 ] || miss "the desk answers queries while too much is unsent"
+    [ "$tries" -lt 40 ] || miss "the desk answers queries while too much is unsent"
     open "$2"
     get /services/nobody >&"${!2}"
+    sleep 0.3
+    ! read -r -t 0 -u "${!2}" || miss "the desk answers another query while too much is unsent"
 }
 
 # While one client does not take its replies, queries of others wait, and a request is answered.

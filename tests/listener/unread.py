@@ -8,8 +8,9 @@ import subprocess
 import sys
 import time
 
-CLIENTS = 240
-LINE = re.compile(rb"canary: (truncated 127\.0\.0\.\d+( \(\d+ times\))?|\d+ lines dropped)\n")
+# Addresses, from each of which come two clients.
+ADDRESSES = 240
+LINE = re.compile(rb"canary: (?:truncated 127\.0\.0\.\d+(?: \((\d+) times\))?|(\d+) lines dropped)\n")
 
 
 def cut_off(port, number):
@@ -46,22 +47,32 @@ def lines_of(text):
     return lines
 
 
+def count_told(lines):
+    """How many clients these lines are about, with those of which lines were dropped."""
+    found = [LINE.fullmatch(line) for line in lines]
+    return sum(int(it[1] or it[2] or 1) for it in found)
+
+
 def try_desk(port, pipe):
     """Fills the pipe, and reads it."""
-    for number in range(2, 2 + CLIENTS):
-        cut_off(port, number)
+    for number in range(2, 2 + ADDRESSES):
+        for _ in range(2):
+            cut_off(port, number)
         if number % 40 == 0:
             time.sleep(1.1)
     time.sleep(2.5)
     if status_of_answer(port) != b"404":
         sys.exit("the desk does not serve on while nobody reads its standard error")
     before = lines_of(told(pipe, 0.2))
-    if not 50 < len(before) < CLIENTS:
-        sys.exit(f"{len(before)} lines are in a pipe of 8,192 bytes, of {CLIENTS}")
+    if not 50 < len(before) < ADDRESSES:
+        sys.exit(f"{len(before)} lines are in a pipe of 8,192 bytes, of {ADDRESSES}")
     cut_off(port, 250)
-    after = b"".join(lines_of(b"first\n" + told(pipe, 4)))
-    if b" lines dropped\n" not in after or b"truncated 127.0.0.250\n" not in after:
+    after = lines_of(b"first\n" + told(pipe, 4))
+    if not any(it.endswith(b" lines dropped\n") for it in after) or (
+            b"canary: truncated 127.0.0.250\n" not in after):
         sys.exit(f"no line says how many were dropped, or none of the last client: {after!r}")
+    if (count := count_told(before[1:] + after[1:])) != 2 * ADDRESSES + 1:
+        sys.exit(f"lines are about {count} clients, with those dropped, of {2 * ADDRESSES + 1}")
 
 
 def main():

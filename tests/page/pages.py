@@ -47,10 +47,17 @@ def without_now(page):
     return re.sub(rb"as it stood at <time .*?</time>", b"", page, count=1)
 
 
+# The policy by which a browser itself refuses whatever a page would fetch or run.
+POLICY = (b"<meta http-equiv=\"Content-Security-Policy\" "
+          b"content=\"default-src 'none'; style-src 'unsafe-inline'\">")
+
+
 def look(page, row):
     """The page as a tree, whose tags close in turn."""
     if not page.startswith(b"<!DOCTYPE html>") or not page.endswith(b"</html>\n"):
         fail(f"{row}: no whole page")
+    if POLICY not in page.partition(b"<title>")[0]:
+        fail(f"{row}: no policy")
     try:
         return tree_of(page.decode())
     except (Broken, UnicodeDecodeError) as error:
@@ -189,14 +196,25 @@ def try_decimals(program, folder):
     if told != [rate, latency, pair, rate, latency, pair, size]:
         fail(f"decimals: the titles of names are {told}")
     drawing = list(root.all("svg", "plot"))[1]
-    points = [(point.first("title").inside[0], point.attributes["cy"])
+    points = [(point.first("title").inside[0], point.attributes["cx"], point.attributes["cy"])
               for point in drawing.all("circle")]
-    if points != [("#1, 00:01:10, Successful: 0.125", "600"),
-                  ("#2, 00:01:20, Successful: NaN", "690")]:
+    # The axis is 2,540 tenths of a pixel long, from the start of the run to 100 seconds later.
+    if points != [("#1, 00:01:10, Successful: 0.125", "1670", "600"),
+                  ("#2, 00:01:20, Successful: NaN", "1924", "690")]:
         fail(f"decimals: the points are {points}")
     limits = [label.text() for label in drawing.all("text", "end")][1:]
     if limits != ["0.25"]:
         fail(f"decimals: the limits are {limits}")
+
+
+def try_counted(program, folder):
+    """The table of `status` has how many measurements of a metric count: errors do not."""
+    file = os.path.join(folder, "outcomes.db")
+    told = run([program, "status", "--db", file], "counted")
+    for metric, phase, count in ((b"pair", b"Running", 2), (b"agent", b"Running", 1)):
+        row = rb"\n1 +lists +step 0 +lists@1 +%s +%s +%d +-  " % (metric, phase, count)
+        if not re.search(row, told):
+            fail(f"counted: no row {row!r} in {told!r}")
 
 
 def try_many(program, folder):
@@ -251,7 +269,7 @@ def try_silence(program, folder):
     told = list(outline(root))
     parts = [line for line in told if line.startswith(("part", "card", "row"))]
     wanted = ["part Waits for somebody (1)", "card under-way Paused v1 → v2 50%",
-              "part Goes on by itself (0)", "part Done (1)"]
+              "part Goes on by itself (0)", "part Done (2)"]
     if parts[:4] != wanted or not parts[5].startswith("row done | Healthy | v2 | 100%"):
         fail(f"silence: {parts}")
     late = [line for line in told if line.startswith("  late")]
@@ -324,6 +342,11 @@ def try_textfile(program, folder):
         textfile.look_at_worked(text)
         textfile.look(text, run([program, "status", "--json", "--db", file], "textfile"))
         textfile.collect(folder, text)
+    file = os.path.join(folder, "two-runs.db")
+    make_desk(program, file, "two runs", stories.two_runs())
+    with wrong_texts("two runs"):
+        textfile.look(text_of(program, file, "two runs"),
+                      run([program, "status", "--json", "--db", file], "two runs"))
     if has_prometheus():
         with wrong_texts("alerts"):
             textfile.look_at_alerts()
@@ -348,6 +371,7 @@ def main(program, folder, names):
     if not names:
         try_breaking(program, folder)
         try_decimals(program, folder)
+        try_counted(program, folder)
         try_many(program, folder)
         try_twenty(program, folder)
         try_silence(program, folder)

@@ -183,6 +183,10 @@ def try_told(program, folder, make_desk):
     index, values = drawn(program, file, os.path.join(folder, "told"))
     want("revised: the list", index["services"],
          [{"service": "web", "status": "Degraded", "waits": True}])
+    page = subprocess.run([program, "page", "--db", file, "-"], capture_output=True, timeout=LIMIT,
+                          check=True).stdout
+    want("revised: why it is aborted, on the page",
+         b"Aborted by a command. v1 has all traffic." in page, True)
     web = values["web"]
     want("revised: conditions", [one["conditions"] for each in web["runs"]
                                  for one in each["metrics"]], [None] * 4)
@@ -418,11 +422,16 @@ def try_full(program, folder):
         want(f"a disk of {most} bytes", found, (1, b"canary: write\n"))
         want(f"a disk of {most} bytes: the file", read(os.path.join(place, "load.json")), b"kept")
         want(f"a disk of {most} bytes: what is there", sorted(os.listdir(place)), sorted(sizes))
+    out = os.path.join(folder, "full.html")
+    want("a page on a full disk", tried(program, "--db", file, out,
+                                        preexec_fn=lambda: limits_writes(4096)),
+         (1, b"canary: write\n"))
+    want("a page on a full disk: it", os.path.exists(out), False)
 
 
 def try_kills(program, folder):
     """`page` is killed on its way, again and again: each file is whole, and what is left beside
-    them is their owner's alone."""
+    them is their owner's alone, unless it is whole and was about to get its name."""
     file, place = os.path.join(folder, "thinned.db"), folder_in(folder, "killed")
     words = [program, "page", "--db", file, "--json", place, os.path.join(folder, "killed.html")]
     begun = time.monotonic()
@@ -437,8 +446,9 @@ def try_kills(program, folder):
         for name in names:
             value_in(os.path.join(place, name))
         for name in set(os.listdir(place)) - set(names):
-            want(f"{name}: its mode", stat.S_IMODE(os.stat(os.path.join(place, name)).st_mode),
-                 0o600)
+            path = os.path.join(place, name)
+            if stat.S_IMODE(os.stat(path).st_mode) != 0o600:
+                value_in(path)
 
 
 def try_watch(program, folder):

@@ -187,7 +187,9 @@ def thinned():
     desk.service("load", "v1", [weight(10), pause()], background)
     desk.start("load", "v2")
     for number in range(1000):
-        desk.report("load", 1, "load", 99 if number % 100 == 50 else number % 40)
+        # the error stands where no measurement is drawn that is Successful
+        desk.report("load", 1, "load", "no route to host" if number == 334
+                    else 99 if number % 100 == 50 else number % 40)
     # too many that are not Successful to draw all of them
     desk.template("worse", metric("worse", failureLimit=1000, successCondition="result < 50"))
     background = {"templates": [{"templateName": "worse"}]}
@@ -195,6 +197,7 @@ def thinned():
     desk.start("worse", "v2")
     for number in range(400):
         desk.report("worse", 1, "worse", 50)
+    desk.report("worse", 1, "worse", 1)
     return desk
 
 
@@ -268,6 +271,19 @@ def late():
     return desk
 
 
+def two_runs():
+    """Two open runs, of which the first is later."""
+    desk = Desk()
+    desk.template("errors", metric("errors", interval="10s"))
+    desk.template("smoke", metric("probe", interval="10s", count=3))
+    background = {"templates": [{"templateName": "errors"}]}
+    desk.service("web", "v1", [weight(30), pause("30s"), analysis("smoke")], background)
+    desk.start("web", "v2")
+    for _ in range(5):
+        desk.command("tick", "web")
+    return desk
+
+
 def ended():
     """Attempts that ended, within 24 hours and before: with measurements and without any."""
     desk = Desk(step=28000)
@@ -325,7 +341,8 @@ MANY += ["aborted"] + ["goes"] * 2 + ["held"]
 
 def silence(at):
     """A background analysis beside timed pauses, and an agent that is dead. One release is done,
-    with not one measurement; the other one is under way."""
+    with not one measurement; another one is under way. The third is done, and one of its two
+    metrics was measured."""
     desk = Desk(step=1, at=at)
     desk.template("errors", metric("errors", interval="30s", successCondition="result < 5"))
     background = {"templates": [{"templateName": "errors"}]}
@@ -333,6 +350,11 @@ def silence(at):
     desk.start("done", "v2")
     desk.service("under-way", "v1", [weight(10), pause("20s"), weight(50), pause("2h")], background)
     desk.start("under-way", "v2")
+    desk.template("both", metric("one", interval="30s"), metric("two", interval="30s"))
+    background = {"templates": [{"templateName": "both"}]}
+    desk.service("half", "v1", [weight(10), pause("20s")], background)
+    desk.start("half", "v2")
+    desk.report("half", 1, "one", 1)
     return desk
 
 

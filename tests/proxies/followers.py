@@ -4,7 +4,9 @@ import contextlib
 import json
 import os
 import shlex
+import socket
 import subprocess
+import threading
 import time
 
 from parts import (
@@ -162,6 +164,88 @@ def try_follower_streams(world):
                 expect(f"{row}: it goes on", started.poll(), None)
 
 
+EVIL = "\u001b[2J\u202e"
+STATE = "1 web {} {} 127.0.0.1 2 0 {} 1 1\n"
+TRUE = (STATE.format(1, "v1", 65) + STATE.format(2, "v2", 35)).encode()
+# What a socket that is not HAProxy's answers to each command, and what of it is said, in turn. None:
+# the follower hangs up.
+LIES = [
+    (b"", "web has no server v1: nothing is changed"),
+    (b"\xff\xfe", "UnicodeDecodeError"),
+    (STATE.format(1, "v1", EVIL).encode(), "ValueError"),
+    (TRUE + STATE.format(3, "v3" + EVIL, 50).encode(), "v3\\x1b[2J\\u202e 50 -> 0 1 web 1 v1"),
+    ("flood", "OSError: the answer has no end"),
+    ("silence", "TimeoutError"),
+    ("drip", None),
+]
+
+
+def lie(client, answer, is_over):
+    """Answers a command so."""
+    client.recv(1000)
+    if isinstance(answer, bytes):
+        client.sendall(answer)
+    while answer in ("flood", "drip", "silence") and not is_over():
+        if answer != "silence":
+            client.sendall(b"x" * (100_000 if answer == "flood" else 1))
+        time.sleep(.01 if answer == "flood" else .5)
+
+
+@contextlib.contextmanager
+def lying(path):
+    """A socket that answers with one lie after another: each one again until the first function
+    says to go on. The second one has those at which the other side has hung up."""
+    turn, hung_up = [0], []
+    with socket.socket(socket.AF_UNIX) as server:
+        server.bind(str(path))
+        server.listen()
+
+        def serve():
+            with contextlib.suppress(OSError):
+                while True:
+                    client, now = server.accept()[0], turn[0]
+                    answer = LIES[now][0] if now < len(LIES) else TRUE
+                    try:
+                        with client:
+                            lie(client, answer, lambda now=now: turn[0] != now)
+                    except OSError:
+                        hung_up.append(answer)
+
+        threading.Thread(target=serve, daemon=True).start()
+        try:
+            yield lambda: turn.__setitem__(0, turn[0] + 1), lambda: hung_up
+        finally:
+            turn[0] = -1
+            server.shutdown(socket.SHUT_RDWR)
+
+
+def try_lying_proxies(world):
+    """A socket in the place of HAProxy's that answers as that does not, or without an end, and an
+    nginx whose words command a terminal: the followers go on, and say it in plain text."""
+    folder = world.place("lying-haproxy")
+    spoken = said_after(folder, [line()])
+    with lying(folder / "socket") as (go_on, hung_up), follower(
+            folder, spoken, "follow-haproxy", "web", folder / "socket", "web") as (started, said):
+        for answer, text in LIES:
+            wait_until(f"{str(answer)[:20]}: {text}", lambda text=text, answer=answer: (
+                text in said() if text else answer in hung_up()), LONGEST)
+            go_on()
+        lasts("it goes on", lambda: started.poll() is None)
+        want_plain(said())
+    folder = world.place("lying-nginx")
+    install(folder / "nginx", text="#!/bin/sh\nprintf 'no \\033[2J\\342\\200\\256' >&2\nexit 1\n")
+    with follower(folder, said_after(folder, [line()]), "follow-nginx", "web", folder / "web.conf",
+                  folder / "nginx") as (started, said):
+        wait_until("an nginx that fails", lambda: "ValueError: nginx -T: no \\x1b[2J\\u202e\n"
+                   in said(), LONGEST)
+        lasts("it goes on", lambda: started.poll() is None)
+        want_plain(said())
+
+
+def want_plain(text):
+    expect("in plain text", [mark for mark in text if not mark.isprintable() and mark != "\n"], [])
+
+
 @contextlib.contextmanager
 def unheard(row, folder, variables, name, *words):
     """A follower whose streams are closed, or whose standard error has no reader."""
@@ -270,6 +354,9 @@ def try_nginx_words(world):
     with nginx(folder) as proxy:
         proxy.start()
         spoken = said_after(folder, [*HOSTILE, line(), *HOSTILE])
+        # a stranger's link at the name of its part, which leads to a file of somebody else
+        (folder / "victim").write_text("kept", encoding="ascii")
+        (folder / "web.conf.part").symlink_to("victim")
         with follower(folder, spoken, *words_of(proxy)) as (started, said):
             want_answers("the last line that is one", proxy, 65, 35)
             expect("it goes on", started.poll(), None)
@@ -277,6 +364,7 @@ def try_nginx_words(world):
         expect("its file", (folder / "web.conf").read_text(encoding="utf-8"),
                'split_clients "$request_id" $canary_web {\n    35% web_v2;\n    * web_v1;\n}\n')
         expect("nothing is left beside it", [*folder.glob("web.conf?*")], [])
+        expect("where a link led", (folder / "victim").read_text(encoding="ascii"), "kept")
     folder = world.place("nginx-often")
     (folder / "web.conf").write_text('split_clients "" $canary_web {\n* web_v1;\n}\n',
                                      encoding="utf-8")

@@ -1,15 +1,17 @@
 """What examples/operations/notify posts: to a webhook that takes it, and to one that is away, slow,
-answers 500, closes or leads elsewhere: parts of proxies.py."""
+answers 500 or a byte at a time, closes or leads elsewhere: parts of proxies.py."""
 import contextlib
 import http.server
 import json
+import os
+import subprocess
 import threading
 import time
 
-from followers import LONGEST, NO_LINES, NO_VERSIONS, NO_WEIGHTS, line, said_after
-from parts import children_of, follower, is_alive, lasts, speaking
+from followers import LONGEST, NO_LINES, NO_VERSIONS, NO_WEIGHTS, line, said_after, unheard
+from parts import OPERATIONS, children_of, follower, is_alive, lasts, speaking
 from silence import variables
-from world import Caller, Wrong, expect, free_port, rollout, wait_until
+from world import Caller, Wrong, expect, free_port, process, rollout, wait_until
 
 METRIC = {"name": "m", "successCondition": "result >= 95", "failureCondition": "result < 90",
           "failureLimit": 0, "inconclusiveLimit": 0}
@@ -83,8 +85,12 @@ def webhook(*words, **options):
 
 def notifying(folder, around, port, file="last"):
     """The script, with a webhook at a port of this machine."""
-    around = {**around, "CANARY_WEBHOOK": f"http://127.0.0.1:{port}{PATH}", "no_proxy": "*"}
-    return follower(folder, around, "notify", "web", folder / file)
+    return follower(folder, variables_for(around, port), "notify", "web", folder / file)
+
+
+def variables_for(around, port):
+    """These variables, and where the webhook is."""
+    return {**around, "CANARY_WEBHOOK": f"http://127.0.0.1:{port}{PATH}", "no_proxy": "*"}
 
 
 def want_texts(row, hook, *wanted):
@@ -174,12 +180,28 @@ def take_slowly(handler):
     return handler is None
 
 
+def drip(begun):
+    """An answer that begins so, and then goes on a byte at a time, longer than this waits."""
+    def answer(handler):
+        until = time.monotonic() + 6 * LONGEST
+        with contextlib.suppress(OSError):
+            handler.wfile.write(begun)
+            while time.monotonic() < until:
+                handler.wfile.write(b"x")
+                time.sleep(.2)
+        handler.close_connection = True
+        return True
+    return answer
+
+
 # How a webhook answers, one after the other, and what the script then says.
 ANSWERS = [
     (reply_with(500, "<!channel>\u001b[2J"), "500"), (close_with(b""), "RemoteDisconnected"),
     (take_slowly, None), (close_with(b"HTTP/1.1 2"), "BadStatusLine"),
     (reply_with(302, "Found", ("Location", "/elsewhere")), "it leads elsewhere"),
-    (reply_with(404, "no_service"), "404"), (close_with(b"\x00" * 70000), "LineTooLong")]
+    (reply_with(404, "no_service"), "404"), (close_with(b"\x00" * 70000), "LineTooLong"),
+    (drip(b"HTTP/1.1 204 No Content\r\nSlow: "), "TimeoutError"),
+    (drip(b"HTTP/1.1 302 Found\r\nLocation: /elsewhere\r\n\r\n"), "it leads elsewhere")]
 
 
 def try_notify_away(world):
@@ -249,13 +271,15 @@ def try_notify_words(world):
         expect("it goes on", started.poll(), None)
         expect("each is said", said().count("no line of canary watch: "), 2 * len(HOSTILE))
         expect("in plain text", [mark for mark in said() if mark < " " and mark != "\n"], [])
-    # FILE has what was posted last: after a restart it is not posted again
-    folder = world.place("notify-again")
-    (folder / "last").write_text("web v2 at 35%", encoding="ascii")
-    spoken = said_after(folder, [stand(), stand(weight=40)])
-    with webhook() as hook, notifying(folder, spoken, hook.port):
-        want_texts("not again", hook, "web v2 at 40%")
-        expect("the last", (folder / "last").read_text(encoding="ascii"), "web v2 at 40%")
+    want_files(world)
+    # with all its streams closed, and if nobody reads its standard error
+    for row in ("closed", "unread"):
+        folder = world.place(f"notify-{row}")
+        spoken = said_after(folder, [stand(), stand(weight=40)])
+        with webhook() as hook, unheard(row, folder, variables_for(spoken, hook.port), "notify",
+                                        "web", folder / "last") as started:
+            want_texts(row, hook, "web v2 at 35%", "web v2 at 40%")
+            expect(f"{row}: it goes on", started.poll(), None)
     folder = world.place("notify-ends")
     spoken = speaking(folder, "exit 5")
     with webhook() as hook, notifying(folder, spoken, hook.port) as (started, said):
@@ -267,3 +291,30 @@ def try_notify_words(world):
     with webhook() as hook, notifying(folder, spoken, hook.port, "none/last") as (started, said):
         expect("no file: it ends", started.wait(LONGEST), 1)
         expect("no file: nothing is posted", (hook.come, "secret" in said()), ([], False))
+
+
+def want_files(world):
+    """FILE has what was posted last: after a restart it is not posted again. A FIFO holds up
+    nothing, and no link at the name of its part is followed."""
+    for row, kept, texts in (("again", "web v2 at 35%\n", ["web v2 at 40%"]),
+                             ("fifo", None, ["web v2 at 35%", "web v2 at 40%"])):
+        folder = world.place(f"notify-{row}")
+        last, victim = folder / "last", folder / "victim"
+        last.write_text(kept, encoding="ascii") if kept else os.mkfifo(last)
+        victim.write_text("kept", encoding="ascii")
+        (folder / "last.part").symlink_to("victim")
+        spoken = said_after(folder, [stand(), stand(weight=40)])
+        with webhook() as hook, notifying(folder, spoken, hook.port):
+            want_texts(row, hook, *texts)
+            expect(f"{row}: the last", last.read_text(encoding="ascii"), "web v2 at 40%\n")
+            expect(f"{row}: where a link led", victim.read_text(encoding="ascii"), "kept")
+    # on a disk that is full, as by a limit of no byte, each restart would post the same again
+    folder = world.place("notify-full")
+    spoken = said_after(folder, [stand()])
+    with webhook() as hook:
+        words = ["prlimit", "--fsize=0", OPERATIONS / "notify", "web", folder / "last"]
+        with process([*map(str, words)], cwd=folder, env=variables_for(spoken, hook.port),
+                     stdin=subprocess.DEVNULL, stdout=subprocess.DEVNULL,
+                     stderr=subprocess.DEVNULL) as started:
+            expect("full: it ends", started.wait(LONGEST), 1)
+        expect("full: nothing is posted", hook.come, [])

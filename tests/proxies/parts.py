@@ -171,9 +171,9 @@ def follower(folder, variables, *words):
 
 
 def children_of(started):
-    """The processes that such a one has started."""
-    text = pathlib.Path(f"/proc/{started.pid}/task/{started.pid}/children").read_text()
-    return [int(word) for word in text.split()]
+    """The processes that such a one has started, by any of its threads."""
+    files = pathlib.Path(f"/proc/{started.pid}/task").glob("*/children")
+    return [int(word) for file in files for word in file.read_text().split()]
 
 
 def is_alive(pid):

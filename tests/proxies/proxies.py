@@ -22,6 +22,7 @@ NEEDS = {
     "try_haproxy": {"haproxy"},
     "try_haproxy_words": {"haproxy"},
     "try_follower_streams": {"haproxy"},
+    "try_lying_proxies": set(),
     "try_nginx": {"nginx"},
     "try_nginx_words": {"nginx"},
     "try_desks": {"haproxy"},

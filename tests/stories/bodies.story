@@ -1,4 +1,4 @@
-bodies 278
+bodies 286
 
 # Bodies; other members and kinds; names and labels; and at the end what is unsupported before it is
 # unreadable, which holds in a body of one member alone. Then bytes: blanks round a body, blanks
@@ -51,6 +51,14 @@ unreadable {"start":{"service":"web","version":null}}
 unreadable {"service":{"manifest":{"metadata":{"name":"web"},"spec":{"strategy":{"canary":{}}}}}}
 unreadable {"service":{"manifest":{"metadata":{"name":"web"},"spec":{"strategy":{"canary":{}}}},
     "version":"v1","x":null}}
+unreadable {"service":{"manifest":{"metadata":{"name":"web"},"spec":{"strategy":{"canary":{}}}},
+    "x":"v1"}}
+unreadable {"service":{"manifest":{"metadata":{"name":"web"},"spec":{"strategy":{"canary":{}}}},
+    "version":null}}
+unreadable {"service":{"manifest":{"metadata":{"name":"web"},"spec":{"strategy":{"canary":{}}}},
+    "version":"v 1"}}
+unreadable {"service":{"x":{"metadata":{"name":"web"},"spec":{"strategy":{"canary":{}}}},
+    "version":"v1"}}
 reads {"service":{"manifest":{"apiVersion":"apps/v1","metadata":{"name":"web"},
     "spec":{"strategy":{"canary":{}}}},"version":"v1"}}
 
@@ -72,6 +80,9 @@ reads "kind":"AnalysisTemplate","spec":{"metrics":[{"name":"m"}],"args":[{"name"
 unsupported "kind":"ClusterAnalysisTemplate","spec":{"metrics":[{"name":"m"}]}
 unreadable "metadata":{"name":"T"},"spec":{"metrics":[{"name":"m"}]}
 unreadable "metadata":{},"spec":{"metrics":[{"name":"m"}]}
+unreadable "metadata":null,"spec":{"metrics":[{"name":"m"}]}
+unreadable "kind":"AnalysisTemplate"
+unreadable "spec":null
 unreadable "spec":{}
 unreadable "spec":{"metrics":[]}
 unreadable "spec":{"metrics":{"name":"m"}}
@@ -92,6 +103,7 @@ unreadable "spec":{"metrics":[{"name":"m"}],"dryRun":[{"metricName":"<<64*a>>"}]
 unreadable "spec":{"metrics":[{"name":"m"}],"dryRun":[{"metricName":"<<32*é>>"}]}
 unreadable "spec":{"metrics":[null]}
 unreadable "spec":{"metrics":[{"name":"m"}],"dryRun":[null]}
+unreadable "spec":{"metrics":[{"name":"m"}],"dryRun":{"metricName":"m"}}
 unsupported "spec":{"metrics":[{"name":"m"},{"consecutiveSuccessLimit":1}]}
 unsupported "kind":"analysistemplate","spec":{"metrics":[{"name":"m"}]}
 

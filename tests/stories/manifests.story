@@ -1,4 +1,4 @@
-manifests 177
+manifests 181
 
 # Texts.
 between ...
@@ -314,6 +314,11 @@ ends {"kind":"Rollout","metadata":{"name":"web"},"spec":{"strategy":{"canary":{"
      expected no member but setWeight, pause or analysis (others are unsupported)
      |     instead: leave the step out
 
+# So is the text of a condition.
+ends {"kind":"AnalysisTemplate","metadata":{"name":"t"},"spec":{"metrics":[ ... ]}}
+<<99*5,>>{"name":"m","successCondition":"x"} =>  | spec.metrics[98].name: missing;
+     expected 1 to 63 bytes of A-Z a-z 0-9 . _ - | and 1 more
+
 # Warnings, of manifests that are taken.
 warns {"kind":"AnalysisTemplate","metadata":{"name":"t"},"spec":{"metrics":[ ... ]}}
 {"name":"m"} => canary: warning: spec.metrics[0] (metric "m"): no condition,
@@ -323,6 +328,9 @@ warns {"kind":"AnalysisTemplate","metadata":{"name":"t"},"spec":{"metrics":[ ...
 {"name":"a","successCondition":"result > 5"} => nothing
 {"name":"m","successCondition":"result > 5","x":"<<65536*x>>"} => canary: warning: manifest:
      65660 bytes, and the body of a request has at most 65,536
+{"name":"m","successCondition":"result > 5","x":"<<65412*x>>"} => nothing
+{"name":"m","successCondition":"result > 5","x":"<<65413*x>>"} => canary: warning: manifest:
+     65537 bytes, and the body of a request has at most 65,536
 
 # Rollouts that time alone brings to 100 percent, and others.
 warns {"kind":"Rollout","metadata":{"name":"web"},"spec":{"strategy":{"canary":{"steps":[ ... ]}}}}
@@ -445,6 +453,8 @@ strict ...
      to go back, start the old version, and promote it in full
 {"metadata":{"name":"t"},"spec":{"metrics":[{"name":"m"}]}} =>
      spec.metrics[0] (metric "m"): no condition, so each result is Successful
+{"metadata":{"name":"t"},"spec":{"metrics":[{"name":"m","failureCondition":5}]}} =>
+     spec.metrics[0].failureCondition (metric "m"): expected a condition in a text
 
 # The body of a request has the same warnings.
 warns-request ...

@@ -8,7 +8,7 @@ use canary_base::durations::Seconds;
 use canary_base::error::Memory;
 use canary_base::lists::Text;
 use canary_base::names::{Label, Name};
-use canary_client::outcome::{say, say_lines, say_of};
+use canary_client::outcome::{say, say_lines, say_of, say_warnings};
 use canary_convert::conversion::Converted;
 use canary_convert::work::{Made, Planned};
 use canary_page_html::shown::{TextKind, shown};
@@ -18,9 +18,9 @@ use std::io::Write;
 
 const UNREAD: &str = "the file cannot be read";
 
-/// What is measured by these files; none if they are not translated, and then `errors` says why.
-/// With `has_lines` another program gives what no provider is asked for; else `errors` has a line
-/// for each such metric.
+/// What is measured by these files; none if they are not translated, and then `errors` says why, or
+/// else what is warned of. With `has_lines` another program gives what no provider is asked for;
+/// else `errors` has a line for each such metric.
 ///
 /// # Errors
 /// `Memory` if an allocation was refused.
@@ -76,6 +76,10 @@ fn plan_of<F: Write>(
         say_lines(errors, translated.found.lines(alloc, manifests)?.as_str());
         return Ok(None);
     }
+    say_warnings(
+        errors,
+        translated.warnings.lines(alloc, manifests)?.as_str(),
+    );
     let Translated { made, .. } = translated;
     Ok(Some(measured_by(alloc, &made, has_lines, errors)?))
 }

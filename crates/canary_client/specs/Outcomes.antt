@@ -51,6 +51,7 @@ outcome_of stop.Header = Words
 outcome_of stop.OtherCaller = Words
 outcome_of stop.ReportInstead = Words
 outcome_of stop.KeyInstead = Words
+outcome_of stop.KeyEmpty = Words
 -- by the desk, which has no such thing
 outcome_of stop.NoService = Refused
 outcome_of stop.NoRun = Refused

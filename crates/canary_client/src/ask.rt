@@ -88,15 +88,23 @@ fn try_ask<W: Write, F: Write>(
     errors: &mut F,
     is_terminal: bool,
 ) -> Result<ClientExit, Stop> {
-    if call.is_instead && call.key.is_some() {
-        return Err(Stop::KeyInstead);
-    }
+    check_key(call)?;
     let place = endpoint_of(rt, &call.desk)?;
     let caller = caller_of(rt, &call.caller)?;
     if call.is_argo {
         return ask_each(rt, call, &place, caller, output, errors, is_terminal);
     }
     ask_plain(rt, call, &place, caller, output, errors, is_terminal)
+}
+
+// Checks the key of a call, if it has one: a command that takes another one's place has none, and
+// an empty one is that of a variable that is not set.
+fn check_key(call: &Call) -> Result<(), Stop> {
+    match &call.key {
+        Some(_) if call.is_instead => Err(Stop::KeyInstead),
+        Some(key) if key.as_str().is_empty() => Err(Stop::KeyEmpty),
+        _ => Ok(()),
+    }
 }
 
 // Asks the command that the words are.

@@ -1,5 +1,5 @@
 //! What `do --argo` asks: the commands that manifests of Argo Rollouts become.
-use crate::outcome::{Stop, say_lines};
+use crate::outcome::{Stop, say_lines, say_warnings};
 use crate::wish::{Asking, label_of, service_asking, template_asking};
 use canary_argo_files::reading::{FileReadFault, Manifests, read_files};
 use canary_argo_files::translated::{Translated, translate};
@@ -20,7 +20,8 @@ pub(crate) struct NamedCommand {
 }
 
 /// The commands of `template FILE..` or `service FILE.. VERSION`: one for each template, or each
-/// Rollout, of Argo's manifests in these files. What is found in them goes to `errors`.
+/// Rollout, of Argo's manifests in these files. What is found in them goes to `errors`, or if
+/// nothing is found, what is warned of.
 ///
 /// # Errors
 /// `ArgoCommand` if the words are no such command, `Argo` if anything is found, `ArgoNothing` if
@@ -131,7 +132,7 @@ fn made_of<P: Files + AllocGlobal, F: Write>(
     }
 }
 
-// What these manifests become, if nothing is found in them.
+// What these manifests become, if nothing is found in them. What is warned of goes to `errors`.
 fn made_in<F: Write>(
     alloc: Global,
     manifests: &Manifests,
@@ -141,6 +142,10 @@ fn made_in<F: Write>(
     if translated.is_found() {
         return Err(tell_found(alloc, &translated, manifests, errors));
     }
+    say_warnings(
+        errors,
+        translated.warnings.lines(alloc, manifests)?.as_str(),
+    );
     let Translated { made, .. } = translated;
     Ok(made)
 }

@@ -44,7 +44,8 @@ pub enum HeadProgress {
 /// # Errors
 /// `Foreign` if no head of a reply begins so, or if it is none that a desk writes: with a
 /// `Transfer-Encoding`, whether or not a `Content-Length` stands beside it (RFC 9112, section 6.3),
-/// or without exactly one `Content-Length`, of digits alone, that is `MAX_BODY` at most.
+/// without exactly one `Content-Length`, of digits alone, that is `MAX_BODY` at most, or of more
+/// than `MAX_DESK_HEAD` bytes.
 pub fn front_of(bytes: &[u8]) -> Result<HeadProgress, RetryReason> {
     let mut fields = [EMPTY_HEADER_SPAN; MAX_DESK_FIELDS];
     match parse_response(bytes, &mut fields) {
@@ -66,7 +67,7 @@ fn front_with(
         return Ok(HeadProgress::Interim(head.len));
     }
     let fields = &fields[..head.headers];
-    if has_encoding(bytes, fields) {
+    if head.len > MAX_DESK_HEAD || has_encoding(bytes, fields) {
         return Err(RetryReason::Foreign);
     }
     match length_in(bytes, fields) {

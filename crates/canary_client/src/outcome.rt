@@ -114,6 +114,8 @@ pub enum Stop {
     ReportInstead,
     /// A command that takes the place of another one has no key of its own.
     KeyInstead,
+    /// The key is empty.
+    KeyEmpty,
     /// There is no such service.
     NoService,
     /// There is no such run.
@@ -197,7 +199,8 @@ impl Stop {
             Stop::BadService | Stop::Part | Stop::ForeverUntil => ClientExit::Words,
             Stop::Status | Stop::Manifest | Stop::Header => ClientExit::Words,
             Stop::Argo | Stop::ArgoCommand | Stop::ArgoNothing => ClientExit::Words,
-            Stop::OtherCaller | Stop::ReportInstead | Stop::KeyInstead => ClientExit::Words,
+            Stop::OtherCaller | Stop::ReportInstead => ClientExit::Words,
+            Stop::KeyInstead | Stop::KeyEmpty => ClientExit::Words,
             Stop::NoService | Stop::NoRun | Stop::NoMetric | Stop::Query => ClientExit::Refused,
             Stop::NotBegun | Stop::DeskName | Stop::NoDesk => ClientExit::Pending,
             Stop::Unanswered | Stop::RowUnanswered | Stop::TimeOut => ClientExit::Pending,
@@ -272,6 +275,7 @@ impl Stop {
             Stop::OtherCaller => "this journal is another caller's",
             Stop::ReportInstead => "a report cannot be asked in the place of another command",
             Stop::KeyInstead => "--once and --instead cannot both be given",
+            Stop::KeyEmpty => "the KEY of --once is empty",
             _ => {
                 "a command is promote, promote-full, abort, retry or tick SERVICE; start SERVICE \
                  VERSION; template FILE; service FILE VERSION; report SERVICE RUN METRIC RESULT, \
@@ -390,6 +394,16 @@ pub fn say<F: Write>(errors: &mut F, sentence: &str) {
 pub fn say_lines<F: Write>(errors: &mut F, lines: &str) {
     for line in lines.lines() {
         say(errors, line);
+    }
+}
+
+/// Writes each of these lines on `errors` as a warning, after `canary: warning: `. A fault of
+/// `errors` is ignored.
+pub fn say_warnings<F: Write>(errors: &mut F, lines: &str) {
+    for line in lines.lines() {
+        let _ = errors.write_all(b"canary: warning: ");
+        let _ = errors.write_all(line.as_bytes());
+        let _ = errors.write_all(b"\n");
     }
 }
 

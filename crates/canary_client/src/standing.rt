@@ -229,16 +229,22 @@ impl Standing {
             }
             StandingReason::Held(_) => format!(in alloc; ", held: step {step} is Inconclusive"),
             StandingReason::Waiting => String::from_str(alloc, ", waits for a promotion"),
-            StandingReason::Pause { seconds, until } => {
-                let text = moment_text(alloc, until, now)?;
-                let text = text.as_str();
-                format!(in alloc; ", pause of {seconds} s until {text}")
-            }
+            StandingReason::Pause { seconds, until } => pause_words(alloc, seconds, until, now),
             StandingReason::Analysis { run } => format!(in alloc; ", analysis run {run}"),
             StandingReason::Aborted => String::from_str(alloc, ", aborted by a command"),
             StandingReason::AbortedBy { run } => format!(in alloc; ", aborted by run {run}"),
         }
     }
+}
+
+// The words for a timed pause. One that would end after the greatest moment does not end.
+fn pause_words(alloc: Global, seconds: u64, until: u64, now: u64) -> Result<String, AllocError> {
+    if Moment::new(until).is_none() {
+        return format!(in alloc; ", pause of {seconds} s, which does not end");
+    }
+    let text = moment_text(alloc, until, now)?;
+    let text = text.as_str();
+    format!(in alloc; ", pause of {seconds} s until {text}")
 }
 
 // A moment for people, in UTC: the time of the day, after the date if that is not the date of now.

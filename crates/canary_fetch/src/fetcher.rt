@@ -116,8 +116,9 @@ impl Fetcher {
         {
             return Err(FetchFault::Poll);
         }
+        // What is late by the time before the wait had all of it to be heard, also if this process
+        // was stopped meanwhile.
         self.underway.dispatch_all(&self.events);
-        self.look_at_clock(rt);
         self.underway.end_late();
         Ok(())
     }
