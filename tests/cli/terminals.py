@@ -96,7 +96,7 @@ def try_judging(program, place):
 def try_pages(program, place):
     """The receipts of a caller who has more than 256 are judged in pages, each counted once. What is
     judged is shown as as large a share of the bytes of the file and its log as of its rows. The file
-    is a large one, so the line stands there before any row is judged."""
+    is a large one, so the line stands there before SQLite has read any of it."""
     sent = [put("ops", number, command("template errs m,interval=60"))
             for number in range(1, RECEIPTS + 1)]
     made = subprocess.run([program, "pipe", "--at", str(B), "--step", "1", "--db", "pages.db"],
@@ -107,9 +107,12 @@ def try_pages(program, place):
     size = os.path.getsize(os.path.join(place, "pages.db")) + LOG
     words = ["status", "--db", "pages.db"]
     _, shown = run_showing(program, words, place)
-    found = counts(words, shown, rb"canary: (\d+) of %d MB judged" % -(-size // MEGABYTE))
+    end, whole = shown.find(ERASED) + len(ERASED), -(-size // MEGABYTE)
+    found = counts(words, shown[:end], rb"canary: (\d+) MB read to check %d MB" % whole)
+    expect(f"{words}: megabytes read at first", found[0], 0)
+    found = counts(words, shown[end:], rb"canary: (\d+) of %d MB judged" % whole)
     expect(f"{words}: megabytes judged", found,
-           [0, size * PAGE // RECEIPTS // MEGABYTE, size // MEGABYTE])
+           [size * PAGE // RECEIPTS // MEGABYTE, size // MEGABYTE])
     return 1
 
 

@@ -1,6 +1,6 @@
 """Checks the tables of docs/CHANGING.md, a part of documents.py.
 
-- each file that the first cell of a row names is there: `canary_plan: same.rt, proofs/Alike, Seen`
+- each file that the first cell of a row names is there: `canary_plan: names.rt, proofs/Alike, Seen`
 - the first table of a new command has exactly the files with a case for one command, PromoteFull,
   or for its line, and the second table, of what some commands change, has none of them; worked
   rows, tests and use lines do not count

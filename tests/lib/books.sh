@@ -13,7 +13,8 @@ opened() {
         echo ok
     else
         # but for the lines of a program that takes more than a second, as on a slow machine
-        sed -E -e '/^canary: [0-9]+ of [0-9]+ MB judged$/d' -e 's/^canary: //' "$work/why"
+        sed -E -e '/^canary: [0-9]+ of [0-9]+ MB judged$/d' \
+            -e '/^canary: [0-9]+ MB read to check [0-9]+ MB$/d' -e 's/^canary: //' "$work/why"
     fi
 }
 

@@ -8,7 +8,8 @@ from story_words import B
 
 AT_B = ["pipe", "--at", str(B), "--step", "1"]
 STILL_AT_B = ["pipe", "--at", str(B), "--step", "0"]
-PROGRESS = re.compile(rb"canary: \d+ (?:of \d+ )?(?:MB judged|MB read|services drawn)(?:\n|$)")
+PROGRESS = re.compile(rb"canary: \d+ (?:of \d+ )?"
+                      rb"(?:MB judged|MB read|MB read to check \d+ MB|services drawn)(?:\n|$)")
 
 
 def without_progress(errors):

@@ -15,6 +15,7 @@
 //!     }
 
 pub mod backup;
+pub mod checking;
 mod exclusive_file;
 pub mod export;
 pub mod history;

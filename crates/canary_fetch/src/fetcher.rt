@@ -62,11 +62,6 @@ impl Fetcher {
         })
     }
 
-    /// How many messages were taken in and not answered yet.
-    pub fn count(&self) -> usize {
-        self.underway.count()
-    }
-
     /// Why messages wait for a connection, if the last one could not be begun by a fault of this
     /// machine. It is tried again until one is begun, or the time of the message is over.
     pub fn hindrance(&self) -> Option<LocalFault>

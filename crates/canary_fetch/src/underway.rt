@@ -61,13 +61,6 @@ impl Underway {
         }
     }
 
-    // How many there are.
-    pub(crate) fn count(&self) -> usize
-        ensures { result ≡ btree_map_len self.entry.now.queries }
-    {
-        self.queries.len()
-    }
-
     // Takes in a message to this address, which is answered under the token within the limit.
     pub(crate) fn add(
         &mut self,

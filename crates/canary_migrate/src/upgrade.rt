@@ -3,6 +3,7 @@ use crate::migrate::migrate;
 use canary_tables::fault::TableFault;
 use canary_tables_adopt::progress::JudgingProgress;
 use canary_tables_file::connect::connect;
+use canary_tables_file::reading::{ReadingProgress, ReportingDisk};
 use canary_tables_read::meta::{MetaRow, desk_row};
 use canary_tables_schema::fault::fault_of;
 use canary_tables_schema::recognize::is_desk;
@@ -11,7 +12,7 @@ use std::alloc::Global;
 
 /// Makes the file of SQLite at a path, which is a desk's of the first schema, one of the present
 /// schema (`migrate`), and answers true; false if it is one already, of which nothing is changed.
-/// The rows that are judged are reported to `progress`.
+/// What is read of the file is reported to `reading`, and the rows that are judged to `progress`.
 ///
 /// # Errors
 ///
@@ -20,21 +21,22 @@ use std::alloc::Global;
 /// contents of its time, as with `passAfter` in a template; `Memory` where an allocation was
 /// refused; `Storage` where the file cannot be opened, is no database, or fails. The file is as it
 /// was then; but if it fails as it is closed, it may be migrated.
-pub fn upgrade<G: JudgingProgress>(
+pub fn upgrade<P: ReadingProgress, G: JudgingProgress>(
     rt: &HostRuntime,
     path: &str,
+    reading: P,
     progress: &mut G,
 ) -> Result<bool, TableFault> {
-    match connect(rt, path) {
+    match connect(rt, path, reading) {
         Ok(conn) => upgrade_file(rt.alloc(), conn, progress),
         Err(error) => Err(open_fault(error)),
     }
 }
 
 // The same of a file that is open, which is closed.
-fn upgrade_file<G: JudgingProgress>(
+fn upgrade_file<P: ReadingProgress, G: JudgingProgress>(
     alloc: Global,
-    conn: Connection<FileStore<File>>,
+    conn: Connection<FileStore<ReportingDisk<File, P>>>,
     progress: &mut G,
 ) -> Result<bool, TableFault> {
     match migrate_unless_current(alloc, conn, progress) {
@@ -83,7 +85,9 @@ fn is_current<S: Alter>(conn: &mut Connection<S>) -> Result<bool, TableFault> {
 }
 
 // Closes a file that was migrated, and answers true, or why that failed.
-fn closed(conn: Connection<FileStore<File>>) -> Result<bool, TableFault> {
+fn closed<P: ReadingProgress>(
+    conn: Connection<FileStore<ReportingDisk<File, P>>>,
+) -> Result<bool, TableFault> {
     match conn.close() {
         Ok(()) => Ok(true),
         Err(error) => Err(fault_of(error).into()),

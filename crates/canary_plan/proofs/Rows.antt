@@ -15,13 +15,11 @@ use Rattle.canary_plan.specs.declared.analysis_parts.AnalysisParts.{AnalysisPart
 use Rattle.canary_plan.specs.declared.bound.BoundParts.{BoundParts}
 use Rattle.canary_plan.specs.declared.template_spec.MetricSpec.{MetricSpec}
 use Rattle.canary_plan.specs.declared.template_spec.TemplateSpec.{TemplateSpec}
-use Rattle.canary_plan.specs.declared.template.ConditionKey.TheVariants.{Success, Failure}
 use Rattle.canary_plan.specs.declared.refusal.Refusal.TheVariants.{BadCondition, IntervalNeeded, DuplicateMetric, BadDryRun, UnknownTemplate, EndlessMetric, BadStrategy, RevisionsSpent}
 use Rattle.canary_plan.specs.Conditions.{condition_of}
 use Rattle.canary_plan.specs.Plans.{Templates, template_of, strategy_of, bound_of, unbound, analysis_at, analysis_or_none, metrics_at, all_revisions, distinct, is_marked}
 use Rattle.canary_plan.specs.PlanRefusals.{template_refusal, strategy_refusal, bound_refusal}
 use Rattle.canary_plan.specs.Refusals.{code_of}
-use Rattle.canary_plan.specs.Binding.{bad_condition}
 
 -- Conditions.
 
@@ -105,12 +103,6 @@ one_is_marked = refl
 
 marked_by_all : is_marked (codes ".*" ∷ []) (codes "m") ≡ true
 marked_by_all = refl
-
-second_failure : bad_condition 0 (thrice ∷ unread ∷ []) ≡ Some (record { metric = 1; key = Failure })
-second_failure = refl
-
-success_before_failure : bad_condition 0 (record (metric (codes "m")) { success = Some (codes "("); failure = Some (codes ")"); within = refl } ∷ []) ≡ Some (record { metric = 0; key = Success })
-success_before_failure = refl
 
 -- Strategies, where `t` is the third revision of the template above, `errs` is measured each minute, and `u` is not known.
 

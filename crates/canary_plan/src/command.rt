@@ -1,13 +1,10 @@
 //! Commands.
-ghost use Rattle.std.specs.Prelude.{◌≡◌, ◌&&◌, IfOk};
+ghost use Rattle.std.specs.Prelude.{◌≡◌, IfOk};
 ghost use Rattle.std.specs.Option.{option_copied};
 ghost use Rattle.canary_plan.specs.Commands.{kind_of, subject_of, version_of};
 ghost use Rattle.canary_plan.specs.Commands.{template_in, service_in, report_in};
-ghost use Rattle.canary_plan.specs.Commands.{same_command, same_parts};
-ghost use Rattle.canary_plan.specs.Commands.{same_option, same_service, same_report};
 
 use crate::report::Report;
-use crate::same::{are_same_reports, are_same_services, are_same_templates};
 use crate::service::ServiceSpec;
 use crate::template_spec::TemplateSpec;
 use canary_base::error::Memory;
@@ -124,33 +121,6 @@ impl Command {
             Command::Report(report) => Some(report),
             _ => None,
         }
-    }
-
-    /// Whether it is the same command: of the same kind, with the same parts.
-    pub fn is_same(&self, other: &Command) -> bool
-        ensures { result ≡ same_command self.now other.now }
-    {
-        self.kind() == other.kind() && self.has_same_parts(other)
-    }
-
-    // Whether what they name, register and bring is the same; the kinds are not looked at.
-    fn has_same_parts(&self, other: &Command) -> bool
-        ensures { result ≡ same_parts self.now other.now }
-    {
-        self.subject() == other.subject()
-            && self.version() == other.version()
-            && are_same_templates(self.template(), other.template())
-            && self.asks_the_same(other)
-    }
-
-    // Whether the services that they register and the reports that they bring are the same.
-    fn asks_the_same(&self, other: &Command) -> bool
-        ensures { result
-            ≡ (same_option same_service (service_in self.now) (service_in other.now)
-            && same_option same_report (report_in self.now) (report_in other.now)) }
-    {
-        are_same_services(self.service(), other.service())
-            && are_same_reports(self.report(), other.report())
     }
 
     /// A copy of it, or `Memory`.

@@ -5,8 +5,8 @@
 //! `Strategy::check` a strategy that names templates, and `Strategy::bind` the revisions of these,
 //! and their metrics, for each of its analyses, each exactly where nothing refuses it; else the
 //! first refusal that holds is answered (`Memory` aside). Each `Strategy` was checked.
-//! `Command::is_same` says that two commands are the same exactly where they are equal. The words
-//! of a line are read as its event, and as no other.
+//! Two commands are the same exactly where they are equal (`same_commands` of `laws`). The words of
+//! a line are read as its event, and as no other.
 //!
 //! In use (canary_check, src/alone.rt):
 //!
@@ -31,7 +31,6 @@ mod line_words;
 mod names;
 pub mod refusal;
 pub mod report;
-mod same;
 pub mod service;
 pub mod step;
 pub mod strategy;

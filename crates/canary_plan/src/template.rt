@@ -8,7 +8,7 @@ ghost use Rattle.canary_plan.specs.PlanRefusals.{is_unreadable};
 ghost use Rattle.canary_plan.specs.PlanRefusals.{has_bad_condition, template_refusal};
 ghost use Rattle.canary_plan.specs.PlanRefusals.{needs_interval, has_duplicate, is_foreign};
 ghost use Rattle.canary_metric.specs.Settings.{are_within_limits, metric_of};
-ghost use Rattle.canary_plan.specs.Binding.{IsReadUnless, bad_key, bad_condition};
+ghost use Rattle.canary_plan.specs.Binding.{IsReadUnless};
 ghost use Rattle.canary_plan.specs.Checking.{IsBound};
 
 use crate::fault::BindFault;
@@ -25,22 +25,6 @@ use std::alloc::Global;
 
 // The name that marks every metric of its template.
 const ALL_METRICS: &str = ".*";
-
-/// A condition of a metric.
-#[derive(Clone, Copy, Debug, PartialEq, Eq)]
-pub enum ConditionKey {
-    /// `successCondition`.
-    Success,
-    /// `failureCondition`.
-    Failure,
-}
-
-/// A condition that has no reading: that of the metric at this place, from 0.
-#[derive(Clone, Copy, Debug, PartialEq, Eq)]
-pub struct BadCondition {
-    pub metric: u32,
-    pub key: ConditionKey,
-}
 
 /// An analysis template whose conditions have been read.
 #[derive(Drop)]
@@ -93,49 +77,6 @@ impl Template {
             revision: self.revision,
             metrics,
         })
-    }
-}
-
-impl TemplateSpec {
-    /// The first condition that has no reading: of the first metric that has such a one, and of
-    /// this metric `successCondition` before `failureCondition`. None where each has a reading.
-    ///
-    /// # Errors
-    /// `Memory`.
-    pub fn bad_condition(&self, alloc: Global) -> Result<Option<BadCondition>, Memory>
-        ensures { IfOk result (λ found. found ≡ bad_condition 0 self.now.metrics) }
-    {
-        let mut place = 0;
-        for metric in self.metrics.as_slice() {
-            if let Some(key) = bad_key(alloc, metric)? {
-                return Ok(Some(BadCondition { metric: place, key }));
-            }
-            place += 1;
-        }
-        Ok(None)
-    }
-}
-
-// The key of a metric's first condition that has no reading.
-fn bad_key(alloc: Global, metric: &MetricSpec) -> Result<Option<ConditionKey>, Memory>
-    ensures { IfOk result (λ found. found ≡ bad_key metric.now) }
-{
-    if is_unreadable(alloc, &metric.success)? {
-        return Ok(Some(ConditionKey::Success));
-    }
-    if is_unreadable(alloc, &metric.failure)? {
-        return Ok(Some(ConditionKey::Failure));
-    }
-    Ok(None)
-}
-
-// Whether it is there and has no reading.
-fn is_unreadable(alloc: Global, text: &Option<Text>) -> Result<bool, Memory>
-    ensures { IfOk result (λ unreadable. unreadable ≡ is_unreadable text.now) }
-{
-    match text {
-        None => Ok(false),
-        Some(text) => Ok(condition_of(alloc, text.as_str())?.is_none()),
     }
 }
 

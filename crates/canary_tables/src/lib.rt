@@ -8,7 +8,7 @@
 //!
 //! In use (canary_cli, src/file/open.rt):
 //!
-//!     let opened = TableBook::open(rt, file, &mut shown);
+//!     let opened = TableBook::open(rt, file, &check, &mut shown);
 //!     shown.end();
 //!     match opened {
 //!         Ok(book) => Ok(book),

@@ -10,6 +10,7 @@ use crate::book::TableBook;
 use crate::fault::TableFault;
 use canary_tables_adopt::progress::JudgingProgress;
 use canary_tables_file::connect::connect;
+use canary_tables_file::reading::{ReadingProgress, ReportingDisk};
 use canary_tables_file::store::open_store;
 use canary_tables_schema::fault::fault_of;
 use canary_tables_schema::recognize::is_empty;
@@ -17,12 +18,14 @@ use canary_tables_schema::reopen::open_desk;
 use sqlite::{Alter, Connection, Error, ErrorCode, File, FileStore};
 use std::alloc::Global;
 
-impl TableBook<FileStore<File>> {
+impl<P: ReadingProgress> TableBook<FileStore<ReportingDisk<File, P>>> {
     /// Opens the file of SQLite at a path as a book, or makes it (`connect` of canary_tables_file).
     /// An empty database, as that of a new file, becomes a desk's (`create`). Any other is adopted
     /// (`adopt`): it is read through, which is reported to `progress`, and no row of it is changed.
-    /// A log stands beside the file, which belongs to it. As long as the book is there, nobody else
-    /// can open the file as a database; who copies both files is not kept from that.
+    /// Before that it is checked by SQLite: what is read of the file then, and later on, is
+    /// reported to `reading`. A log stands beside the file, which belongs to it. As long as the
+    /// book is there, nobody else can open the file as a database; who copies both files is not
+    /// kept from that.
     ///
     /// # Errors
     ///
@@ -34,23 +37,25 @@ impl TableBook<FileStore<File>> {
     pub fn open<G: JudgingProgress>(
         rt: &HostRuntime,
         path: &str,
+        reading: &P,
         progress: &mut G,
-    ) -> Result<TableBook<FileStore<File>>, TableFault> {
-        match open_desk_file(rt, path, progress) {
+    ) -> Result<TableBook<FileStore<ReportingDisk<File, P>>>, TableFault> {
+        match open_desk_file(rt, path, reading, progress) {
             Ok(Some(book)) => Ok(book),
-            Ok(None) => open_file(rt, path, progress),
+            Ok(None) => open_file(rt, path, reading, progress),
             Err(fault) => Err(fault),
         }
     }
 }
 
 // Opens the file if it has a desk's tables, each row of which is held against the schema once.
-fn open_desk_file<G: JudgingProgress>(
+fn open_desk_file<P: ReadingProgress, G: JudgingProgress>(
     rt: &HostRuntime,
     path: &str,
+    reading: &P,
     progress: &mut G,
-) -> Result<Option<TableBook<FileStore<File>>>, TableFault> {
-    match open_store(rt, path) {
+) -> Result<Option<TableBook<FileStore<ReportingDisk<File, P>>>>, TableFault> {
+    match open_store(rt, path, reading.again()) {
         Ok(Some(store)) => adopt_store(rt.alloc(), store, progress),
         Ok(None) => Ok(None),
         Err(error) => Err(open_fault(error)),
@@ -91,12 +96,13 @@ fn adopt_connection<S: Alter + Drop, G: JudgingProgress>(
 }
 
 // Opens any file, or makes it.
-fn open_file<G: JudgingProgress>(
+fn open_file<P: ReadingProgress, G: JudgingProgress>(
     rt: &HostRuntime,
     path: &str,
+    reading: &P,
     progress: &mut G,
-) -> Result<TableBook<FileStore<File>>, TableFault> {
-    match connect(rt, path) {
+) -> Result<TableBook<FileStore<ReportingDisk<File, P>>>, TableFault> {
+    match connect(rt, path, reading.again()) {
         Ok(conn) => book_of(rt.alloc(), conn, progress),
         Err(error) => Err(open_fault(error)),
     }

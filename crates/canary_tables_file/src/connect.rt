@@ -11,6 +11,7 @@ use crate::fault::{CANNOT_OPEN, NO_MEMORY};
 use crate::make::make;
 use crate::options::options;
 use crate::pages::{is_blank, page_size};
+use crate::reading::{ReadingProgress, ReportingDisk, with_reports};
 use sqlite::{
     Connection, Error, ErrorCode, File, FileFrom, FileStore, Files, Options, Start, Unknown,
 };
@@ -21,8 +22,9 @@ use std::hash::{BuildHasher, RandomState};
 use std::io::ErrorKind;
 
 /// Opens the file of SQLite at a path, or makes it with pages of 512 bytes. One that is there keeps
-/// the pages that it has. Each page, row and index of it is read and checked. A log stands beside
-/// the file, which belongs to it.
+/// the pages that it has. Each page, row and index of it is read and checked, and what is read of
+/// the file then, and later on, is reported to `reading`. A log stands beside the file, which
+/// belongs to it.
 ///
 /// # Errors
 ///
@@ -30,7 +32,11 @@ use std::io::ErrorKind;
 /// `NotADatabase` if it is no database; `CannotOpen` if the system does not open it, if a rollback
 /// journal stands beside it, or if the path is `:memory:` or begins as a URI; `DiskFull` if there
 /// is no room; `SystemIoFailure` or `DatabaseCorrupt` if the disk failed otherwise.
-pub fn connect(rt: &HostRuntime, path: &str) -> Result<Connection<FileStore<File>>, Error>
+pub fn connect<P: ReadingProgress>(
+    rt: &HostRuntime,
+    path: &str,
+    reading: P,
+) -> Result<Connection<FileStore<ReportingDisk<File, P>>>, Error>
     ensures memory { path.now ≡ codes ":memory:"
         → result ≡ Err (Error.SqliteFailure ErrorCode.CannotOpen) }
     ensures uri { IsTrue (starts_with (λ a b. a == b) path.now (codes "file:"))
@@ -43,7 +49,7 @@ pub fn connect(rt: &HostRuntime, path: &str) -> Result<Connection<FileStore<File
 {
     let seed = seed(rt)?;
     let files = whole_files(rt, path, seed)?;
-    connection(rt.alloc(), files, seed)
+    connection(rt.alloc(), with_reports(files, reading), seed)
 }
 
 // The connection to files.

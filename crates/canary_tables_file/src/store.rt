@@ -13,20 +13,26 @@ use crate::listing::list;
 use crate::make::unopened;
 use crate::options::options;
 use crate::pages::plain_size;
+use crate::reading::{ReadingProgress, ReportingDisk, with_reports};
 use sqlite::{Error, ErrorCode, File, FileStore, Files, Unknown};
 use sqlite_disk::Disk;
 use sqlite_store::{OpenError, Unopened};
 use std::alloc::Global;
 
 /// Opens the store of the file of SQLite at a path. Each page of it is read and checked, but its
-/// rows are not held against a schema yet. `None`, with the file closed, if it is not a database
-/// of tables and indexes alone, without sums, whose indexes ascend: then `connect` opens it, or
-/// says why it cannot. A file that is not there is made, with no byte in it.
+/// rows are not held against a schema yet. What is read of the file is reported to `reading`, as
+/// `connect` does it. `None`, with the file closed, if it is not a database of tables and indexes
+/// alone, without sums, whose indexes ascend: then `connect` opens it, or says why it cannot. A
+/// file that is not there is made, with no byte in it.
 ///
 /// # Errors
 ///
 /// As `connect`.
-pub fn open_store(rt: &HostRuntime, path: &str) -> Result<Option<FileStore<File>>, Error>
+pub fn open_store<P: ReadingProgress>(
+    rt: &HostRuntime,
+    path: &str,
+    reading: P,
+) -> Result<Option<FileStore<ReportingDisk<File, P>>>, Error>
     ensures memory { path.now ≡ codes ":memory:"
         → result ≡ Err (Error.SqliteFailure ErrorCode.CannotOpen) }
     ensures uri { IsTrue (starts_with (λ a b. a == b) path.now (codes "file:"))
@@ -39,7 +45,7 @@ pub fn open_store(rt: &HostRuntime, path: &str) -> Result<Option<FileStore<File>
 {
     let seed = seed(rt)?;
     let files = open_pair(rt, path, Unknown)?;
-    store_of(rt.alloc(), files, seed)
+    store_of(rt.alloc(), with_reports(files, reading), seed)
 }
 
 // The same of files.

@@ -1,18 +1,18 @@
--- What the queries on `history` and on `measurement` find.
+-- What the queries on `history` find.
 use Rattle.std.proofs.Common.{◌≡◌, ◌∷◌, [], ℕ, zero, suc, List, map, filter, take, drop, refl, sym, ap, subst, ◌∙◌}
 use Rattle.sqlite.specs.declared.types.Value.TheVariants.{Null, Text as Words}
 use Rattle.sqlite.specs.Order.{Row}
 use Rattle.sqlite.specs.Term.{col}
 use Rattle.sqlite.specs.State.{State, Shown}
-use Rattle.canary_tables_rows.specs.Tables.{Tables, is_measurement_of, is_line_of}
-use Rattle.canary_tables_schema.specs.Layout.{measurement_at, history_at}
-use Rattle.canary_tables_schema.specs.Cells.{integer, history_cells, measurement_cells}
+use Rattle.canary_tables_rows.specs.Tables.{Tables, is_line_of}
+use Rattle.canary_tables_schema.specs.Layout.{history_at}
+use Rattle.canary_tables_schema.specs.Cells.{integer, history_cells}
 use Rattle.canary_tables_schema.specs.Stores.{Stores}
 use Rattle.canary_tables_read.specs.Finds.{TellsCells}
 use Rattle.canary_tables_read.proofs.Answer.{passes, shows}
 use Rattle.canary_tables_read.proofs.Asking.{all_found, page_found}
 use Rattle.canary_tables_read.proofs.Tests.{and_true, words_same, same_words}
-use Rattle.canary_tables_read.proofs.Texts.{history_text, history_tests, history_shown, history_asks, lines_text, lines_asks, measurements_tests, measurements_shown, all_measurements_text, all_measurements_asks}
+use Rattle.canary_tables_read.proofs.Texts.{history_text, history_tests, history_shown, history_asks, lines_text, lines_asks}
 use Rattle.canary_tables_read.proofs.TypedRows.{Tells, taken}
 
 tells_line : (service : List ℕ) (rest : Row)
@@ -29,14 +29,6 @@ pub line_rows : (old new : State) (t : Tables) (service : List ℕ) (params : Ro
 line_rows old new t service params rows has given h =
     all_found history_text history_at history_tests history_shown history_asks history_cells (is_line_of service) history_cells (λ row. Null ∷ Words service ∷ row) (Words service ∷ []) (tells_line service []) t.history rows
     (record { old = old; new = new; layout = has.layout; schema = has.holds.schema; numbered = has.holds.numbered.1.1.1.1.1.1.0; stored = has.holds.history; shows_rows = subst (λ p. Shown history_text p old new rows) given h })
-
-tells_measurement : (service : List ℕ) (rest : Row)
-    → Tells measurement_cells (is_measurement_of service) measurement_cells (λ row. Null ∷ Words service ∷ row) (passes measurements_tests (Words service ∷ rest)) (shows measurements_shown (Words service ∷ rest))
-tells_measurement service rest = record {
-  filled = λ x. (_, _, refl);
-  tests = λ id x. and_true _ ∙ words_same x.service service;
-  shown = λ id x h. ap (λ n. Null ∷ Words n ∷ integer x.run ∷ integer x.metric ∷ integer x.ordinal ∷ integer x.taken ∷ integer x.phase ∷ Words x.outcome ∷ []) (same_words service x.service h);
-}
 
 dropped : {A B : Type 0} (f : A → B) (from : ℕ) (xs : List A) → map f (drop from xs) ≡ drop from (map f xs)
 dropped f zero xs = refl
@@ -56,10 +48,3 @@ line_page_rows old new t service from most params rows has given h =
     (record { old = old; new = new; layout = has.layout; schema = has.holds.schema; numbered = has.holds.numbered.1.1.1.1.1.1.0; stored = has.holds.history; shows_rows = subst (λ p. Shown lines_text p old new rows) given h }) in
     ap (map (λ row. Null ∷ Words service ∷ row)) p.1 ∙ paged (λ row. Null ∷ Words service ∷ row) most from p.0 ∙ ap (λ rows. take most (drop from rows)) p.2
     ∙ sym (paged history_cells most from (filter (is_line_of service) t.history))
-
--- what is shown are all measurements of the service, in their order
-pub measurement_rows : (old new : State) (t : Tables) (service : List ℕ) (params : Row) (rows : List Row) → Stores old t → params ≡ Words service ∷ [] → Shown all_measurements_text params old new rows
-    → TellsCells measurement_cells (λ row. Null ∷ Words service ∷ row) (filter (is_measurement_of service) t.measurements) rows
-measurement_rows old new t service params rows has given h =
-    all_found all_measurements_text measurement_at measurements_tests measurements_shown all_measurements_asks measurement_cells (is_measurement_of service) measurement_cells (λ row. Null ∷ Words service ∷ row) (Words service ∷ []) (tells_measurement service []) t.measurements rows
-    (record { old = old; new = new; layout = has.layout; schema = has.holds.schema; numbered = has.holds.numbered.1.1.1.1.1.0; stored = has.holds.measurements; shows_rows = subst (λ p. Shown all_measurements_text p old new rows) given h })

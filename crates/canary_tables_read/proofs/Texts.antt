@@ -259,19 +259,6 @@ measurements_tests = equals 2 0 ∷ []
 abbrev pub measurements_shown : List Term
 measurements_shown = col 1 3 ∷ col 1 4 ∷ col 1 5 ∷ col 1 6 ∷ col 1 7 ∷ col 1 8 ∷ []
 
-abbrev pub all_measurements_text : List ℕ
-all_measurements_text = codes "SELECT run, metric, ordinal, taken, phase, outcome FROM measurement WHERE service = ?1 ORDER BY place"
-
-pub all_measurements_query : IsQuery all_measurements_text
-unfolding everything
-all_measurements_query = tt
-
-pub all_measurements_asks : Asks all_measurements_text measurement_at measurements_tests measurements_shown (by_column 0) no_limit from_start
-unfolding understood everything
-all_measurements_asks made = record { names = _; is = refl; plain = (refl, refl); unlisted = refl }
-all_measurements_asks moved = record { names = _; is = refl; plain = (refl, refl); unlisted = refl }
-all_measurements_asks packed = record { names = _; is = refl; plain = (refl, refl); unlisted = refl }
-
 abbrev pub callers_text : List ℕ
 callers_text = codes "SELECT name, settled FROM caller ORDER BY rowid"
 

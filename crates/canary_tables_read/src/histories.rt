@@ -1,16 +1,16 @@
-//! What happened to a service: its history, and the measurements of its runs.
+//! What happened to a service: its history.
 ghost use Rattle.std.specs.Prelude.{◌≡◌, ◌≤◌, ◌^◌, pos, IfOk, IfErr, false};
 ghost use Rattle.canary_tables_read.specs.Finds.{Gives};
-ghost use Rattle.canary_tables_read.specs.Breaks.{BreaksUnless, MeasurementsWithin, LinesWithin};
+ghost use Rattle.canary_tables_read.specs.Breaks.{BreaksUnless, LinesWithin};
 ghost use Rattle.canary_tables_read.specs.Reader.{Reads};
-ghost use Rattle.canary_tables_read.specs.Chosen.{measurements_of, lines_of, lines_from};
+ghost use Rattle.canary_tables_read.specs.Chosen.{lines_of, lines_from};
 
 use crate::fault::ReadFault;
 use crate::from_row;
 use crate::reader::Reader;
 use canary_base::lists::Listed;
 use canary_base::names::Name;
-use canary_tables_rows::rows::{HistoryRow, MeasurementRow};
+use canary_tables_rows::rows::HistoryRow;
 use sqlite::params;
 use std::alloc::Global;
 
@@ -63,26 +63,6 @@ pub fn lines<Q: Reader>(
     let rows = conn.ask(
         "SELECT moment, line FROM history WHERE service = ?1 ORDER BY place LIMIT ?3 OFFSET ?2",
         params![service.as_str(), offset, most],
-    )?;
-    from_row::all(alloc, service, rows.as_slice())
-}
-
-/// All measurements of the service's runs, in their order. `Memory` where there is not enough,
-/// `Storage` where the database fails, `Broken` where one is none that a program can hold.
-pub fn measurement_rows<Q: Reader>(
-    conn: &mut Q,
-    alloc: Global,
-    service: &Name,
-) -> Result<Listed<MeasurementRow>, ReadFault>
-    requires ready { Q.IsReady conn.old }
-    ensures reads { Reads Q.IsReady Q.place Q.below Q.shows conn.old conn.new }
-    ensures found { Gives (measurements_of service.now) Q.shows conn.old conn.new result }
-    ensures broken { BreaksUnless MeasurementsWithin Q.shows conn.old conn.new result }
-{
-    let rows = conn.ask(
-        "SELECT run, metric, ordinal, taken, phase, outcome FROM measurement \
-         WHERE service = ?1 ORDER BY place",
-        params![service.as_str()],
     )?;
     from_row::all(alloc, service, rows.as_slice())
 }

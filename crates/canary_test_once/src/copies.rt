@@ -185,7 +185,7 @@ fn of_copy(alloc: Global, desk: &Desk, call: u32) -> Option<bool> {
 }
 
 fn check_copies(rt: &impl Abort, alloc: Global, desk: &Desk) {
-    for call in 0..4 {
+    for call in 0..3 {
         let first = of_copy(alloc, desk, call);
         assert!(rt; is_right(first, of_copy(alloc, desk, call)), "{call}");
     }

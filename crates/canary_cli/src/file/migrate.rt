@@ -1,4 +1,5 @@
 //! `migrate`: a file of the first version becomes one of this version.
+use crate::file::checking::CheckDisplay;
 use crate::file::exclusive_file::ExclusiveFile;
 use crate::file::named::bytes_of;
 use crate::file::open::{TablesVersion, fault_of, find, has_other_bytes, is_blank, tables_version};
@@ -6,6 +7,7 @@ use crate::file::progress::ProgressDisplay;
 use canary_backup::folder::OwnCopy;
 use canary_migrate::upgrade::upgrade;
 use canary_programs::fault::Fault;
+use canary_tables_file::reading::ReadingProgress;
 use std::io::Write;
 
 /// Makes a desk's file of the first version one of this version, in one transaction, and writes
@@ -71,8 +73,9 @@ fn upgrade_file<F: Write>(
     is_terminal: bool,
 ) -> Result<bool, Fault> {
     let bytes = bytes_of(rt, file);
-    let mut shown = ProgressDisplay::judging(rt, errors, is_terminal, bytes);
-    let upgraded = upgrade(rt, file, &mut shown);
+    let check = CheckDisplay::begun(rt, bytes, is_terminal);
+    let mut shown = ProgressDisplay::judging(rt, errors, is_terminal, bytes, &check);
+    let upgraded = upgrade(rt, file, check.again(), &mut shown);
     shown.end();
     upgraded.map_err(fault_of)
 }

@@ -3,6 +3,7 @@ ghost use Rattle.std.specs.Prelude.{◌≡◌, IfErr};
 ghost use Rattle.canary_cli.specs.Opened.{IsOfFound, IsOfLook, IsOfOpening, of_tables};
 ghost use Rattle.canary_programs.specs.declared.fault.Fault.TheVariants as fault;
 
+use crate::file::checking::CheckDisplay;
 use crate::file::named::{bytes_of, log_of, look_at_names, look_for_log};
 use crate::file::progress::ProgressDisplay;
 use canary_base::names::Name;
@@ -10,6 +11,7 @@ use canary_programs::fault::Fault;
 use canary_tables::book::{DEFAULT_ROOM, TableBook};
 use canary_tables::fault::TableFault;
 use canary_tables_file::connect::connect;
+use canary_tables_file::reading::ReportingDisk;
 use canary_tables_schema::first::is_first;
 use canary_tables_schema::recognize::is_desk;
 use sqlite::{Alter, Connection, Error, ErrorCode, File, FileStore};
@@ -41,12 +43,15 @@ impl<'a> DeskFile<'a> {
 // The first bytes of each database of SQLite.
 const FIRST_BYTES: &[u8] = b"SQLite format 3\0";
 
-/// A book in a file.
-pub type FileBook = TableBook<FileStore<File>>;
+/// The store in a file, whose check is shown.
+pub type CheckedStore = FileStore<ReportingDisk<File, CheckDisplay>>;
 
-/// Opens the file of SQLite of this name as a desk's book, or makes it. All its rows are judged
-/// before they are believed, which is shown on a terminal. No log is made beside a file that does
-/// not begin as a database.
+/// A book in a file.
+pub type FileBook = TableBook<CheckedStore>;
+
+/// Opens the file of SQLite of this name as a desk's book, or makes it. SQLite checks it, and all
+/// its rows are judged before they are believed, both of which is shown on the standard error of
+/// the process. No log is made beside a file that does not begin as a database.
 ///
 /// # Errors
 /// `InUse` where another program has it open; `Memory` where an allocation was refused; `Storage`
@@ -67,8 +72,9 @@ pub fn open<F: Write>(
         return Err(Fault::Storage);
     }
     let bytes = bytes_of(rt, file);
-    let mut shown = ProgressDisplay::judging(rt, errors, is_terminal, bytes);
-    let opened = TableBook::open(rt, file, &mut shown);
+    let check = CheckDisplay::begun(rt, bytes, is_terminal);
+    let mut shown = ProgressDisplay::judging(rt, errors, is_terminal, bytes, &check);
+    let opened = TableBook::open(rt, file, &check, &mut shown);
     shown.end();
     match opened {
         Ok(book) => Ok(book),
@@ -205,7 +211,7 @@ pub(crate) enum TablesVersion {
 /// `OtherSchema` if the file is not a database of SQLite; `Memory` if an allocation was refused;
 /// `Storage` if it cannot be opened otherwise.
 pub(crate) fn tables_version(rt: &HostRuntime, file: &str) -> Result<TablesVersion, Fault> {
-    let opened = connect(rt, file);
+    let opened = connect(rt, file, CheckDisplay::silent(rt));
     version_of(&opened)
 }
 

@@ -1,6 +1,7 @@
 //! Showing how far a program has come, and on a terminal that it made a file.
 ghost use Rattle.std.specs.Prelude.{◌≡◌, false};
 
+use crate::file::checking::CheckDisplay;
 use crate::file::pause::Pause;
 use canary_listen::unblocked::Unblocked;
 use canary_page::progress as drawing;
@@ -20,9 +21,6 @@ const PARTS: u64 = 1_000;
 // How many seconds pass before the first line where no terminal is, and between two of them.
 const LINE_SECONDS: u64 = 1;
 
-// The bytes of a file of which a line says at once that nothing is judged yet.
-const LARGE: u64 = 16 * MEGABYTE;
-
 // Erases the line in which the cursor stands.
 const ERASED: &str = "\r\x1b[K";
 
@@ -40,10 +38,9 @@ enum Unit {
 
 /// Shows how far a program has come. A terminal has one line, which is written anew as it goes, and
 /// erased where it is done. Elsewhere lines are written one below another: none in the first
-/// second, but for a large file, then at most one a second, and none that says the same as the one
-/// before it. Such a line waits for nobody who reads it: if it cannot be taken at once, it is left
-/// out. A fault of the stream, a clock that cannot be read, and memory that is refused for a line,
-/// are ignored.
+/// second, then at most one a second, and none that says the same as the one before it. Such a line
+/// waits for nobody who reads it: if it cannot be taken at once, it is left out. A fault of the
+/// stream, a clock that cannot be read, and memory that is refused for a line, are ignored.
 #[derive(Drop)]
 pub struct ProgressDisplay<'a, F: Write> {
     rt: &'a HostRuntime,
@@ -60,25 +57,25 @@ pub struct ProgressDisplay<'a, F: Write> {
     // The number in the last line, if there is one.
     told: Option<u64>,
     is_drawn: bool,
+    // What shows the check that comes before the judging, and ends as that begins.
+    check: Option<&'a CheckDisplay>,
 }
 
 impl<'a, F: Write> ProgressDisplay<'a, F> {
     /// Shows how much of a file of so many bytes is judged, on `errors`, the standard error of the
-    /// process: as large a share of its bytes as is judged of its rows. Of a large file it says at
-    /// once that nothing is judged yet: before the first row is, SQLite reads and checks all of it,
-    /// which takes a second for some 10 MB, and of which it says nothing.
+    /// process: as large a share of its bytes as is judged of its rows. Before that SQLite reads and
+    /// checks all of it, which takes a second for some 10 MB: `check` shows that, and is ended once
+    /// the judging begins.
     pub fn judging(
         rt: &'a HostRuntime,
         errors: &'a mut F,
         is_terminal: bool,
         bytes: u64,
+        check: &'a CheckDisplay,
     ) -> ProgressDisplay<'a, F> {
         let unit = Unit::Rows { bytes };
         let mut shown = ProgressDisplay::of(rt, errors, is_terminal, unit, None);
-        if LARGE <= bytes {
-            shown.begin_whole(1);
-            shown.write_line();
-        }
+        shown.check = Some(check);
         shown
     }
 
@@ -121,6 +118,7 @@ impl<'a, F: Write> ProgressDisplay<'a, F> {
             pause: Pause::begun(rt, LINE_SECONDS),
             told: None,
             is_drawn: false,
+            check: None,
         }
     }
 
@@ -227,8 +225,17 @@ impl<'a, F: Write> ProgressDisplay<'a, F> {
         }
     }
 
+    // Ends what shows the check. The next line comes when it may behind the last one of that.
+    fn end_check(&mut self) {
+        if let Some(check) = self.check {
+            check.end();
+            self.pause = Pause::begun(self.rt, LINE_SECONDS);
+        }
+    }
+
     /// Erases the line of a terminal, if there is one.
     pub fn end(&mut self) {
+        self.end_check();
         if self.is_drawn && self.is_terminal {
             let _ = self.errors.write_all(ERASED.as_bytes());
             let _ = self.errors.flush();
@@ -248,6 +255,7 @@ fn share(done: u64, whole: Option<u64>, of: u64) -> u64 {
 impl<F: Write> judging::JudgingProgress for ProgressDisplay<'_, F> {
     // Counts from 0 again, up to so many rows.
     fn begin(&mut self, rows: u64) {
+        self.end_check();
         self.begin_whole(rows);
     }
 

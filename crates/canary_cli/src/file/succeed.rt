@@ -1,4 +1,5 @@
 //! `succeed`: a new file, in which a desk goes on that has grown for years.
+use crate::file::checking::CheckDisplay;
 use crate::file::named::bytes_of;
 use crate::file::open::{fault_of, find, has_other_bytes, is_blank, names_of, open};
 use crate::file::progress::ProgressDisplay;
@@ -13,6 +14,7 @@ use canary_programs::fault::Fault;
 use canary_programs::succession::succeed as succeed_in;
 use canary_tables::book::TableBook;
 use canary_tables_file::connect::connect;
+use canary_tables_file::reading::ReadingProgress;
 use canary_tables_read::fault::ReadFault;
 use canary_tables_read::lists::{RevisionKey, revision_keys};
 use canary_tables_schema::recognize::is_desk;
@@ -90,7 +92,9 @@ fn make<F: Write>(
     errors: &mut F,
     is_terminal: bool,
 ) -> Result<(), Fault> {
-    let opened = connect(rt, old);
+    let check = CheckDisplay::begun(rt, bytes_of(rt, old), is_terminal);
+    let opened = connect(rt, old, check.again());
+    check.end();
     make_of(rt, old, opened, part, errors, is_terminal)
 }
 
@@ -165,7 +169,8 @@ fn adopted<S: Alter + Drop, F: Write>(
     is_terminal: bool,
 ) -> Result<TableBook<S>, Fault> {
     let bytes = bytes_of(rt, file);
-    let mut shown = ProgressDisplay::judging(rt, errors, is_terminal, bytes);
+    let check = CheckDisplay::silent(rt);
+    let mut shown = ProgressDisplay::judging(rt, errors, is_terminal, bytes, &check);
     let adopted = TableBook::adopt(rt.alloc(), conn, &mut shown);
     shown.end();
     match adopted {

@@ -3,7 +3,7 @@ ghost use Rattle.std.specs.Prelude.{◌≡◌, ◌≢◌, Err, IfErr};
 ghost use Rattle.canary_cli.specs.Opened.{IsOfOpening, IsReading, settles, tells_of_made};
 ghost use Rattle.canary_programs.specs.declared.fault.Fault.TheVariants as fault;
 
-use crate::file::open::{DeskFile, is_missing, open};
+use crate::file::open::{CheckedStore, DeskFile, is_missing, open};
 use crate::file::progress::{Counted, ProgressDisplay, tell_made};
 use crate::file::seat::{Identity, Seat};
 use crate::file::watched::Watched;
@@ -20,7 +20,7 @@ use canary_programs::import::import_rows;
 use canary_programs::pipe::answer;
 use canary_programs::serve::{Listening, serve_book};
 use canary_tables::book::TableBook;
-use sqlite::{Alter, Connection, File, FileStore};
+use sqlite::{Alter, Connection};
 use std::io::{self, Read, Write};
 
 /// What is done with a book.
@@ -175,7 +175,7 @@ fn on_placed<S: Alter + Drop, R: Read, W: Write, F: Write>(
 /// # Errors
 /// What came of the work; `Storage` if the file fails as it is closed.
 pub(crate) fn end_with(
-    worked: (Result<(), Fault>, Option<Connection<FileStore<File>>>),
+    worked: (Result<(), Fault>, Option<Connection<CheckedStore>>),
 ) -> Result<(), Fault>
     ensures { result ≡ Err fault.BadName → worked.0 ≡ Err fault.BadName }
 {

@@ -1,0 +1,131 @@
+//! A file each read of which is reported.
+ghost use Rattle.std.specs.Prelude.{◌≡◌, IsTrue};
+
+use sqlite::Files;
+use sqlite_disk::{Disk, Tally};
+use std::io;
+
+/// What is told how much of a database file is read.
+pub trait ReadingProgress: Drop {
+    /// So many bytes more are read.
+    fn read(&mut self, bytes: usize);
+
+    /// Another one of the same file.
+    fn again(&self) -> Self;
+}
+
+/// A disk that does what another one does. How many bytes each read asks for is reported, if there
+/// is somebody to report it to.
+#[derive(Drop)]
+pub struct ReportingDisk<D: Disk, P: ReadingProgress> {
+    disk: D,
+    progress: Option<P>,
+}
+
+// Reports that so many bytes more are read.
+fn report<P: ReadingProgress>(progress: &mut Option<P>, bytes: usize) {
+    if let Some(progress) = progress {
+        progress.read(bytes);
+    }
+}
+
+impl<D: Disk, P: ReadingProgress> Disk for ReportingDisk<D, P> {
+    ghost seen = { λ r. D.Disk.seen r.disk };
+
+    ghost may_leave = { λ r. D.Disk.may_leave r.disk };
+
+    ghost is_usable = { λ r. D.Disk.is_usable r.disk };
+
+    ghost faults = { λ r. D.Disk.faults r.disk };
+
+    ghost tally_of = { λ r. D.Disk.tally_of r.disk };
+
+    ghost is_clean = { λ r. D.Disk.is_clean r.disk };
+
+    ghost key_of = { λ r. D.Disk.key_of r.disk };
+
+    ghost is_fair = { λ r. D.Disk.is_fair r.disk };
+
+    ghost is_rotten = { λ r. D.Disk.is_rotten r.disk };
+
+    ghost is_mixing = { λ r. D.Disk.is_mixing r.disk };
+
+    ghost seen_may_stay = { λ r. D.Disk.seen_may_stay r.disk };
+
+    ghost fair_if_clean = { λ r. D.Disk.fair_if_clean r.disk };
+
+    // Whether a crash leaves each byte of a torn write old or new.
+    fn mixes(&self) -> bool {
+        self.disk.mixes()
+    }
+
+    // The key of the digests.
+    fn key(&self) -> u64 {
+        self.disk.key()
+    }
+
+    // What the failed calls met.
+    fn tally(&self) -> Tally {
+        self.disk.tally()
+    }
+
+    // Whether no sync has failed.
+    fn may_be_used(&self) -> bool {
+        self.disk.may_be_used()
+    }
+
+    // How many bytes there are.
+    fn len(&mut self) -> io::Result<usize> {
+        self.disk.len()
+    }
+
+    // Reads bytes, and reports how many.
+    fn read_at(&mut self, at: usize, buf: &mut [u8]) -> io::Result<()> {
+        report(&mut self.progress, buf.len());
+        self.disk.read_at(at, buf)
+    }
+
+    // The same of bytes whose digest is known.
+    fn read_checked(&mut self, key: u64, want: u64, at: usize, buf: &mut [u8]) -> io::Result<()> {
+        report(&mut self.progress, buf.len());
+        self.disk.read_checked(key, want, at, buf)
+    }
+
+    // Writes bytes.
+    fn write_at(&mut self, at: usize, bytes: &[u8]) -> io::Result<()> {
+        self.disk.write_at(at, bytes)
+    }
+
+    // Makes the file that long.
+    fn set_len(&mut self, len: usize) -> io::Result<()> {
+        self.disk.set_len(len)
+    }
+
+    // Has what was written reach the device.
+    fn sync(&mut self) -> io::Result<()> {
+        self.disk.sync()
+    }
+}
+
+// The same files: what is read of the database is reported, and what is read of the log is not.
+pub(crate) fn with_reports<D: Disk + Drop, P: ReadingProgress>(
+    files: Files<D>,
+    progress: P,
+) -> Files<ReportingDisk<D, P>>
+    requires log { IsTrue (D.Disk.is_usable files.log) }
+    requires db { IsTrue (D.Disk.is_usable files.db) }
+    ensures log { IsTrue (⟦<ReportingDisk<D, P> as Disk>⟧.is_usable result.log) }
+    ensures db { IsTrue (⟦<ReportingDisk<D, P> as Disk>⟧.is_usable result.db) }
+{
+    let Files { log, db } = files;
+    Files {
+        log: ReportingDisk {
+            disk: log,
+            progress: None,
+        },
+        db: ReportingDisk {
+            disk: db,
+            progress: Some(progress),
+        },
+    }
+}
