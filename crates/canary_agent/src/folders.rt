@@ -9,7 +9,7 @@ use std::str;
 const ENDINGS: [&str; 3] = [".yaml", ".yml", ".json"];
 
 // How many bytes of names are read at a time.
-const FILE_PIECE: usize = 16_384;
+const NAMES_PIECE: usize = 16_384;
 
 const UNLISTED: &str = "the folder cannot be read";
 
@@ -59,7 +59,7 @@ impl FolderNames {
         entries: R,
     ) -> Result<bool, Memory> {
         let mut entries = entries;
-        let mut piece = [0u8; FILE_PIECE];
+        let mut piece = [0u8; NAMES_PIECE];
         for _ in 0..u64::MAX {
             match entries.read(&mut piece) {
                 Ok(0) => return Ok(true),
