@@ -7,7 +7,7 @@
 //!
 //! In use (canary_cli, src/file/migrate.rt):
 //!
-//!     let upgraded = upgrade(rt, file, &mut shown);
+//!     let upgraded = upgrade(rt, file, check.again(), &mut shown);
 //!     shown.end();
 //!     upgraded.map_err(fault_of)
 #![tactic(auto)]

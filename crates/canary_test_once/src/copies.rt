@@ -1,6 +1,6 @@
-//! Copies that no program makes, and a template's first bad condition, which none asks for. Each
-//! call is made twice on the same arguments: if memory is refused the first time, it leaves them as
-//! they were.
+//! Copies that no program makes. What a copy has is proved, and here that one is made. Each call is
+//! made twice on the same arguments: if memory is refused the first time, it leaves them as they
+//! were.
 
 use crate::once::RELEASE;
 use crate::rows::{B, command, is_right, moment, name};
@@ -13,9 +13,6 @@ use canary_canonical::command::CanonicalCommand;
 use canary_condition::outcome::Phase;
 use canary_once::book::{Book, Receipt, Settlement};
 use canary_once::memory::MemoryBook;
-use canary_plan::command::Command;
-use canary_plan::template::{BadCondition, ConditionKey};
-use canary_plan::template_spec::TemplateSpec;
 use canary_plan::templates::Templates;
 use canary_release::decide::{Decision, DeskChange, decide};
 use canary_release::effect::{Effect, Recorded};
@@ -151,36 +148,11 @@ fn reported_copied(alloc: Global) -> Option<bool> {
     Some(copy.run == 2 && copy.phases.as_slice().len() == 1)
 }
 
-/// A template whose second metric has a condition that has no reading.
-const BAD: &str = concat!(
-    r#"{"template":{"dryRun":[],"metrics":[{"consecutiveErrorLimit":4,"count":null,"#,
-    r#""failureCondition":null,"failureLimit":0,"inconclusiveLimit":0,"initialDelay":0,"#,
-    r#""interval":null,"name":"m","successCondition":null},{"consecutiveErrorLimit":4,"#,
-    r#""count":null,"failureCondition":"result>","failureLimit":0,"inconclusiveLimit":0,"#,
-    r#""initialDelay":0,"interval":null,"name":"n","successCondition":"result>1"}],"name":"t"}}"#
-);
-
-fn has_bad(alloc: Global, spec: &TemplateSpec) -> Option<bool> {
-    let bad = BadCondition {
-        metric: 1,
-        key: ConditionKey::Failure,
-    };
-    Some(spec.bad_condition(alloc).ok()? == Some(bad))
-}
-
-fn is_bad(alloc: Global) -> Option<bool> {
-    match command(alloc, BAD)? {
-        Command::Template(spec) => has_bad(alloc, &spec),
-        _ => Some(false),
-    }
-}
-
 fn of_copy(alloc: Global, desk: &Desk, call: u32) -> Option<bool> {
     match call {
         0 => Some(is_settled(&settled(alloc, desk)?)),
         1 => passed_copied(alloc, &desk.service),
-        2 => reported_copied(alloc),
-        _ => is_bad(alloc),
+        _ => reported_copied(alloc),
     }
 }
 
