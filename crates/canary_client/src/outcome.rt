@@ -392,16 +392,19 @@ pub fn say<F: Write>(errors: &mut F, sentence: &str) {
 
 /// Writes each of these lines on `errors`, as `say` does.
 pub fn say_lines<F: Write>(errors: &mut F, lines: &str) {
-    for line in lines.lines() {
-        say(errors, line);
-    }
+    say_each(errors, "canary: ", lines);
 }
 
 /// Writes each of these lines on `errors` as a warning, after `canary: warning: `. A fault of
 /// `errors` is ignored.
 pub fn say_warnings<F: Write>(errors: &mut F, lines: &str) {
+    say_each(errors, "canary: warning: ", lines);
+}
+
+// Writes each of these lines after these words.
+fn say_each<F: Write>(errors: &mut F, before: &str, lines: &str) {
     for line in lines.lines() {
-        let _ = errors.write_all(b"canary: warning: ");
+        let _ = errors.write_all(before.as_bytes());
         let _ = errors.write_all(line.as_bytes());
         let _ = errors.write_all(b"\n");
     }

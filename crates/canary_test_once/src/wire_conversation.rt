@@ -267,6 +267,9 @@ fn answers_in_any_pieces(rt: HostRuntime) -> Result<(), Fail> {
     Ok(())
 }
 
+// So many messages take 5 turns of 64, and 4 of 65.
+const MESSAGES: usize = 260;
+
 // Whether messages that come at once go out by so many writes, in no more than so many turns.
 fn is_written(
     alloc: Global,
@@ -280,18 +283,18 @@ fn is_written(
     Ok(desk.writer.writes == writes && ran.turns <= turns)
 }
 
-// Whether 300 messages at once go out by one write a turn, where it takes 64 a turn.
+// Whether 260 messages at once go out by one write a turn, where it takes 64 a turn.
 fn is_written_by_turns(alloc: Global, stream: &str) -> Result<bool, Memory> {
     is_written(alloc, stream, FAR, 5, 8)
 }
 
-// Whether each of 300 messages has a turn of its own, if a turn goes on with no other.
+// Whether each of 260 messages has a turn of its own, if a turn goes on with no other.
 fn is_written_one_by_one(alloc: Global, stream: &str) -> Result<bool, Memory> {
-    is_written(alloc, stream, ONE_BY_ONE, 300, MAX_TURNS)
+    is_written(alloc, stream, ONE_BY_ONE, MESSAGES, MAX_TURNS)
 }
 
 fn put_messages(stream: &mut String) -> Result<(), Memory> {
-    for _ in 0..300 {
+    for _ in 0..MESSAGES {
         stream.push_str("GET /nope HTTP/1.1\r\n\r\n")?;
     }
     Ok(())
