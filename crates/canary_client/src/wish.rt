@@ -19,7 +19,7 @@ use std::alloc::Global;
 use std::fs::{File, Files};
 use std::io::{ErrorKind, Read};
 
-// The most bytes of a manifest's file; the body of a request has fewer.
+// The most bytes of a manifest's file, and of the body of a request.
 const MAX_BYTES: u64 = 65_536;
 
 /// What words ask for.

@@ -5,9 +5,9 @@ use sqlite::Files;
 use sqlite_disk::{Disk, Tally};
 use std::io;
 
-/// What is told how much of a database file is read.
+/// What is told how many bytes of a database file are asked for.
 pub trait ReadingProgress: Drop {
-    /// So many bytes more are read.
+    /// So many bytes more are asked for.
     fn read(&mut self, bytes: usize);
 
     /// Another one of the same file.
@@ -22,7 +22,7 @@ pub struct ReportingDisk<D: Disk, P: ReadingProgress> {
     progress: Option<P>,
 }
 
-// Reports that so many bytes more are read.
+// Reports that so many bytes more are asked for.
 fn report<P: ReadingProgress>(progress: &mut Option<P>, bytes: usize) {
     if let Some(progress) = progress {
         progress.read(bytes);
@@ -79,7 +79,7 @@ impl<D: Disk, P: ReadingProgress> Disk for ReportingDisk<D, P> {
         self.disk.len()
     }
 
-    // Reads bytes, and reports how many.
+    // Reports how many bytes are asked for, and reads them.
     fn read_at(&mut self, at: usize, buf: &mut [u8]) -> io::Result<()> {
         report(&mut self.progress, buf.len());
         self.disk.read_at(at, buf)
@@ -114,6 +114,8 @@ pub(crate) fn with_reports<D: Disk + Drop, P: ReadingProgress>(
 ) -> Files<ReportingDisk<D, P>>
     requires log { IsTrue (D.Disk.is_usable files.log) }
     requires db { IsTrue (D.Disk.is_usable files.db) }
+    ensures same_log { result.log.disk ≡ files.log }
+    ensures same_db { result.db.disk ≡ files.db }
     ensures log { IsTrue (⟦<ReportingDisk<D, P> as Disk>⟧.is_usable result.log) }
     ensures db { IsTrue (⟦<ReportingDisk<D, P> as Disk>⟧.is_usable result.db) }
 {

@@ -40,7 +40,7 @@ impl CheckState {
         CheckState { read, ..self }
     }
 
-    // The same, once it was seen whether a line may be written: not before a megabyte more is read.
+    // The same, where no line may be written before a megabyte more is read.
     fn with_next(self) -> CheckState {
         let next = self.read.saturating_add(MEGABYTE);
         CheckState { next, ..self }
@@ -119,22 +119,22 @@ impl CheckDisplay {
     // Says at once that nothing is read.
     fn show_first(&self) {
         if let Some(shared) = &self.state {
-            shared.set(self.written(shared.get()));
+            shared.set(self.write_line(shared.get()));
         }
     }
 
     // Writes a line if that may be.
-    fn shown(&self, state: CheckState) -> CheckState {
+    fn shown_if_due(&self, state: CheckState) -> CheckState {
         let state = state.with_next();
         if self.is_terminal || state.pause.is_over(&self.rt) {
-            self.written(state)
+            self.write_line(state)
         } else {
             state
         }
     }
 
     // Writes the line of a terminal anew, or one below the others, and notes that.
-    fn written(&self, state: CheckState) -> CheckState {
+    fn write_line(&self, state: CheckState) -> CheckState {
         if self.is_terminal {
             self.draw(state.read);
             return CheckState {
@@ -186,7 +186,7 @@ impl ReadingProgress for CheckDisplay {
         };
         let state = shared.get().with_read(bytes);
         shared.set(if state.is_due() {
-            self.shown(state)
+            self.shown_if_due(state)
         } else {
             state
         });

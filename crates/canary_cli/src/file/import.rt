@@ -11,7 +11,7 @@ const INPUT: &str = "-";
 
 /// Imports a measurement file into the book of a file, by the machine's clock, and writes each
 /// row's line as it goes. The file `csv` is the input where that is `-`. How many bytes are read is
-/// shown on a terminal.
+/// shown on standard error.
 ///
 /// # Errors
 /// `File` where the measurement file cannot be opened, or is a folder: the book is not opened then.

@@ -31,7 +31,7 @@ pub(crate) enum Sight<'a> {
 }
 
 /// Looks at the desk in a file, once. A page is written to the output meanwhile, part by part, and
-/// a terminal shows how far it has come; then the files of its services, as `fill` says. Of a
+/// standard error shows how far it has come; then the files of its services, as `fill` says. Of a
 /// status this gives the text, to be drawn once the file is closed; of a page, none. The file is
 /// opened as `open_found` does it, and no row of it is changed. If a desk has it open, or this
 /// process may not write it, a copy is read, which stands meanwhile where `OwnCopy` of

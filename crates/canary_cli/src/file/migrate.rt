@@ -12,8 +12,8 @@ use std::io::Write;
 
 /// Makes a desk's file of the first version one of this version, in one transaction, and writes
 /// `migrated`; of a file of this version it writes `current`, and changes nothing. The rows of a
-/// file of the first version are judged before the transaction commits, which is shown on a
-/// terminal. A dry run does the same to a copy, which stands meanwhile where `OwnCopy` of
+/// file of the first version are judged before the transaction commits, which is shown on
+/// standard error. A dry run does the same to a copy, which stands meanwhile where `OwnCopy` of
 /// canary_backup says, in a folder that its owner alone may read, or beside the file if there is no
 /// room; it writes `would-migrate` in place of `migrated`, and does not change the file, which it
 /// opens as the other does, and which nobody else can open meanwhile. No log is made beside a file

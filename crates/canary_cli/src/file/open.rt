@@ -50,7 +50,7 @@ pub type CheckedStore = FileStore<ReportingDisk<File, CheckDisplay>>;
 pub type FileBook = TableBook<CheckedStore>;
 
 /// Opens the file of SQLite of this name as a desk's book, or makes it. SQLite checks it, and all
-/// its rows are judged before they are believed, both of which is shown on the standard error of
+/// its rows are judged before they are believed, both of which are shown on the standard error of
 /// the process. No log is made beside a file that does not begin as a database.
 ///
 /// # Errors

@@ -195,7 +195,6 @@ impl<'a, F: Write> ProgressDisplay<'a, F> {
             let mut errors = Unblocked::new(self.rt, &mut *self.errors);
             let _ = errors.write_all(line.as_bytes());
             let _ = errors.flush();
-            self.is_drawn = true;
         }
     }
 
