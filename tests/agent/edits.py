@@ -11,6 +11,7 @@ from agents import (
 from replies import want_plain
 from world import WORDS, Wrong, expect
 
+NO_PROVIDER = "no file has a provider for this metric"
 SIX, SEVEN = "result < 0.5", "result < 0.500001"
 
 
@@ -57,7 +58,7 @@ def try_edited(world):
             wait_more(desk, "p.e6", 3)
             if count_of(desk, "q.e6") > before + 1:
                 raise Wrong("a metric was measured that is in no file")
-            expect("said once", agent.errors().count("no file has this metric"), 1)
+            expect("said once", agent.errors().count(NO_PROVIDER), 1)
             put(desk, listed(template_of(server.port), web))
             wait_more(desk, "q.e6", 3)
             want_once("edited", measured(desk))
@@ -76,9 +77,9 @@ def try_two_of_a_name(world):
             desk.write("more.json", listed(template_of(server.port, SEVEN, names=("p",)), other,
                                            web))
             with agent_of(desk, "more.json") as agent:
-                agent.wait_said("no file has this metric")
+                agent.wait_said(NO_PROVIDER)
                 time.sleep(3)
-                expect("said once", agent.errors().count("no file has this metric"), 1)
+                expect("said once", agent.errors().count(NO_PROVIDER), 1)
                 expect("measured", measured(desk), [])
                 expect("asked", server.targets(), [])
 

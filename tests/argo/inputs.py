@@ -11,7 +11,7 @@ CLOSED = [closed for count in range(1, 4) for closed in itertools.combinations(r
 # C0, DEL, C1, the marks of direction (UAX #9), the separators of lines and paragraphs.
 MARKS = [*range(0x20), *range(0x7f, 0xa0), 0x61c, 0x200e, 0x200f, *range(0x2028, 0x202f),
          *range(0x2066, 0x206a)]
-NOTHING = "no Rollout is here, and no AnalysisTemplate that needs none"
+NOTHING = "no Rollout is here, and no AnalysisTemplate whose arguments have values"
 MOST_FILE, MOST_YAML = 16 * 2 ** 20, 2 ** 20
 
 

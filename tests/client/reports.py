@@ -220,8 +220,8 @@ def try_agent(world):
         variables = {"PATH": f"{desk.folder}/bin:{os.environ['PATH']}",
                      "CANARY_DESK": f"127.0.0.1:{desk.port}", "AGENT_FOLDER": str(desk.folder)}
 
-        def call(row, status, output):
-            with process([str(AGENT), "web"], cwd=desk.folder, env=environment(**variables),
+        def call(row, status, output, service="web"):
+            with process([str(AGENT), service], cwd=desk.folder, env=environment(**variables),
                          stdin=subprocess.DEVNULL, stdout=subprocess.PIPE,
                          stderr=subprocess.PIPE) as agent:
                 found = agent.communicate(timeout=120)
@@ -240,6 +240,9 @@ def try_agent(world):
             ("-x", 1, "-5", ""), ("-x", 2, "-5", ""), ("m", 1, "-5", ""), ("m", 2, "-5", ""),
             ("n", 1, "", "not measured"), ("n", 2, "", "not measured")])
         want_delivered("agent", desk, "agent-web", "web.journal")
+        add_measured(desk, metric("slow", "1h"), name="seldom")
+        call("of another service", 0, recorded("Error", "seldom"), "seldom")
+        call("nothing is due", 0, "", "seldom")
 
 
 def try_due(world):

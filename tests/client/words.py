@@ -24,7 +24,8 @@ NO_VERSION = "the VERSION is missing: a version is 1 to 63 of A-Z, a-z, 0-9, '.'
 BAD_VERSION = "the VERSION is invalid: a version is 1 to 63 of A-Z, a-z, 0-9, '.', '_' and '-'"
 BAD_CALLER = "the caller has an invalid name: 1 to 63 of a-z, 0-9 and '-', no '-' at an end"
 NO_JOURNAL = "a journal has to be given: --journal FILE or CANARY_JOURNAL"
-MANIFEST = "the desk would not take this manifest: 'canary check' says why"
+MANIFEST = ("the desk would not take this manifest: 'canary check' says why, and Argo's "
+            "manifests need --argo")
 NO_FILE = "the file cannot be read"
 OUTPUT = "the output failed or was closed"
 

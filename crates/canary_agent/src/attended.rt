@@ -358,7 +358,9 @@ impl Attended {
         }
         self.unknown.push(due.metric)?;
         let (service, metric) = (self.served.name, due.metric);
-        let line = format!(in alloc; "{service} {metric}: no file has this metric: not measured")?;
+        let line = format!(in alloc;
+            "{service} {metric}: no file has a provider for this metric: not measured"
+        )?;
         say(errors, line.as_str());
         Ok(())
     }

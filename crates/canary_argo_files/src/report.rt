@@ -12,7 +12,7 @@ use canary_plan::templates::Templates;
 use serde_json::Value;
 use std::alloc::Global;
 
-const NOTHING: &str = "no Rollout is here, and no AnalysisTemplate that needs none";
+const NOTHING: &str = "no Rollout is here, and no AnalysisTemplate whose arguments have values";
 
 /// What is found in files of manifests, noted of their translation, and warned of.
 #[derive(Drop)]

@@ -86,8 +86,8 @@ pub struct Terminals {
 }
 
 /// Runs a command line, the words behind the program's name, on this input, output and error
-/// stream, with the machine's files, sockets and clocks, and answers the exit status. If `errors`
-/// is a terminal, long work shows there how far it has come, and `import`, `history` and `export`
+/// stream, with the machine's files, sockets and clocks, and answers the exit status. Long work
+/// shows on `errors` how far it has come. If that is a terminal, `import`, `history` and `export`
 /// say there that they made a file that was not there.
 ///
 /// 0: what was asked was done, or help or the version was asked for, whose text is written to

@@ -267,7 +267,10 @@ impl Stop {
                 "--until takes Healthy, Degraded, Paused, Progressing, Held and Waiting"
             }
             Stop::ForeverUntil => "--forever and --until cannot both be given",
-            Stop::Manifest => "the desk would not take this manifest: 'canary check' says why",
+            Stop::Manifest => {
+                "the desk would not take this manifest: 'canary check' says why, and Argo's \
+                manifests need --argo"
+            }
             Stop::Argo => "nothing was sent: these manifests are not translated",
             Stop::ArgoCommand => "--argo takes template FILE.. or service FILE.. VERSION",
             Stop::ArgoNothing => "nothing was sent: no such manifest is in these files",

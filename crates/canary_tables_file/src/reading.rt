@@ -1,5 +1,5 @@
 //! A file each read of which is reported.
-ghost use Rattle.std.specs.Prelude.{◌≡◌, IsTrue};
+ghost use Rattle.std.specs.Prelude.{◌≡◌, ℕ, List, IsTrue};
 
 use sqlite::Files;
 use sqlite_disk::{Disk, Tally};
@@ -106,6 +106,29 @@ impl<D: Disk, P: ReadingProgress> Disk for ReportingDisk<D, P> {
         self.disk.sync()
     }
 }
+
+/// Of a disk that reports, the kit's contract says what it says of the disk within.
+pub fn reporting_disks<D: Disk, P: ReadingProgress>(disk: &ReportingDisk<D, P>)
+    ensures seen { ⟦<ReportingDisk<D, P> as Disk>⟧.seen disk.now ≡ D.Disk.seen disk.now.disk }
+    ensures leaves { (bytes : List ℕ) → D.Disk.may_leave disk.now.disk bytes
+        → ⟦<ReportingDisk<D, P> as Disk>⟧.may_leave disk.now bytes }
+    ensures alone { (bytes : List ℕ) → ⟦<ReportingDisk<D, P> as Disk>⟧.may_leave disk.now bytes
+        → D.Disk.may_leave disk.now.disk bytes }
+    ensures usable { ⟦<ReportingDisk<D, P> as Disk>⟧.is_usable disk.now
+        ≡ D.Disk.is_usable disk.now.disk }
+    ensures faults { ⟦<ReportingDisk<D, P> as Disk>⟧.faults disk.now ≡ D.Disk.faults disk.now.disk }
+    ensures tally { ⟦<ReportingDisk<D, P> as Disk>⟧.tally_of disk.now
+        ≡ D.Disk.tally_of disk.now.disk }
+    ensures clean { ⟦<ReportingDisk<D, P> as Disk>⟧.is_clean disk.now
+        ≡ D.Disk.is_clean disk.now.disk }
+    ensures key { ⟦<ReportingDisk<D, P> as Disk>⟧.key_of disk.now ≡ D.Disk.key_of disk.now.disk }
+    ensures fair { ⟦<ReportingDisk<D, P> as Disk>⟧.is_fair disk.now
+        ≡ D.Disk.is_fair disk.now.disk }
+    ensures rotten { ⟦<ReportingDisk<D, P> as Disk>⟧.is_rotten disk.now
+        ≡ D.Disk.is_rotten disk.now.disk }
+    ensures mixing { ⟦<ReportingDisk<D, P> as Disk>⟧.is_mixing disk.now
+        ≡ D.Disk.is_mixing disk.now.disk }
+{}
 
 // The same files: what is read of the database is reported, and what is read of the log is not.
 pub(crate) fn with_reports<D: Disk + Drop, P: ReadingProgress>(
