@@ -24,7 +24,7 @@ def contract_at(lines, first, indent):
     """The head and the clauses of the function that begins at a line."""
     text = []
     for line in lines[first:]:
-        if line == f"{indent}{{":
+        if line in (f"{indent}{{", f"{indent}{{}}"):
             break
         text.append(line)
         if re.match(rf"{indent}\S.*\{{( \}}|\}})?$", line):
