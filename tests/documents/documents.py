@@ -52,11 +52,12 @@ LINES = {
 
 
 def files_of(root):
-    """The files of the repository, without what is built."""
+    """The files of the repository, without what is built, and what is no file, as a socket."""
     for folder, folders, names in os.walk(root):
         folders[:] = sorted(set(folders) - {".git", "out", "__pycache__"})
         for name in sorted(names):
-            yield pathlib.Path(folder, name)
+            if pathlib.Path(folder, name).is_file():
+                yield pathlib.Path(folder, name)
 
 
 def alternatives(path):
