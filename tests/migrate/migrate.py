@@ -144,7 +144,7 @@ def try_terminal(program, folder):
                         ([], b"current\n")):
         written, shown = run_showing(program, ["migrate", "--db", file, *words], folder)
         want(f"{words} on a terminal", written, word)
-        found = re.fullmatch(rb"((?:\rcanary: [^\r\n]+)*)(?:%s)?" % re.escape(ERASED), shown)
+        found = re.fullmatch(rb"((?:(?:\rcanary: [^\r\n]+)+%s)*)" % re.escape(ERASED), shown)
         want(f"{words}: what a terminal shows: {shown[-200:]}", found is not None, True)
         if word != b"current\n":
             want(f"{words}: whether a terminal shows something", len(found[1]) > 0, True)

@@ -278,3 +278,4 @@ def want_strangers(front):
     expect("another path", front.curl("ops", "GET", "/callers/ops")[0], 404)
     (front.folder / "desk.html").write_text("a page", encoding="utf-8")
     expect("the page", front.curl("reader", "GET", "/desk.html"), (200, "a page"))
+    expect("the page without a role", front.curl("no-role", "GET", "/desk.html")[0], 403)
