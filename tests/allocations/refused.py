@@ -544,6 +544,10 @@ ARGO = """{"kind":"List","items":[{"kind":"AnalysisTemplate","metadata":{"name":
 "metadata":{"name":"web"},"spec":{"strategy":{"canary":{"steps":[{"setWeight":10},{"analysis":
 {"templates":[{"templateName":"t"}]}}]}}}}]}
 """
+MISSPELT = """{"kind":"List","items":[{"kind":"AnalysisTemplate","metadata":{"name":"t"},"spec":{
+"metrics":[{"name":"m","successCondition":"result > 1","failurelimit":1}]}},{"kind":"Rollout",
+"metadata":{"name":"web"},"spec":{"strategy":{"canary":{"steps":[{"pause":{}}],"stage":1}}}}]}
+"""
 ARGO_SHOWN = b"""template t-for-web
   m.e6nf
     success: (result < 500000 && result != -9223372036854775808) || result == -9223372036854775808
@@ -587,6 +591,13 @@ def try_argo(trial, share):
         return asked
 
     EACH.refuse_each("argo", refuse)
+    with open(trial.rows, "w", encoding="utf-8") as source:
+        source.write(MISSPELT)
+    words = ["argo", "--json", trial.rows]
+    wanted = trial.run(words)
+    expect("argo of misspelt members", (wanted[0], wanted[1].count(b"no member"), wanted[2]),
+           (0, 2, b""))
+    try_line(trial, "argo of misspelt members", words, wanted, share)
     refused = os.path.join(ROOT, "examples/argo/refused.yaml")
     wanted = trial.run(["argo", refused])
     expect("argo of what is not translated", (wanted[0], wanted[2]), (1, b""))

@@ -164,6 +164,12 @@ TEXTS = {
             f"t{at}" for at in range(1000)])),
     "steps": lambda: listed({"kind": "Rollout", "metadata": {"name": "s"}, "spec": {"strategy": {
         "canary": {"steps": [{"setWeight": 1}] * 20000}}}}),
+    "misspelt members": lambda: listed({"kind": "Rollout", "metadata": {"name": "s"}, "spec": {
+        "strategy": {"canary": {f"maxSurg{at}": 1 for at in range(50000)}}}}),
+    "a misspelt member in each metric": lambda: listed(*[analysis(f"t{at}", [
+        metric(f"m{to}", failureLimits=1) for to in range(30)]) for at in range(200)]),
+    "a million bytes of a misspelt member": lambda: listed(analysis("t", [
+        metric(**{filled("n", end="n" * 200): 1})])),
     "other kinds": lambda: listed(*[{"kind": f"K{at}"} for at in range(20000)]),
     "documents": lambda: filled("---\nkind: Rollout\n"),
     "documents of one template": lambda: filled("---\n" + json.dumps(JOB) + "\n"),

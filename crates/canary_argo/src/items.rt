@@ -367,12 +367,12 @@ pub(crate) fn items_of_text(
     }
 }
 
-// The fault at the byte of its token.
+// The fault at the byte of its token, or `Memory`.
 fn at_token(alloc: Global, text: &[u8], fault: TranslationFault) -> TranslationFault {
     match fault {
         TranslationFault::Memory => TranslationFault::Memory,
         TranslationFault::Refused(SyntaxFinding { why, at }) => {
-            TranslationFault::refused(why, lexer::place_of(alloc, text, at))
+            lexer::fault_at_token(alloc, text, why, at)
         }
     }
 }

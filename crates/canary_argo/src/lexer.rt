@@ -16,7 +16,7 @@ ghost use Rattle.canary_argo.specs.Tokens.{before, front_token, IsFront};
 ghost use Rattle.canary_argo.specs.Tokens.{IsMadeOf};
 
 use crate::condition::ArgoToken;
-use crate::fault::TranslationFault;
+use crate::fault::{TranslationFault, UnsupportedSyntax};
 use crate::naming;
 use canary_base::error::Memory;
 use canary_condition::condition::Comparison;
@@ -447,15 +447,34 @@ fn fault_at(text: &[u8], rest: &[u8]) -> TranslationFault {
     TranslationFault::refused(naming::of_text(rest, word, behind), at)
 }
 
+// What follows the token at the front of what is left of a text; all of it if there is no token.
+fn after_token(alloc: Global, rest: &[u8]) -> Result<&[u8], Memory> {
+    match front_token(alloc, rest)? {
+        Some((_, behind)) => Ok(unblanked(behind)),
+        None => Ok(rest),
+    }
+}
+
 // The byte where a token begins, of which so many stand before it.
-pub(crate) fn place_of(alloc: Global, text: &[u8], tokens: usize) -> usize {
+fn place_of(alloc: Global, text: &[u8], tokens: usize) -> Result<usize, Memory> {
     let mut rest = unblanked(text);
     for _ in 0..tokens {
-        if let Ok((_, behind)) = next_token(alloc, text, rest) {
-            rest = unblanked(behind);
-        }
+        rest = after_token(alloc, rest)?;
     }
-    text.len().saturating_sub(rest.len())
+    Ok(text.len().saturating_sub(rest.len()))
+}
+
+// The fault at the byte of a token, of which so many stand before it; or `Memory`.
+pub(crate) fn fault_at_token(
+    alloc: Global,
+    text: &[u8],
+    why: UnsupportedSyntax,
+    tokens: usize,
+) -> TranslationFault {
+    match place_of(alloc, text, tokens) {
+        Ok(at) => TranslationFault::refused(why, at),
+        Err(_) => TranslationFault::Memory,
+    }
 }
 
 // The tokens of a text.

@@ -71,7 +71,7 @@ fn place_of(form: Form, items: &[Item], finding: SyntaxFinding) -> usize {
     }
 }
 
-// The fault at the byte of its group.
+// The fault at the byte of its group, or `Memory`.
 fn at_item(
     alloc: Global,
     text: &[u8],
@@ -83,7 +83,7 @@ fn at_item(
         TranslationFault::Memory => TranslationFault::Memory,
         TranslationFault::Refused(finding) => {
             let tokens = naming::tokens_before(items, place_of(form, items, finding));
-            TranslationFault::refused(finding.why, lexer::place_of(alloc, text, tokens))
+            lexer::fault_at_token(alloc, text, finding.why, tokens)
         }
     }
 }

@@ -64,6 +64,13 @@ fn fill(
     report.found.count(made.more_findings);
     add_placed(alloc, &mut report.notes, manifests, made.notes.as_slice())?;
     report.notes.count(made.more_notes);
+    add_placed(
+        alloc,
+        &mut report.warnings,
+        manifests,
+        made.warnings.as_slice(),
+    )?;
+    report.warnings.count(made.more_warnings);
     add_checked(alloc, report, manifests, made.templates.as_slice())?;
     add_checked(alloc, report, manifests, made.services.as_slice())?;
     add_ignored(

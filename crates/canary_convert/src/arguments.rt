@@ -4,6 +4,7 @@ use crate::draft::Draft;
 use crate::filling::{has_place, has_place_of};
 use crate::json::{list_at, member, push_key, text_at};
 use crate::manifest_place::ManifestPlace;
+use crate::unknown::{ARGUMENT, warn_of_others};
 use crate::work::Conversion;
 use canary_base::names::Label;
 use serde_json::Value;
@@ -221,8 +222,10 @@ pub(crate) fn tell_arguments(
     }
 }
 
-// Adds that an argument has an invalid name, a list or an object as its value, or no such source.
+// Adds that an argument has an invalid name, a list or an object as its value, or no such source,
+// and warns of a member that Argo does not know.
 fn tell_argument(work: &mut Conversion, place: ManifestPlace, argument: &Value) {
+    warn_of_others(work, place, argument, &ARGUMENT);
     if Label::read(text_at(argument, "name").as_bytes()).is_none() {
         work.tell(place.end("name"), &[NAME]);
     }

@@ -27,9 +27,12 @@ pub struct Converted {
     pub findings: Vec<Finding>,
     /// What was left out, or means something else here.
     pub notes: Vec<Finding>,
-    /// How many findings, and how many notes, came after these: of each there are 100 at most.
+    /// What Argo does not know, as misspelt members are.
+    pub warnings: Vec<Finding>,
+    /// How many findings, notes and warnings came after these: of each there are 100 at most.
     pub more_findings: u64,
     pub more_notes: u64,
+    pub more_warnings: u64,
 }
 
 // The most documents: what is looked up among them is looked up one by one.
@@ -131,13 +134,14 @@ fn outcome_of(work: Conversion) -> Converted
         alloc,
         findings,
         notes,
+        warnings,
         templates,
         services,
         plan,
         ..
     } = work;
-    let (more_findings, more_notes) = (findings.more, notes.more);
-    let (findings, notes) = (findings.list, notes.list);
+    let (more_findings, more_notes, more_warnings) = (findings.more, notes.more, warnings.more);
+    let (findings, notes, warnings) = (findings.list, notes.list, warnings.list);
     if findings.is_empty() {
         return Converted {
             templates,
@@ -145,8 +149,10 @@ fn outcome_of(work: Conversion) -> Converted
             plan,
             findings,
             notes,
+            warnings,
             more_findings,
             more_notes,
+            more_warnings,
         };
     }
     Converted {
@@ -155,8 +161,10 @@ fn outcome_of(work: Conversion) -> Converted
         plan: Vec::new(alloc),
         findings,
         notes,
+        warnings,
         more_findings,
         more_notes,
+        more_warnings,
     }
 }
 

@@ -41,12 +41,22 @@ impl Findings {
         if self.has(&finding) {
             return Ok(());
         }
-        if self.list.len() >= MAX_FINDINGS {
-            self.more = self.more.saturating_add(1);
+        if self.is_full() {
+            self.count();
             return Ok(());
         }
         self.list.push(finding)?;
         Ok(())
+    }
+
+    /// Whether one more is counted only.
+    pub(crate) fn is_full(&self) -> bool {
+        self.list.len() >= MAX_FINDINGS
+    }
+
+    /// Counts one more.
+    pub(crate) fn count(&mut self) {
+        self.more = self.more.saturating_add(1);
     }
 
     // Whether the same finding is there already, at the same place.

@@ -20,4 +20,5 @@ mod metric;
 mod rollout;
 pub mod source;
 mod template;
+mod unknown;
 pub mod work;

@@ -80,6 +80,13 @@ impl ManifestPlace {
         put_end(&mut out, self.end);
         out
     }
+
+    /// The same with the key of a member of what stands there.
+    pub(crate) fn path_to(self, alloc: Global, key: &str) -> Draft {
+        let mut out = self.path(alloc);
+        put_end(&mut out, key);
+        out
+    }
 }
 
 // Appends an item of a list of documents, if there is one, and the keys that follow it.

@@ -7,6 +7,7 @@ use crate::json::{
 };
 use crate::manifest_place::ManifestPlace;
 use crate::template::{convert_template, push_made_name};
+use crate::unknown::{self, warn_of_others, warn_of_others_of_step};
 use crate::work::Conversion;
 use serde_json::Value;
 
@@ -73,11 +74,13 @@ fn push_strategy(work: &mut Conversion, site: &RolloutContext, spec: &Value, out
     let Some(strategy) = work.object_at(place, spec, "strategy") else {
         return;
     };
+    warn_of_others(work, place, strategy, &unknown::STRATEGY);
     push_key(out, "strategy");
     out.put("{");
     push_member(out, strategy, "blueGreen");
     let place = place.at("spec.strategy.canary");
     if let Some(canary) = work.object_at(place, strategy, "canary") {
+        warn_of_others(work, place, canary, &unknown::CANARY);
         push_key(out, "canary");
         push_canary(work, site, canary, out);
     }
@@ -93,6 +96,7 @@ fn push_canary(work: &mut Conversion, site: &RolloutContext, canary: &Value, out
         push_steps(work, site, steps, out);
     }
     if let Some(analysis) = work.object_at(place.at(ANALYSIS), canary, "analysis") {
+        warn_of_others(work, place.at(ANALYSIS), analysis, &unknown::BACKGROUND);
         let used = Use {
             site: *site,
             place,
@@ -126,10 +130,12 @@ fn push_step(
     if !step.is_object() {
         return work.tell(place, &["expected an object"]);
     }
+    warn_of_step(work, place, step);
     push_comma(out);
     out.put("{");
     push_others(out, step, &["analysis"]);
     if let Some(analysis) = work.object_at(place.end("analysis"), step, "analysis") {
+        warn_of_others(work, place.end("analysis"), analysis, &unknown::ANALYSIS);
         let used = Use {
             site: *site,
             place,
@@ -140,6 +146,14 @@ fn push_step(
         push_analysis(work, &used, out);
     }
     out.put("}");
+}
+
+// Warns of each member of a step, and of its pause, that Argo does not know.
+fn warn_of_step(work: &mut Conversion, place: ManifestPlace, step: &Value) {
+    warn_of_others_of_step(work, place, step);
+    if let Some(pause) = member(step, "pause") {
+        warn_of_others(work, place.end("pause"), pause, &unknown::PAUSE);
+    }
 }
 
 // Appends an analysis of the desk's templates, without arguments: those are filled in there.
@@ -170,6 +184,7 @@ fn tell_arguments_of(work: &mut Conversion, used: &Use) {
 fn push_templates(work: &mut Conversion, used: &Use, templates: &Vec<Value>, out: &mut Draft) {
     for (index, named) in templates.iter().enumerate() {
         let place = used.place.inner(used.templates, index);
+        warn_of_others(work, place, named, &unknown::NAMED);
         if let Some(template) = template_of(work, used, place, named) {
             push_used(work, used, template, named, out);
         }

@@ -9,6 +9,7 @@ use crate::manifest_place::ManifestPlace;
 use crate::metric::{
     TemplateMetric, call, has_desk_place, is_desk_given, plan_metric, push_metric,
 };
+use crate::unknown::{METRIC, TEMPLATE, warn_of_others};
 use crate::work::{Conversion, Made};
 use canary_base::names::Name;
 use serde_json::Value;
@@ -33,8 +34,9 @@ pub(crate) fn tell_template(work: &mut Conversion, template: &ManifestObject) {
     }
 }
 
-// Adds what is wrong in the `spec` of a template.
+// Adds what is wrong in the `spec` of a template, and warns of a member that Argo does not know.
 fn tell_spec(work: &mut Conversion, place: ManifestPlace, spec: &Value) {
+    warn_of_others(work, place.at("spec"), spec, &TEMPLATE);
     if member(spec, "measurementRetention").is_some() {
         work.note(place.at("spec.measurementRetention"), &[RETENTION]);
     }
@@ -47,10 +49,12 @@ fn tell_spec(work: &mut Conversion, place: ManifestPlace, spec: &Value) {
     }
 }
 
-// Adds each metric that is no object, or has the name of one before it.
+// Adds each metric that is no object, or has the name of one before it, and warns of a member that
+// Argo does not know.
 fn tell_metrics(work: &mut Conversion, place: ManifestPlace, metrics: &Vec<Value>) {
     for (index, metric) in metrics.iter().enumerate() {
         let place = place.item("spec.metrics", index);
+        warn_of_others(work, place, metric, &METRIC);
         if !metric.is_object() {
             work.tell(place, &["expected an object"]);
         }

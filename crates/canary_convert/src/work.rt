@@ -51,6 +51,7 @@ pub(crate) struct Conversion {
     pub(crate) alloc: Global,
     pub(crate) findings: Findings,
     pub(crate) notes: Findings,
+    pub(crate) warnings: Findings,
     pub(crate) templates: Vec<Made>,
     pub(crate) services: Vec<Made>,
     pub(crate) plan: Vec<Planned>,
@@ -114,6 +115,7 @@ impl Conversion {
             alloc,
             findings: Findings::new(alloc),
             notes: Findings::new(alloc),
+            warnings: Findings::new(alloc),
             templates: Vec::new(alloc),
             services: Vec::new(alloc),
             plan: Vec::new(alloc),
@@ -202,15 +204,34 @@ impl Conversion {
         self.remember(added);
     }
 
+    /// Adds a warning of the member of that key of what stands there, in parts that follow one
+    /// another.
+    pub(crate) fn warn(&mut self, place: ManifestPlace, key: &str, parts: &[&str]) {
+        let warning = self.finding_of(place, place.path_to(self.alloc, key), None, parts);
+        let added = self.warnings.add(warning);
+        self.remember(added);
+    }
+
     // A finding at a place, in parts that follow one another.
     fn finding(&mut self, place: ManifestPlace, at: Option<usize>, parts: &[&str]) -> Finding {
+        self.finding_of(place, place.path(self.alloc), at, parts)
+    }
+
+    // A finding at a place, of this path, in parts that follow one another.
+    fn finding_of(
+        &mut self,
+        place: ManifestPlace,
+        path: Draft,
+        at: Option<usize>,
+        parts: &[&str],
+    ) -> Finding {
         let mut text = Draft::new(self.alloc);
         for part in parts {
             text.put_plain(part);
         }
         Finding {
             source: place.source,
-            path: self.end(place.path(self.alloc)),
+            path: self.end(path),
             text: self.end(text),
             at,
         }

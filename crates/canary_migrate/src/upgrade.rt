@@ -7,7 +7,7 @@ use canary_tables_file::reading::{ReadingProgress, ReportingDisk};
 use canary_tables_read::meta::{MetaRow, desk_row};
 use canary_tables_schema::fault::fault_of;
 use canary_tables_schema::recognize::is_desk;
-use sqlite::{Alter, Connection, Error, ErrorCode, File, FileStore};
+use sqlite::{Alter, Connection, Error, ErrorCode, File, FileStore, Unknown};
 use std::alloc::Global;
 
 /// Makes the file of SQLite at a path, which is a desk's of the first schema, one of the present
@@ -27,7 +27,7 @@ pub fn upgrade<P: ReadingProgress, G: JudgingProgress>(
     reading: P,
     progress: &mut G,
 ) -> Result<bool, TableFault> {
-    match connect(rt, path, reading) {
+    match connect(rt, path, reading, Unknown) {
         Ok(conn) => upgrade_file(rt.alloc(), conn, progress),
         Err(error) => Err(open_fault(error)),
     }

@@ -1,9 +1,13 @@
 -- Rows of a database that is adopted.
 use Rattle.std.proofs.Common.{◌≡◌, ℕ, List, [], ◌∷◌, length, map, drop, refl, sym, ap, subst, ◌∙◌, arith}
+use Rattle.std.specs.Prelude.{Option, Some, None, Result, Ok, Err, IfOk, IfSome}
 use Rattle.std.specs.List.{AllByRecursion}
 use Rattle.sqlite.specs.Effect.{Database}
+use Rattle.sqlite.specs.Held.{Held, state}
 use Rattle.sqlite.specs.State.{State}
+use Rattle.sqlite_trees.specs.declared.store.Store.{Ghosts}
 use Rattle.sqlite_value.specs.Order.{Row}
+use Rattle.canary_once.specs.Sound.{AreSoundContents}
 use Rattle.canary_tables_rows.specs.Tables.{Tables}
 use Rattle.canary_tables_rows.specs.declared.rows.TallyRow.{TallyRow}
 use Rattle.canary_tables_schema.specs.Cells.{cells_of, meta_rows, tally_cells, tables_in, tally_tree}
@@ -20,7 +24,7 @@ use Rattle.canary_tables_read.specs.Meta.{HasMetaRow, Stands}
 use Rattle.canary_tables_read.specs.declared.meta.MetaRow.{MetaRow}
 use Rattle.canary_tables_read.specs.declared.meta.MetaRow.TheVariants.{Alone}
 use Rattle.canary_tables_contents.specs.Reading.{contents_of, HoldsContents}
-use Rattle.canary_tables.specs.Adopts.{HasDeskTables, HasSoundRows, HasSoundRowsWithin, IsBelieved, IsAdopted}
+use Rattle.canary_tables.specs.Adopts.{HasDeskTables, HasSoundRows, HasSoundRowsWithin, IsBelieved, IsAdopted, IsSoundDesk}
 use Rattle.canary_tables.specs.Desk.{IsDesk}
 
 -- Rows of tallies have ten values.
@@ -134,3 +138,20 @@ left_as_it_was old mid new opened same usable =
 
 pub broken_before : (old mid new : State) → (IsUsable mid → IsOpenedAnew old mid) → IsSame mid new → (IsUsable new → HasDeskTables mid.now × IsRising mid.now × ¬ HasSoundRowsWithin mid.now) → IsUsable new → HasDeskTables old.now × IsRising old.now × ¬ HasSoundRowsWithin old.now
 broken_before old mid new opened same broken usable = subst (λ (db : Database). HasDeskTables db × IsRising db × ¬ HasSoundRowsWithin db) (opened (same usable).0).same (broken usable)
+
+-- Books that are opened.
+
+module _ (one : OneReading) where
+  pub adopted_sound : (old new : State) → IsAdopted old new → IsSoundDesk new
+  adopted_sound old new it =
+      let rows : HasSoundRows new.now = subst HasSoundRows (sym it.same) it.sound in
+      record {
+        rows = rows;
+        contents = subst (λ (t : Tables). AreSoundContents (contents_of t)) (sym (one new.now rows.0 rows.1.0)) rows.1.1.1;
+      }
+
+  pub all_sound : {S F : Type 0} (g : Ghosts S) (old : State) (r : Result (Option (Held S)) F) → IfOk r (λ found. IfSome found (λ book. IsUsable (state g book) → IsAdopted old (state g book)))
+      → IfOk r (λ found. IfSome found (λ book. IsUsable (state g book) → IsSoundDesk (state g book)))
+  all_sound g old (Ok (Some book)) is = λ usable. adopted_sound old (state g book) (is usable)
+  all_sound g old (Ok None) is = tt
+  all_sound g old (Err e) is = tt

@@ -1,14 +1,17 @@
--- What adopting a database comes to.
-use Rattle.std.specs.Prelude.{◌≡◌, false}
+-- What adopting a database, and opening one, comes to.
+use Rattle.std.specs.Prelude.{◌≡◌, ◌⊎◌, false}
 use Rattle.sqlite.specs.Effect.{Database}
 use Rattle.sqlite.specs.Held.{state}
 use Rattle.sqlite.specs.State.{State}
 use Rattle.sqlite_trees.specs.declared.store.Store.{Ghosts}
+use Rattle.canary_once.specs.Contents.{no_contents}
+use Rattle.canary_once.specs.Sound.{AreSoundContents}
 use Rattle.canary_tables_rows.specs.Limits.{AreWithin}
 use Rattle.canary_tables_rows.specs.Tables.{Tables}
 use Rattle.canary_tables_schema.specs.declared.fault.StoreFault.{StoreFault}
 use Rattle.canary_tables_schema.specs.Formed.{IsDeskSchema, IsFormed}
 use Rattle.canary_tables_schema.specs.Numbered.{IsLeft}
+use Rattle.canary_tables_schema.specs.Schema.{no_schema}
 use Rattle.canary_tables_schema.specs.Stores.{IsUsable, IsHeld}
 use Rattle.canary_tables_contents.specs.Soundness.{AreSoundTables}
 use Rattle.canary_tables_read.specs.Meta.{HasMetaRow}
@@ -44,6 +47,23 @@ pub record IsAdopted (old new : State) : Type 0 where
   pub sound : HasSoundRows old.now
   pub contents : contents_in new ≡ contents_in old
   pub same : new.now ≡ old.now
+
+-- What opening a database comes to.
+
+-- the rows of tables of sound contents stand in it, and what they say is contained, and sound
+pub record IsSoundDesk (s : State) : Type 0 where
+  pub rows : HasSoundRows s.now
+  pub contents : AreSoundContents (contents_in s)
+
+-- the database was empty, and the book contains nothing
+pub record IsBegun (old new : State) : Type 0 where
+  pub was : IsUsable old
+  pub empty : old.now.schema ≡ no_schema
+  pub nothing : contents_in new ≡ no_contents
+
+-- an empty database becomes a desk's, any other is adopted
+abbrev pub IsMadeOf : State → State → Type 0
+IsMadeOf old new = IsBegun old new ⊎ IsAdopted old new
 
 -- What is left where there is no book.
 

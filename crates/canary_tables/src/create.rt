@@ -4,6 +4,7 @@ ghost use Rattle.sqlite.specs.Held.{state};
 ghost use Rattle.canary_once.specs.Contents.{no_contents};
 ghost use Rattle.canary_tables_schema.specs.Schema.{no_schema};
 ghost use Rattle.canary_tables_schema.specs.Stores.{IsUsable};
+ghost use Rattle.canary_tables.specs.Adopts.{IsSoundDesk};
 ghost use Rattle.canary_tables.specs.Desk.{contents_in};
 ghost use Rattle.canary_tables.specs.declared.fault.TableFault.TheVariants as fault;
 
@@ -11,6 +12,7 @@ use crate::book::{DEFAULT_ROOM, TableBook};
 use crate::cache::Cache;
 use crate::fault::TableFault;
 use crate::notes::Notes;
+use canary_once::laws as book_laws;
 use canary_tables_contents::laws;
 use canary_tables_schema::recognize::is_empty;
 use canary_tables_schema::{create, laws as schema_laws};
@@ -36,6 +38,8 @@ impl<S: Alter> TableBook<S> {
             (λ book. IsUsable (state S.Store book) → IsUsable (state S.Store conn)) }
         ensures nothing { IfOk result (λ book. IsUsable (state S.Store book)
             → contents_in (state S.Store book) ≡ no_contents) }
+        ensures sound { IfOk result (λ book. IsUsable (state S.Store book)
+            → IsSoundDesk (state S.Store book)) }
         ensures other { IfErr result
             (λ e. e.0 ≡ fault.OtherSchema → (state S.Store conn).now.schema ≢ no_schema) }
         ensures taken { conn.in_transaction ≡ false → (state S.Store conn).now.schema ≢ no_schema
@@ -51,6 +55,7 @@ impl<S: Alter> TableBook<S> {
             (λ e. conn.in_transaction ≡ false → e.1.in_transaction ≡ false) }
     {
         laws::nothing();
+        book_laws::soundness();
         schema_laws::one_reading();
         if !conn.is_autocommit() {
             return Err((TableFault::Storage, conn));

@@ -1,10 +1,12 @@
 //! A book over a file.
-ghost use Rattle.std.specs.Prelude.{◌≡◌, ◌↔◌, false, IsTrue};
+ghost use Rattle.std.specs.Prelude.{◌≡◌, ◌↔◌, false, IsTrue, IfOk, IfSome};
+ghost use Rattle.sqlite.specs.Files.{file_state};
 ghost use Rattle.sqlite.specs.Held.{state};
 ghost use Rattle.sqlite.specs.Steps.{IsFresh};
 ghost use Rattle.sqlite_trees.specs.View.{IsClean};
 ghost use Rattle.canary_tables_schema.specs.Formed.{IsRising, HasWholeTallies};
 ghost use Rattle.canary_tables_schema.specs.Stores.{IsUsable};
+ghost use Rattle.canary_tables.specs.Adopts.{IsAdopted, IsSoundDesk, IsBegun, IsMadeOf};
 
 use crate::book::TableBook;
 use crate::fault::TableFault;
@@ -13,9 +15,10 @@ use canary_tables_file::connect::connect;
 use canary_tables_file::reading::{ReadingProgress, ReportingDisk};
 use canary_tables_file::store::open_store;
 use canary_tables_schema::fault::fault_of;
+use canary_tables_schema::laws as schema_laws;
 use canary_tables_schema::recognize::is_empty;
 use canary_tables_schema::reopen::open_desk;
-use sqlite::{Alter, Connection, Error, ErrorCode, File, FileStore};
+use sqlite::{Alter, Connection, Error, ErrorCode, File, FileStore, Unknown};
 use std::alloc::Global;
 
 impl<P: ReadingProgress> TableBook<FileStore<ReportingDisk<File, P>>> {
@@ -39,7 +42,10 @@ impl<P: ReadingProgress> TableBook<FileStore<ReportingDisk<File, P>>> {
         path: &str,
         reading: &P,
         progress: &mut G,
-    ) -> Result<TableBook<FileStore<ReportingDisk<File, P>>>, TableFault> {
+    ) -> Result<TableBook<FileStore<ReportingDisk<File, P>>>, TableFault>
+        ensures sound { IfOk result (λ book. IsUsable (file_state book)
+            → IsSoundDesk (file_state book)) }
+    {
         match open_desk_file(rt, path, reading, progress) {
             Ok(Some(book)) => Ok(book),
             Ok(None) => open_file(rt, path, reading, progress),
@@ -54,8 +60,11 @@ fn open_desk_file<P: ReadingProgress, G: JudgingProgress>(
     path: &str,
     reading: &P,
     progress: &mut G,
-) -> Result<Option<TableBook<FileStore<ReportingDisk<File, P>>>>, TableFault> {
-    match open_store(rt, path, reading.again()) {
+) -> Result<Option<TableBook<FileStore<ReportingDisk<File, P>>>>, TableFault>
+    ensures { IfOk result (λ found. IfSome found (λ book. IsUsable (file_state book)
+        → IsSoundDesk (file_state book))) }
+{
+    match open_store(rt, path, reading.again(), Unknown) {
         Ok(Some(store)) => adopt_store(rt.alloc(), store, progress),
         Ok(None) => Ok(None),
         Err(error) => Err(open_fault(error)),
@@ -69,7 +78,12 @@ fn adopt_store<S: Alter + Drop, G: JudgingProgress>(
     progress: &mut G,
 ) -> Result<Option<TableBook<S>>, TableFault>
     requires { IsClean (S.Store.view store) → IsFresh (S.Store.view store) }
+    ensures trees { IfOk result (λ found. IfSome found (λ book. IsUsable (state S.Store book)
+        → (state S.Store book).now.trees ≡ (S.Store.view store).trees)) }
+    ensures sound { IfOk result (λ found. IfSome found (λ book. IsUsable (state S.Store book)
+        → IsSoundDesk (state S.Store book))) }
 {
+    schema_laws::one_reading();
     match open_desk(alloc, store) {
         Ok(Some((conn, is_whole))) => adopt_connection(alloc, conn, is_whole, progress),
         Ok(None) => Ok(None),
@@ -88,6 +102,8 @@ fn adopt_connection<S: Alter + Drop, G: JudgingProgress>(
     requires numbered { IsUsable (state S.Store conn) → IsRising (state S.Store conn).now }
     requires whole { IsUsable (state S.Store conn)
         → (IsTrue is_whole ↔ HasWholeTallies (state S.Store conn).now) }
+    ensures adopted { IfOk result (λ found. IfSome found (λ book. IsUsable (state S.Store book)
+        → IsAdopted (state S.Store conn) (state S.Store book))) }
 {
     match TableBook::adopt_opened(alloc, conn, is_whole, progress) {
         Ok(book) => Ok(Some(book)),
@@ -101,8 +117,10 @@ fn open_file<P: ReadingProgress, G: JudgingProgress>(
     path: &str,
     reading: &P,
     progress: &mut G,
-) -> Result<TableBook<FileStore<ReportingDisk<File, P>>>, TableFault> {
-    match connect(rt, path, reading.again()) {
+) -> Result<TableBook<FileStore<ReportingDisk<File, P>>>, TableFault>
+    ensures { IfOk result (λ book. IsUsable (file_state book) → IsSoundDesk (file_state book)) }
+{
+    match connect(rt, path, reading.again(), Unknown) {
         Ok(conn) => book_of(rt.alloc(), conn, progress),
         Err(error) => Err(open_fault(error)),
     }
@@ -113,17 +131,48 @@ fn book_of<S: Alter + Drop, G: JudgingProgress>(
     alloc: Global,
     conn: Connection<S>,
     progress: &mut G,
-) -> Result<TableBook<S>, TableFault> {
+) -> Result<TableBook<S>, TableFault>
+    ensures made { IfOk result (λ book. IsUsable (state S.Store book)
+        → IsMadeOf (state S.Store conn) (state S.Store book)) }
+    ensures sound { IfOk result (λ book. IsUsable (state S.Store book)
+        → IsSoundDesk (state S.Store book)) }
+{
     if is_empty(conn.schema()) {
-        TableBook::create(alloc, conn).map_err(fault_alone)
+        begun(alloc, conn)
     } else {
-        TableBook::adopt(alloc, conn, progress).map_err(fault_alone)
+        adopted(alloc, conn, progress)
     }
 }
 
-// Why there is no book, without what is left of the connection.
-fn fault_alone<L: Drop>(failed: (TableFault, L)) -> TableFault {
-    failed.0
+// The book of an empty database.
+fn begun<S: Alter + Drop>(alloc: Global, conn: Connection<S>) -> Result<TableBook<S>, TableFault>
+    ensures begun { IfOk result (λ book. IsUsable (state S.Store book)
+        → IsBegun (state S.Store conn) (state S.Store book)) }
+    ensures sound { IfOk result (λ book. IsUsable (state S.Store book)
+        → IsSoundDesk (state S.Store book)) }
+{
+    match TableBook::create(alloc, conn) {
+        Ok(book) => Ok(book),
+        Err((fault, _)) => Err(fault),
+    }
+}
+
+// The book of a database that has a desk's tables.
+fn adopted<S: Alter + Drop, G: JudgingProgress>(
+    alloc: Global,
+    conn: Connection<S>,
+    progress: &mut G,
+) -> Result<TableBook<S>, TableFault>
+    ensures adopted { IfOk result (λ book. IsUsable (state S.Store book)
+        → IsAdopted (state S.Store conn) (state S.Store book)) }
+    ensures sound { IfOk result (λ book. IsUsable (state S.Store book)
+        → IsSoundDesk (state S.Store book)) }
+{
+    schema_laws::one_reading();
+    match TableBook::adopt(alloc, conn, progress) {
+        Ok(book) => Ok(book),
+        Err((fault, _)) => Err(fault),
+    }
 }
 
 // Why a file could not be opened.

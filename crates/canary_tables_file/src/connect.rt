@@ -1,20 +1,18 @@
 //! Opening the file at a path as a database of SQLite.
-ghost use Rattle.std.specs.Prelude.{codes, ◌≡◌, ◌==◌, IsTrue, IfOk, IfErr};
+ghost use Rattle.std.specs.Prelude.{codes, ◌≡◌, ◌==◌, true, false, IsTrue, IfOk, IfErr};
 ghost use Rattle.std.specs.List.{starts_with};
 ghost use Rattle.sqlite.specs.Files.{file_state, IsOpened};
 ghost use Rattle.sqlite.specs.Held.{IsNew};
 ghost use Rattle.sqlite.specs.Opening.{is_open_error};
 ghost use Rattle.sqlite.specs.State.{HasCleanDisk};
-ghost use Rattle.sqlite_std_file.specs.File.{file_is_usable};
+ghost use Rattle.sqlite_std_file.specs.File.{file_is_usable, IsFresh};
 
 use crate::fault::{CANNOT_OPEN, NO_MEMORY};
 use crate::make::make;
 use crate::options::options;
 use crate::pages::{is_blank, page_size};
 use crate::reading::{ReadingProgress, ReportingDisk, with_reports};
-use sqlite::{
-    Connection, Error, ErrorCode, File, FileFrom, FileStore, Files, Options, Start, Unknown,
-};
+use sqlite::{Connection, Error, ErrorCode, FileFrom, FileStore, Files, Options, Start};
 use sqlite_disk::Disk;
 use sqlite_std_file::OpenError;
 use std::alloc::Global;
@@ -24,7 +22,7 @@ use std::io::ErrorKind;
 /// Opens the file of SQLite at a path, or makes it with pages of 512 bytes. One that is there keeps
 /// the pages that it has. Each page, row and index of it is read and checked, and what is read of
 /// the file then, and later on, is reported to `reading`. A log stands beside the file, which
-/// belongs to it.
+/// belongs to it. `start` stands for what both held.
 ///
 /// # Errors
 ///
@@ -32,11 +30,12 @@ use std::io::ErrorKind;
 /// `NotADatabase` if it is no database; `CannotOpen` if the system does not open it, if a rollback
 /// journal stands beside it, or if the path is `:memory:` or begins as a URI; `DiskFull` if there
 /// is no room; `SystemIoFailure` or `DatabaseCorrupt` if the disk failed otherwise.
-pub fn connect<P: ReadingProgress>(
+pub fn connect<S: Start, P: ReadingProgress>(
     rt: &HostRuntime,
     path: &str,
     reading: P,
-) -> Result<Connection<FileStore<ReportingDisk<File, P>>>, Error>
+    start: S,
+) -> Result<Connection<FileStore<ReportingDisk<FileFrom<S>, P>>>, Error>
     ensures memory { path.now ≡ codes ":memory:"
         → result ≡ Err (Error.SqliteFailure ErrorCode.CannotOpen) }
     ensures uri { IsTrue (starts_with (λ a b. a == b) path.now (codes "file:"))
@@ -48,7 +47,7 @@ pub fn connect<P: ReadingProgress>(
         (λ c. HasCleanDisk (file_state c) → (file_state c).IsShielded) }
 {
     let seed = seed(rt)?;
-    let files = whole_files(rt, path, seed)?;
+    let files = whole_files(rt, path, seed, start)?;
     connection(rt.alloc(), with_reports(files, reading), seed)
 }
 
@@ -94,38 +93,26 @@ fn connection_by<D: Disk + Drop>(
 
 // The file at a path and its log, which nobody else opens as a database meanwhile. If they have no
 // database, an empty one is made in them.
-fn whole_files(rt: &HostRuntime, path: &str, seed: u64) -> Result<Files<File>, Error>
+fn whole_files<S: Start>(
+    rt: &HostRuntime,
+    path: &str,
+    seed: u64,
+    start: S,
+) -> Result<Files<FileFrom<S>>, Error>
     ensures memory { path.now ≡ codes ":memory:"
         → result ≡ Err (Error.SqliteFailure ErrorCode.CannotOpen) }
     ensures uri { IsTrue (starts_with (λ a b. a == b) path.now (codes "file:"))
         → result ≡ Err (Error.SqliteFailure ErrorCode.CannotOpen) }
     ensures named { IfErr result (λ e. IsTrue (is_open_error e)) }
-    ensures usable { IfOk result (λ files. IsTrue (⟦<File as Disk>⟧.is_usable files.log)
-        × IsTrue (⟦<File as Disk>⟧.is_usable files.db)) }
+    ensures usable { IfOk result (λ files. IsTrue (file_is_usable S.Start files.log)
+        × IsTrue (file_is_usable S.Start files.db)) }
 {
-    let mut files = open_pair(rt, path, Unknown)?;
+    let mut files = open_pair(rt, path, start)?;
     match is_blank(rt.alloc(), &mut files) {
-        Ok(true) => made_files(rt, path, files, seed),
+        Ok(true) => make(rt.alloc(), files, seed),
         Ok(false) => Ok(files),
         Err(error) => Err(error),
     }
-}
-
-// Makes an empty database in these files, which lie at the path, and opens them again.
-fn made_files(
-    rt: &HostRuntime,
-    path: &str,
-    files: Files<File>,
-    seed: u64,
-) -> Result<Files<File>, Error>
-    requires usable { IsTrue (⟦<File as Disk>⟧.is_usable files.log)
-        × IsTrue (⟦<File as Disk>⟧.is_usable files.db) }
-    ensures named { IfErr result (λ e. IsTrue (is_open_error e)) }
-    ensures usable { IfOk result (λ files. IsTrue (⟦<File as Disk>⟧.is_usable files.log)
-        × IsTrue (⟦<File as Disk>⟧.is_usable files.db)) }
-{
-    make(rt.alloc(), files, seed)?;
-    open_pair(rt, path, Unknown)
 }
 
 // The file at a path and its log, which nobody else opens as a database meanwhile.
@@ -141,6 +128,7 @@ pub(crate) fn open_pair<S: Start>(
     ensures named { IfErr result (λ e. IsTrue (is_open_error e)) }
     ensures usable { IfOk result (λ files. IsTrue (file_is_usable S.Start files.log)
         × IsTrue (file_is_usable S.Start files.db)) }
+    ensures fresh { IfOk result (λ files. IsFresh true files.log × IsFresh false files.db) }
 {
     if path == ":memory:" || path.as_bytes().starts_with(b"file:") {
         return Err(CANNOT_OPEN);

@@ -1,6 +1,7 @@
 //! The schema that files list, if it has tables and indexes alone.
-ghost use Rattle.std.specs.Prelude.{◌≡◌, length, IfOk, OnOk};
-ghost use Rattle.sqlite_store.specs.Unopened.{AreUsable};
+ghost use Rattle.std.specs.Prelude.{◌≡◌, length, IsTrue, IfOk, OnOk};
+ghost use Rattle.sqlite_store.specs.Unopened.{state_of, AreUsable, HasSameFiles};
+ghost use Rattle.canary_tables_file.specs.Found.{StandsAsBefore};
 
 use sqlite_disk::Disk;
 use sqlite_store::{OpenError, Unopened};
@@ -18,7 +19,9 @@ const DESCRIBED: [usize; 5] = [0, 1, 2, 3, 5];
 // Gives the files the schema that they list. `Refused` if it has more than tables and indexes.
 pub(crate) fn list<D: Disk>(alloc: Global, files: &mut Unopened<D>) -> Result<(), OpenError>
     requires { AreUsable files.old }
-    ensures { OnOk result (AreUsable files.new) }
+    ensures usable { OnOk result (AreUsable files.new) }
+    ensures stands { IsTrue (state_of files.new).is_clean
+        → OnOk result (StandsAsBefore files.old files.new) }
 {
     let rows = files.read_catalog()?;
     let described = without_roots(alloc, rows.as_slice()).map_err(no_memory)?;
@@ -28,7 +31,8 @@ pub(crate) fn list<D: Disk>(alloc: Global, files: &mut Unopened<D>) -> Result<()
 // The same of the rows of sqlite_schema, without their root pages.
 fn list_rows<D: Disk>(alloc: Global, files: &mut Unopened<D>, rows: &[Row]) -> Result<(), OpenError>
     requires { AreUsable files.old }
-    ensures { OnOk result (AreUsable files.new) }
+    ensures usable { OnOk result (AreUsable files.new) }
+    ensures same { HasSameFiles files.old files.new }
 {
     let layouts = layouts(alloc, rows).map_err(no_memory)?;
     match files.list_schema(rows, layouts.as_slice()) {

@@ -4,7 +4,7 @@ ghost use Rattle.sqlite.specs.Opening.{is_open_error};
 ghost use Rattle.sqlite_pager.specs.Pager.{files as files_below};
 ghost use Rattle.sqlite_store.specs.Unopened.{files_of, AreUsable};
 
-use crate::fault::{NO_MEMORY, error_alone, error_of};
+use crate::fault::{IO, NO_MEMORY, error_alone, error_of};
 use crate::options::first_options;
 use crate::pages::new_size;
 use sqlite::{Error, Files, Options};
@@ -14,19 +14,35 @@ use sqlite_store::Unopened;
 use sqlite_wal::PageSize;
 use std::alloc::{AllocFailed, Global};
 
-// Makes an empty database in files that have none, and closes them.
-pub(crate) fn make<D: Disk + Drop>(alloc: Global, files: Files<D>, seed: u64) -> Result<(), Error>
+// Makes an empty database in files that have none, and gives them back.
+pub(crate) fn make<D: Disk + Drop>(
+    alloc: Global,
+    files: Files<D>,
+    seed: u64,
+) -> Result<Files<D>, Error>
     requires log { IsTrue (D.Disk.is_usable files.log) }
     requires db { IsTrue (D.Disk.is_usable files.db) }
     ensures named { IfErr result (λ e. IsTrue (is_open_error e)) }
+    ensures usable { IfOk result
+        (λ files. IsTrue (D.Disk.is_usable files.log) × IsTrue (D.Disk.is_usable files.db)) }
 {
     let unopened = unopened(alloc, files, new_size(), first_options(seed))?;
     match unopened.create().map_err(error_alone) {
-        Ok(store) => {
-            drop(store.close());
-            Ok(())
-        }
+        Ok(store) => usable(store.close()),
         Err(error) => Err(error_of(error)),
+    }
+}
+
+// The files, if no sync of them has failed.
+fn usable<D: Disk + Drop>(files: Files<D>) -> Result<Files<D>, Error>
+    ensures named { IfErr result (λ e. IsTrue (is_open_error e)) }
+    ensures usable { IfOk result
+        (λ files. IsTrue (D.Disk.is_usable files.log) × IsTrue (D.Disk.is_usable files.db)) }
+{
+    if files.may_be_used() {
+        Ok(files)
+    } else {
+        Err(IO)
     }
 }
 
@@ -41,6 +57,7 @@ pub(crate) fn unopened<D: Disk + Drop>(
     requires db { IsTrue (D.Disk.is_usable files.db) }
     ensures named { IfErr result (λ e. IsTrue (is_open_error e)) }
     ensures usable { IfOk result AreUsable }
+    ensures files { IfOk result (λ it. files_of it ≡ (files.log, files.db)) }
 {
     match Pager::new(alloc, files, size, options) {
         Ok(pager) => over_pager(alloc, pager),

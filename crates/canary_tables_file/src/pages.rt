@@ -1,5 +1,5 @@
 //! What the pages of a file are, before it is opened.
-ghost use Rattle.std.specs.Prelude.{IsTrue, IfErr};
+ghost use Rattle.std.specs.Prelude.{◌≡◌, IsTrue, IfErr};
 ghost use Rattle.sqlite.specs.Opening.{is_open_error};
 
 use crate::fault::{IO, NO_MEMORY};
@@ -34,6 +34,8 @@ pub(crate) fn is_blank<D: Disk>(alloc: Global, files: &mut Files<D>) -> Result<b
     requires db { IsTrue (D.Disk.is_usable files.old.db) }
     ensures log { IsTrue (D.Disk.is_usable files.new.log) }
     ensures db { IsTrue (D.Disk.is_usable files.new.db) }
+    ensures same_log { D.Disk.seen files.new.log ≡ D.Disk.seen files.old.log }
+    ensures same_db { D.Disk.seen files.new.db ≡ D.Disk.seen files.old.db }
     ensures named { IfErr result (λ e. IsTrue (is_open_error e)) }
 {
     match probe_blank(alloc, files, new_size(), false) {
@@ -50,6 +52,8 @@ pub(crate) fn page_size<D: Disk>(files: &mut Files<D>) -> Result<PageSize, Error
     requires db { IsTrue (D.Disk.is_usable files.old.db) }
     ensures log { IsTrue (D.Disk.is_usable files.new.log) }
     ensures db { IsTrue (D.Disk.is_usable files.new.db) }
+    ensures same_log { D.Disk.seen files.new.log ≡ D.Disk.seen files.old.log }
+    ensures same_db { D.Disk.seen files.new.db ≡ D.Disk.seen files.old.db }
     ensures named { IfErr result (λ e. IsTrue (is_open_error e)) }
 {
     match probe_page_size(files) {
@@ -69,6 +73,8 @@ pub(crate) fn plain_size<D: Disk>(
     requires db { IsTrue (D.Disk.is_usable files.old.db) }
     ensures log { IsTrue (D.Disk.is_usable files.new.log) }
     ensures db { IsTrue (D.Disk.is_usable files.new.db) }
+    ensures same_log { D.Disk.seen files.new.log ≡ D.Disk.seen files.old.log }
+    ensures same_db { D.Disk.seen files.new.db ≡ D.Disk.seen files.old.db }
     ensures named { IfErr result (λ e. IsTrue (is_open_error e)) }
 {
     match probe_page_size(files) {
@@ -88,6 +94,8 @@ fn if_plain<D: Disk>(
     requires db { IsTrue (D.Disk.is_usable files.old.db) }
     ensures log { IsTrue (D.Disk.is_usable files.new.log) }
     ensures db { IsTrue (D.Disk.is_usable files.new.db) }
+    ensures same_log { D.Disk.seen files.new.log ≡ D.Disk.seen files.old.log }
+    ensures same_db { D.Disk.seen files.new.db ≡ D.Disk.seen files.old.db }
     ensures named { IfErr result (λ e. IsTrue (is_open_error e)) }
 {
     match probe_first_page(alloc, files, size) {

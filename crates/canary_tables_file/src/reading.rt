@@ -5,7 +5,7 @@ use sqlite::Files;
 use sqlite_disk::{Disk, Tally};
 use std::io;
 
-/// What is told how many bytes of a database file are asked for.
+/// Takes reports of how many bytes of a database file are asked for.
 pub trait ReadingProgress: Drop {
     /// So many bytes more are asked for.
     fn read(&mut self, bytes: usize);

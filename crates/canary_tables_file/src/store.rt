@@ -4,8 +4,10 @@ ghost use Rattle.std.specs.List.{starts_with};
 ghost use Rattle.sqlite.specs.Opening.{is_open_error};
 ghost use Rattle.sqlite.specs.Steps.{IsFresh};
 ghost use Rattle.sqlite_store.specs.FileStore.{view, is_shielded};
-ghost use Rattle.sqlite_store.specs.Unopened.{AreUsable};
+ghost use Rattle.sqlite_store.specs.Unopened.{image, AreUsable};
 ghost use Rattle.sqlite_trees.specs.View.{IsClean};
+ghost use Rattle.sqlite_wal.specs.Files.{image_at, seen_image};
+ghost use Rattle.canary_tables_file.specs.Found.{HasPagesOf, IsOpenedFrom};
 
 use crate::connect::{open_pair, seed};
 use crate::fault::error_of;
@@ -14,7 +16,7 @@ use crate::make::unopened;
 use crate::options::options;
 use crate::pages::plain_size;
 use crate::reading::{ReadingProgress, ReportingDisk, with_reports};
-use sqlite::{Error, ErrorCode, File, FileStore, Files, Unknown};
+use sqlite::{Error, ErrorCode, FileFrom, FileStore, Files, Start};
 use sqlite_disk::Disk;
 use sqlite_store::{OpenError, Unopened};
 use std::alloc::Global;
@@ -23,16 +25,18 @@ use std::alloc::Global;
 /// rows are not held against a schema yet. What is read of the file is reported to `reading`, as
 /// `connect` does it. `None`, with the file closed, if it is not a database of tables and indexes
 /// alone, without sums, whose indexes ascend: then `connect` opens it, or says why it cannot. A
-/// file that is not there is made, with no byte in it.
+/// file that is not there is made, with no byte in it. `start` stands for what the file and its log
+/// held.
 ///
 /// # Errors
 ///
 /// As `connect`.
-pub fn open_store<P: ReadingProgress>(
+pub fn open_store<S: Start, P: ReadingProgress>(
     rt: &HostRuntime,
     path: &str,
     reading: P,
-) -> Result<Option<FileStore<ReportingDisk<File, P>>>, Error>
+    start: S,
+) -> Result<Option<FileStore<ReportingDisk<FileFrom<S>, P>>>, Error>
     ensures memory { path.now ≡ codes ":memory:"
         → result ≡ Err (Error.SqliteFailure ErrorCode.CannotOpen) }
     ensures uri { IsTrue (starts_with (λ a b. a == b) path.now (codes "file:"))
@@ -40,11 +44,13 @@ pub fn open_store<P: ReadingProgress>(
     ensures named { IfErr result (λ e. IsTrue (is_open_error e)) }
     ensures fresh { IfOk result (λ found. IfSome found
         (λ store. IsClean (view store) → IsFresh (view store))) }
+    ensures found { IfOk result (λ found. IfSome found
+        (λ store. IsTrue (view store).is_clean → HasPagesOf (image_at S.Start) store)) }
     ensures guarded { IfOk result (λ found. IfSome found
         (λ store. IsTrue (view store).is_clean → is_shielded store)) }
 {
     let seed = seed(rt)?;
-    let files = open_pair(rt, path, Unknown)?;
+    let files = open_pair(rt, path, start)?;
     store_of(rt.alloc(), with_reports(files, reading), seed)
 }
 
@@ -59,6 +65,8 @@ fn store_of<D: Disk + Drop>(
     ensures named { IfErr result (λ e. IsTrue (is_open_error e)) }
     ensures fresh { IfOk result (λ found. IfSome found
         (λ store. IsClean (view store) → IsFresh (view store))) }
+    ensures found { IfOk result (λ found. IfSome found
+        (λ store. IsTrue (view store).is_clean → HasPagesOf (seen_image D.Disk files.log files.db) store)) }
     ensures guarded { IfOk result (λ found. IfSome found
         (λ store. IsTrue (view store).is_clean → is_shielded store)) }
 {
@@ -81,6 +89,8 @@ fn store_over<D: Disk + Drop>(
     ensures named { IfErr result (λ e. IsTrue (is_open_error e)) }
     ensures fresh { IfOk result (λ found. IfSome found
         (λ store. IsClean (view store) → IsFresh (view store))) }
+    ensures found { IfOk result (λ found. IfSome found
+        (λ store. IsTrue (view store).is_clean → HasPagesOf (image unopened) store)) }
     ensures guarded { IfOk result (λ found. IfSome found
         (λ store. IsTrue (view store).is_clean → is_shielded store)) }
 {
@@ -96,6 +106,8 @@ fn opened<D: Disk + Drop>(unopened: Unopened<D>) -> Result<Option<FileStore<D>>,
     ensures named { IfErr result (λ e. IsTrue (is_open_error e)) }
     ensures fresh { IfOk result (λ found. IfSome found
         (λ store. IsClean (view store) → IsFresh (view store))) }
+    ensures found { IfOk result (λ found. IfSome found
+        (λ store. IsTrue (view store).is_clean → IsOpenedFrom unopened store)) }
     ensures guarded { IfOk result (λ found. IfSome found
         (λ store. IsTrue (view store).is_clean → is_shielded store)) }
 {

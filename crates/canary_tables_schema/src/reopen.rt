@@ -96,9 +96,9 @@ fn listed_tally<S: Alter>(alloc: Global, store: &S) -> Result<Option<u32>, Store
 }
 
 /// Opens a connection over a store that was just opened, if it lists the tables of a desk: each row
-/// is read once. The rows of its tables are known to stand in the order of their rowids. Beside
-/// the connection it tells what `reopen` tells. `None`, if other tables are listed, and the store
-/// is let go then.
+/// is read once. The database is the store's, and the rows of its tables are known to stand in the
+/// order of their rowids. Beside the connection it tells what `reopen` tells. `None`, if other
+/// tables are listed, and the store is let go then.
 ///
 /// # Errors
 ///
@@ -110,6 +110,8 @@ pub fn open_desk<S: Alter + Drop>(
 ) -> Result<Option<(Connection<S>, bool)>, StoreFault>
     requires { IsClean (S.Store.view store) → IsFresh (S.Store.view store) }
     ensures mode { IfOk result (λ found. IfSome found (λ r. r.0.in_transaction ≡ false)) }
+    ensures trees { IfOk result (λ found. IfSome found (λ r. HasCleanDisk (state S.Store r.0)
+        → (state S.Store r.0).now.trees ≡ (S.Store.view store).trees)) }
     ensures numbered { IfOk result (λ found. IfSome found (λ r. IsUsable (state S.Store r.0)
         → IsRising (state S.Store r.0).now)) }
     ensures whole { IfOk result (λ found. IfSome found (λ r. IsUsable (state S.Store r.0)

@@ -14,7 +14,7 @@ use canary_tables_file::connect::connect;
 use canary_tables_file::reading::ReportingDisk;
 use canary_tables_schema::first::is_first;
 use canary_tables_schema::recognize::is_desk;
-use sqlite::{Alter, Connection, Error, ErrorCode, File, FileStore};
+use sqlite::{Alter, Connection, Error, ErrorCode, File, FileStore, Unknown};
 use std::fs::{self, Files};
 use std::io::{self, ErrorKind, Read, Write};
 
@@ -211,7 +211,7 @@ pub(crate) enum TablesVersion {
 /// `OtherSchema` if the file is not a database of SQLite; `Memory` if an allocation was refused;
 /// `Storage` if it cannot be opened otherwise.
 pub(crate) fn tables_version(rt: &HostRuntime, file: &str) -> Result<TablesVersion, Fault> {
-    let opened = connect(rt, file, CheckDisplay::silent(rt));
+    let opened = connect(rt, file, CheckDisplay::silent(rt), Unknown);
     version_of(&opened)
 }
 

@@ -18,7 +18,7 @@ use canary_tables_file::reading::ReadingProgress;
 use canary_tables_read::fault::ReadFault;
 use canary_tables_read::lists::{RevisionKey, revision_keys};
 use canary_tables_schema::recognize::is_desk;
-use sqlite::{Alter, Connection, Error, ErrorCode};
+use sqlite::{Alter, Connection, Error, ErrorCode, Unknown};
 use std::alloc::Global;
 use std::io::Write;
 
@@ -93,7 +93,7 @@ fn make<F: Write>(
     is_terminal: bool,
 ) -> Result<(), Fault> {
     let check = CheckDisplay::begun(rt, bytes_of(rt, old), is_terminal);
-    let opened = connect(rt, old, check.again());
+    let opened = connect(rt, old, check.again(), Unknown);
     check.end();
     make_of(rt, old, opened, part, errors, is_terminal)
 }

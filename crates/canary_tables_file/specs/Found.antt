@@ -1,0 +1,26 @@
+-- What is found in files that are opened.
+use Rattle.std.specs.Prelude.{◌≡◌, IsTrue}
+use Rattle.sqlite_disk.specs.declared.Disk.{Ghosts}
+use Rattle.sqlite_wal.specs.Recovery.{Image, Pages}
+use Rattle.sqlite_pool.specs.Stored.{Recovers}
+use Rattle.sqlite_store.specs.declared.store.FileStore.{FileStore}
+use Rattle.sqlite_store.specs.declared.store.open.Unopened.{Unopened}
+use Rattle.sqlite_store.specs.FileStore.{state}
+use Rattle.sqlite_store.specs.Unopened.{state_of, image}
+
+module _ {D : Type 0} {g : Ghosts D} where
+  -- the store's pages are those that these contents of a log and a database file stand for
+  abbrev pub HasPagesOf : Image → FileStore D g → Type 0
+  HasPagesOf first store = Recovers (state store).page_size first (state store).committed
+
+  -- what the files stand for now, they stood for before
+  pub record StandsAsBefore (old new : Unopened D g) : Type 0 where
+    pub size : (state_of new).page_size ≡ (state_of old).page_size
+    pub pages : (p : Pages) → Recovers (state_of old).page_size (image new) p
+        → Recovers (state_of old).page_size (image old) p
+
+  -- the store's pages are those that the files stood for
+  pub record IsOpenedFrom (old : Unopened D g) (store : FileStore D g) : Type 0 where
+    pub clean : IsTrue (state_of old).is_clean
+    pub size : (state store).page_size ≡ (state_of old).page_size
+    pub pages : Recovers (state_of old).page_size (image old) (state store).committed
