@@ -20,6 +20,7 @@ mod exclusive_file;
 pub mod export;
 pub mod history;
 pub mod import;
+mod line;
 mod look;
 pub mod migrate;
 mod named;

@@ -1,24 +1,13 @@
 //! Showing how much of a file was read to check it, before its rows are judged.
+use crate::file::line::{LINE_SECONDS, MEGABYTE, erase, write, write_unblocked};
 use crate::file::pause::Pause;
-use canary_listen::unblocked::Unblocked;
 use canary_tables_file::reading::ReadingProgress;
 use std::alloc::{AllocError, Global};
 use std::cell::Cell;
-use std::io::Write;
 use std::rc::Rc;
-
-// What one megabyte is.
-const MEGABYTE: u64 = 1_000_000;
-
-// How many seconds pass before the first line where no terminal is, and between two of them.
-const LINE_SECONDS: u64 = 1;
 
 // The bytes of a file of which a line says at once that nothing is read yet.
 const LARGE: u64 = 16 * MEGABYTE;
-
-// Erases the line in which the cursor stands.
-const ERASED: &str = "\r\x1b[K";
-
 /// How far a check is.
 #[derive(Clone, Copy)]
 struct CheckState {
@@ -106,9 +95,7 @@ impl CheckDisplay {
         };
         let state = shared.get();
         if state.is_drawn && !state.is_over {
-            let mut errors = self.rt.stderr();
-            let _ = errors.write_all(ERASED.as_bytes());
-            let _ = errors.flush();
+            erase(&mut self.rt.stderr());
         }
         shared.set(CheckState {
             is_over: true,
@@ -142,7 +129,7 @@ impl CheckDisplay {
                 ..state
             };
         }
-        self.tell(state.read);
+        self.write_below(state.read);
         CheckState {
             pause: Pause::begun(&self.rt, LINE_SECONDS),
             ..state
@@ -152,29 +139,24 @@ impl CheckDisplay {
     // Writes the line of a terminal anew.
     fn draw(&self, read: u64) {
         if let Ok(line) = self.line(read, "\r", "") {
-            let mut errors = self.rt.stderr();
-            let _ = errors.write_all(line.as_bytes());
-            let _ = errors.flush();
+            write(&mut self.rt.stderr(), line.as_str());
         }
     }
 
     // Writes a line below the others, unless that would wait.
-    fn tell(&self, read: u64) {
+    fn write_below(&self, read: u64) {
         if let Ok(line) = self.line(read, "", "\n") {
-            let mut stream = self.rt.stderr();
-            let mut errors = Unblocked::new(&self.rt, &mut stream);
-            let _ = errors.write_all(line.as_bytes());
-            let _ = errors.flush();
+            write_unblocked(&self.rt, &mut self.rt.stderr(), line.as_str());
         }
     }
 
-    // The line, once so many bytes are read, and what stands before it and behind it. What is read
-    // is rounded down, and the megabytes of the file up.
-    fn line(&self, read: u64, before: &str, behind: &str) -> Result<String, AllocError> {
+    // The line, once so many bytes are read, and what stands before and after it. What is read is
+    // rounded down, and the megabytes of the file up.
+    fn line(&self, read: u64, before: &str, after: &str) -> Result<String, AllocError> {
         let alloc: Global = self.rt.alloc();
         let done = read / MEGABYTE;
         let megabytes = self.bytes.div_ceil(MEGABYTE);
-        format!(in alloc; "{before}canary: {done} MB read to check {megabytes} MB{behind}")
+        format!(in alloc; "{before}canary: {done} MB read to check {megabytes} MB{after}")
     }
 }
 

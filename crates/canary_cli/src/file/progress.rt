@@ -2,27 +2,19 @@
 ghost use Rattle.std.specs.Prelude.{◌≡◌, false};
 
 use crate::file::checking::CheckDisplay;
+use crate::file::line::{LINE_SECONDS, MEGABYTE, erase, write, write_unblocked};
 use crate::file::pause::Pause;
-use canary_listen::unblocked::Unblocked;
 use canary_page::progress as drawing;
 use canary_page_html::shown::{TextKind, shown};
 use canary_tables_adopt::progress as judging;
 use std::alloc::{AllocError, Global};
 use std::io::{self, Read, Write};
 
-// What one kilobyte is, and one megabyte.
+// The bytes of one kilobyte.
 const KILOBYTE: u64 = 1_000;
 
-const MEGABYTE: u64 = 1_000_000;
-
-// Into how many parts the whole is divided, behind each of which a line may be written.
+// Into how many parts the whole is divided, after each of which a line may be written.
 const PARTS: u64 = 1_000;
-
-// How many seconds pass before the first line where no terminal is, and between two of them.
-const LINE_SECONDS: u64 = 1;
-
-// Erases the line in which the cursor stands.
-const ERASED: &str = "\r\x1b[K";
 
 /// What is counted.
 #[derive(Clone, Copy, Debug, PartialEq, Eq)]
@@ -55,7 +47,7 @@ pub struct ProgressDisplay<'a, F: Write> {
     // How long no line is written where no terminal is.
     pause: Pause,
     // The number in the last line, if there is one.
-    told: Option<u64>,
+    last: Option<u64>,
     is_drawn: bool,
     // What shows the check that comes before the judging, and ends as that begins.
     check: Option<&'a CheckDisplay>,
@@ -116,7 +108,7 @@ impl<'a, F: Write> ProgressDisplay<'a, F> {
             whole,
             next: 0,
             pause: Pause::begun(rt, LINE_SECONDS),
-            told: None,
+            last: None,
             is_drawn: false,
             check: None,
         }
@@ -158,8 +150,8 @@ impl<'a, F: Write> ProgressDisplay<'a, F> {
         if self.is_terminal {
             self.draw();
         } else {
-            self.tell();
-            self.told = Some(self.number());
+            self.write_below();
+            self.last = Some(self.number());
             self.pause = Pause::begun(self.rt, LINE_SECONDS);
         }
     }
@@ -167,7 +159,7 @@ impl<'a, F: Write> ProgressDisplay<'a, F> {
     // Whether a line may be written below the others: it would say something else than the last
     // one, and the pause is over.
     fn is_due(&self) -> bool {
-        self.told != Some(self.number()) && self.pause.is_over(self.rt)
+        self.last != Some(self.number()) && self.pause.is_over(self.rt)
     }
 
     // The number of what is done, as a line says it. Megabytes are rounded down.
@@ -183,26 +175,23 @@ impl<'a, F: Write> ProgressDisplay<'a, F> {
     // Writes the line of a terminal anew.
     fn draw(&mut self) {
         if let Ok(line) = self.line("\r", "") {
-            let _ = self.errors.write_all(line.as_bytes());
-            let _ = self.errors.flush();
+            write(self.errors, line.as_str());
             self.is_drawn = true;
         }
     }
 
     // Writes a line below the others, unless that would wait.
-    fn tell(&mut self) {
+    fn write_below(&mut self) {
         if let Ok(line) = self.line("", "\n") {
-            let mut errors = Unblocked::new(self.rt, &mut *self.errors);
-            let _ = errors.write_all(line.as_bytes());
-            let _ = errors.flush();
+            write_unblocked(self.rt, self.errors, line.as_str());
         }
     }
 
-    // The line, and what stands before it and behind it.
-    fn line(&self, before: &str, behind: &str) -> Result<String, AllocError> {
+    // The line, and what stands before and after it.
+    fn line(&self, before: &str, after: &str) -> Result<String, AllocError> {
         let alloc = self.rt.alloc();
         let text = self.text(alloc)?;
-        format!(in alloc; "{before}canary: {text}{behind}")
+        format!(in alloc; "{before}canary: {text}{after}")
     }
 
     // How much is done of what. All the megabytes are rounded up. A file that has grown since it
@@ -224,7 +213,7 @@ impl<'a, F: Write> ProgressDisplay<'a, F> {
         }
     }
 
-    // Ends what shows the check. The next line comes when it may behind the last one of that.
+    // Ends what shows the check. The next line comes when it may after the last one of that.
     fn end_check(&mut self) {
         if let Some(check) = self.check {
             check.end();
@@ -236,8 +225,7 @@ impl<'a, F: Write> ProgressDisplay<'a, F> {
     pub fn end(&mut self) {
         self.end_check();
         if self.is_drawn && self.is_terminal {
-            let _ = self.errors.write_all(ERASED.as_bytes());
-            let _ = self.errors.flush();
+            erase(self.errors);
             self.is_drawn = false;
         }
     }
