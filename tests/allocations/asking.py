@@ -80,13 +80,17 @@ def begin_with(file, left):
         journal.write(left)
 
 
-def refuse_each_of_call(trial, share, address):
-    """Each allocation of a call is refused that reads a journal with a torn rest, and of one that
-    begins a journal, by a caller of its own; the file is as before each time."""
+def refuse_in_calls(trial, share, address):
+    """Allocations of a call are refused that reads a journal; and each one of a call that reads one
+    with a torn rest, and of one that begins a journal, by a caller of its own. The file is as before
+    each time: with a record more for each allocation no call would ever ask for fewer."""
     with open(trial.file, "rb") as file:
         whole = file.read()
-    for row, left, caller in (("client do, a torn journal", whole + TORN, lambda number: "ops"),
-                              ("client do, a new journal", None, lambda number: f"n{number}")):
+    each = share.each_from(1)
+    for row, share_of_row, left, caller in (
+            ("client do", share, whole, lambda number: "ops"),
+            ("client do, a torn journal", each, whole + TORN, lambda number: "ops"),
+            ("client do, a new journal", each, None, lambda number: f"n{number}")):
         def words(number, row=row, caller=caller):
             return ["do", "--desk", address, "--as", caller(number), "--journal", trial.file,
                     "--once", row, "tick", "web"]
@@ -97,7 +101,7 @@ def refuse_each_of_call(trial, share, address):
             begin_with(trial.file, left)
             return refuse_once(number)
 
-        share.each_from(1).refuse_each(row, refuse)
+        share_of_row.refuse_each(row, refuse)
     begin_with(trial.file, whole)
 
 
@@ -115,11 +119,7 @@ def ask_refused(trial, share):
         expect("client: a service", begun[0], 0)
         started = trial.run(call(trial, address, ["start", "web", "v2"]))
         expect("client: a start", started, (0, PAUSED, b""))
-        wanted = (0, PAUSED, b"")
-        share.refuse_each("client do", refuse_in(
-            trial, "client do",
-            lambda number: call(trial, address, ["--once", str(number), "tick", "web"]), wanted))
-        refuse_each_of_call(trial, share, address)
+        refuse_in_calls(trial, share, address)
         query = ["get", "--desk", address, "web", "history"]
         shown = trial.run(query)
         expect("client: a history", shown[0], 0)

@@ -1,8 +1,8 @@
 """Runs a program with one allocation refused, and once more for each further one, until a run meets
 no refusal: refused.py PROGRAM FOLDER LIBRARY STEP FIRST [CASE..]. LIBRARY is made of refusing.c. Of
 the allocations of a desk on a file each STEP-th is refused, from the FIRST on. The comment at the
-top of tests/allocations/run says what has to come of it; serving.py has the desk that listens."""
-import json
+top of tests/allocations/run says what has to come of it; serving.py has the desk that listens,
+asking.py the client, and measuring.py the agent."""
 import os
 import re
 import shutil
@@ -12,6 +12,7 @@ import sys
 
 from asking import ask_refused
 from conversation import STILL_AT_B, reply_of, without_progress
+from measuring import read_refused, report_refused
 from serving import converse_with_desk
 from story_tables import expect_tables
 from story_words import B, Wrong, answer, command, expect, get, messages_of_story, put, query
@@ -604,33 +605,10 @@ def try_argo(trial, share):
     try_line(trial, "argo of what is not translated", ["argo", refused], wanted, share)
 
 
-# What an agent measures of web.
-MEASURED = {"kind": "List", "items": [
-    {"kind": "AnalysisTemplate", "metadata": {"name": "t"}, "spec": {"metrics": [
-        {"name": "m", "interval": "1s", "successCondition": "result < 1", "provider": {"web": {
-            "url": "http://127.0.0.1:1/", "jsonPath": "{$.a[0]}",
-            "headers": [{"key": "A", "value": "b"}]}}}]}},
-    {"kind": "Rollout", "metadata": {"name": "web"}, "spec": {"strategy": {"canary": {
-        "analysis": {"templates": [{"templateName": "t"}]},
-        "steps": [{"setWeight": 20}, {"pause": {}}]}}}}]}
-
-
-def try_agent(trial, _):
-    """The agent asks nobody for what it does not know: as its files are read, memory runs out for
-    the call, and no provider is refused for that."""
-    with open(trial.rows, "w", encoding="utf-8") as manifests:
-        json.dump(MEASURED, manifests)
-    words = ["agent", "--dry-run", "--desk", "127.0.0.1:1", "--", trial.rows]
-    away = (3, b"", b"canary: web: no desk answered")
-    expect("agent", trial.run(words), away)
-
-    def refuse(number):
-        found = trial.run(words, number)
-        if found not in (away, (5, b"", b"canary: out of memory"), (1, b"", OUT_OF_MEMORY)):
-            raise Wrong(f"agent: when allocation {number} is refused: {found}")
-        return trial.asked()
-
-    EACH.refuse_each("agent", refuse)
+def try_agent(trial, share):
+    """The agent as it reads its files, and as it measures and reports."""
+    read_refused(trial, EACH)
+    report_refused(trial, share)
 
 
 CASES = (try_lines, try_argo, try_stream, try_tables, try_file, try_opened, try_serve, try_import,
