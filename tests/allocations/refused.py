@@ -596,7 +596,7 @@ def try_argo(trial, share):
         source.write(MISSPELT)
     words = ["argo", "--json", trial.rows]
     wanted = trial.run(words)
-    expect("argo of misspelt members", (wanted[0], wanted[1].count(b"no member"), wanted[2]),
+    expect("argo of misspelt members", (wanted[0], wanted[1].count(b"unknown field"), wanted[2]),
            (0, 2, b""))
     try_line(trial, "argo of misspelt members", words, wanted, share)
     refused = os.path.join(ROOT, "examples/argo/refused.yaml")

@@ -96,9 +96,12 @@ pub(crate) static NAMED: [&str; 2] = ["templateName", "clusterScope"];
 
 // ---- what is warned of
 
-const IGNORED: &str = "no member of Argo's: it is ignored";
+const IGNORED: &str = "unknown field: it is ignored";
 
-const UNKNOWN: &str = "no member of Argo's";
+const UNKNOWN: &str = "unknown field";
+
+// What stands before the name that may be meant.
+const MEANT: &str = "; did you mean ";
 
 /// Warns of each member of an object that is none of these; of what is no object, of nothing.
 pub(crate) fn warn_of_others(
@@ -146,7 +149,7 @@ fn warn_of(
         return work.warnings.count();
     }
     match nearest(known, key) {
-        Some(name) => work.warn(place, key, &[what, "; ", name, "?"]),
+        Some(name) => work.warn(place, key, &[what, MEANT, name, "?"]),
         None => work.warn(place, key, &[what]),
     }
 }
@@ -171,17 +174,17 @@ fn nearest(known: &[&'static str], key: &str) -> Option<&'static str> {
 // Whether a text is another one, or becomes it if a byte is put in, taken out or changed.
 fn is_one_away(left: &[u8], right: &[u8]) -> bool {
     let common = common_len(left, right);
-    let (left, right) = (behind(left, common), behind(right, common));
-    behind(left, 1) == right || left == behind(right, 1) || behind(left, 1) == behind(right, 1)
+    let (left, right) = (after(left, common), after(right, common));
+    after(left, 1) == right || left == after(right, 1) || after(left, 1) == after(right, 1)
 }
 
 // The same of two bytes.
 fn is_two_away(left: &[u8], right: &[u8]) -> bool {
     let common = common_len(left, right);
-    let (left, right) = (behind(left, common), behind(right, common));
-    is_one_away(behind(left, 1), right)
-        || is_one_away(left, behind(right, 1))
-        || is_one_away(behind(left, 1), behind(right, 1))
+    let (left, right) = (after(left, common), after(right, common));
+    is_one_away(after(left, 1), right)
+        || is_one_away(left, after(right, 1))
+        || is_one_away(after(left, 1), after(right, 1))
 }
 
 // How many bytes both texts begin with.
@@ -197,6 +200,6 @@ fn common_len(left: &[u8], right: &[u8]) -> usize {
 }
 
 // What follows so many bytes of a text, nothing if it has no more.
-fn behind(text: &[u8], count: usize) -> &[u8] {
+fn after(text: &[u8], count: usize) -> &[u8] {
     text.get(count..).unwrap_or(&[])
 }
