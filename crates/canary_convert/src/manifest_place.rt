@@ -72,13 +72,19 @@ impl ManifestPlace {
     /// The keys and indices that lead there.
     pub(crate) fn path(self, alloc: Global) -> Draft {
         let mut out = Draft::new(alloc);
-        put_item(&mut out, self.item, self.list);
+        put_item(&mut out, self.item, self.is_document());
+        out.put(self.list);
         out.put_index(self.index);
         out.put(self.part);
         out.put(self.inner);
         out.put_index(self.inner_index);
         put_end(&mut out, self.end);
         out
+    }
+
+    // Whether no keys lead on from the document, but that at the end.
+    fn is_document(self) -> bool {
+        self.list.is_empty() && self.part.is_empty() && self.inner.is_empty()
     }
 
     /// The same with the key of a member of what stands there.
@@ -89,14 +95,13 @@ impl ManifestPlace {
     }
 }
 
-// Appends an item of a list of documents, if there is one, and the keys that follow it.
-fn put_item(out: &mut Draft, item: Option<usize>, list: &str) {
+// Appends an item of a list of documents, if there is one, and the point before what follows it.
+fn put_item(out: &mut Draft, item: Option<usize>, is_last: bool) {
     if item.is_some() {
         out.put("items");
         out.put_index(item);
-        out.put(if list.is_empty() { "" } else { "." });
+        out.put(if is_last { "" } else { "." });
     }
-    out.put(list);
 }
 
 // Appends a point and that key, if there is one.

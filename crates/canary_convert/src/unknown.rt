@@ -100,6 +100,9 @@ const IGNORED: &str = "unknown field: it is ignored";
 
 const UNKNOWN: &str = "unknown field";
 
+// What is shown of an empty key.
+const EMPTY: &str = "\"\"";
+
 // What stands before the name that may be meant.
 const MEANT: &str = "; did you mean ";
 
@@ -148,6 +151,7 @@ fn warn_of(
     if work.warnings.is_full() {
         return work.warnings.count();
     }
+    let key = if key.is_empty() { EMPTY } else { key };
     match nearest(known, key) {
         Some(name) => work.warn(place, key, &[what, MEANT, name, "?"]),
         None => work.warn(place, key, &[what]),
