@@ -2,9 +2,9 @@
 `--cache` in different sizes, and each time in a new file, a desk registers services of 64 steps.
 Then services grow as their releases begin: each step is analysed by a template of several metrics;
 and each is read again. 100 callers send long commands, of which each receipt has one. As many long
-templates are read, one for each service that names it. Histories are asked for, and grow. Last, so
-many callers come that their counts alone would take more than there is room for. No clause says how
-much memory a program takes."""
+templates are read, one for each service that names it; then some whose conditions have a sign at
+almost each byte. Histories are asked for, and grow. Last, so many callers come that their counts
+alone would take more than there is room for. No clause says how much memory a program takes."""
 import json
 import os
 import re
@@ -21,8 +21,10 @@ LEAST = 1_024
 # Releases that begin, and the metrics of each step; callers, and the long commands of each.
 RELEASES, METRICS = 60, 8
 CALLERS, COMMANDS, CONDITIONS, LONG = 100, 2, 30, 1_000
-# Templates as long, of which each is read as a service that names it is registered.
-TEMPLATES = 100
+# Templates as long, of which each is read as a service that names it is registered; and those of
+# them whose conditions have many signs. Of these each sign is a part of what is read, of some 40
+# bytes, so that two templates take more than twice the room.
+TEMPLATES, SIGNED = 100, 24
 # Callers of which nothing is settled, each with a request that is ahead of its turn.
 STRANGERS = 40_000
 # Services with long histories, and the releases of each, of which each tells a line for each step.
@@ -65,9 +67,8 @@ def releases():
     return sent + [get(query(f"service s{at}")) for at in range(RELEASES)]
 
 
-def long_metrics():
+def long_metrics(condition="result <" + LONG * " " + "5"):
     """Metrics whose conditions are long."""
-    condition = "result <" + LONG * " " + "5"
     return [{"name": f"m{at}", "successCondition": condition, "failureCondition": condition}
             for at in range(CONDITIONS)]
 
@@ -79,10 +80,10 @@ def long_commands():
             for number in range(1, COMMANDS + 1)]
 
 
-def templates():
-    """Many such templates, and for each a service that names it, for which it is read."""
-    metrics, sent = long_metrics(), []
-    for at in range(TEMPLATES):
+def templates(count, *condition):
+    """So many such templates, and for each a service that names it, for which it is read."""
+    metrics, sent = long_metrics(*condition), []
+    for at in range(count):
         steps = [{"analysis": {"templates": [{"templateName": f"t{at}"}]}}]
         sent += [template("ops", 2 * at + 1, f"t{at}", metrics),
                  registration(2 * at + 2, f"s{at}", steps)]
@@ -171,7 +172,9 @@ def main():
         try_services(program, folder)
         try_room(program, folder, "services that grow", releases())
         try_room(program, folder, f"receipts of {CALLERS} callers", long_commands())
-        try_room(program, folder, "templates that are read", templates())
+        try_room(program, folder, "templates that are read", templates(TEMPLATES))
+        try_room(program, folder, "templates of many signs that are read",
+                 templates(SIGNED, LONG * "!" + "result < 5"))
         try_room(program, folder, "histories that grow", histories())
         try_room(program, folder, f"counts of {STRANGERS} callers", ahead(), CONFLICT)
     except (Wrong, subprocess.TimeoutExpired) as fault:

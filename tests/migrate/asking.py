@@ -1,12 +1,14 @@
 """Programs that are run, and what they say, for migrate.py and stops.py."""
 import os
+import shutil
 import subprocess
 from contextlib import closing
 from datetime import datetime, timezone
 
 from conversation import without_progress
 from first import (
-    body_of, bytes_of, connect, fail, in_order, migrated, rows_of, schema_after, schema_of,
+    body_of, bytes_of, connect, fail, in_order, migrated, remove, rows_of, schema_after,
+    schema_of,
 )
 from story_words import B, REASONS, put, reply
 
@@ -84,6 +86,14 @@ def want_sound(file):
         want(f"{file}: integrity", found.execute("PRAGMA integrity_check").fetchall(), [("ok",)])
         want(f"{file}: foreign keys", found.execute("PRAGMA foreign_key_check").fetchall(), [])
     want(f"{file}: schema", schema_of(file), schema_after(file + ".made"))
+
+
+def want_closed(file, rows):
+    """The file was closed, and its log copied into it: it has what these rows become by itself."""
+    alone = file + ".alone"
+    shutil.copyfile(file, alone)
+    want(f"{file}: rows without its log", in_order(rows_of(alone)), migrated(rows))
+    remove(alone)
 
 
 def want_migrated(program, file, rows, most=1000):

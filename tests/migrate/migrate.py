@@ -14,7 +14,8 @@ TESTS = os.path.dirname(HERE)
 sys.path += [os.path.join(TESTS, "cli"), os.path.join(TESTS, "disk")]
 
 from asking import (  # noqa: E402
-    migrate, printed, refused, told, want, want_histories, want_kept, want_migrated, want_replies,
+    migrate, printed, refused, told, want, want_closed, want_histories, want_kept, want_migrated,
+    want_replies,
 )
 from first import (  # noqa: E402
     bytes_of, change, connect, contents, fail, in_order, make, make_first, migrated, remove,
@@ -38,6 +39,7 @@ def try_file(program, folder, name, is_logged):
     want(f"{name}: dry run", migrate(program, file, "--dry-run"), printed("would-migrate"))
     want_kept(f"{name}: dry run", file, before)
     want(name, migrate(program, file), printed("migrated"))
+    want_closed(file, rows)
     want_migrated(program, file, rows, 3 if is_logged else 1000)
     before = bytes_of(file)
     for words in ((), ("--dry-run",)):
