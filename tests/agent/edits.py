@@ -12,6 +12,7 @@ from replies import want_plain
 from world import WORDS, Wrong, expect
 
 NO_PROVIDER = "no file has a provider for this metric"
+USED_AGAIN = "nothing is found in the files any more: they are used as they are now"
 SIX, SEVEN = "result < 0.5", "result < 0.500001"
 
 
@@ -34,6 +35,12 @@ def put(desk, value, name="manifests.json"):
     """Puts a file in the place of another, whole."""
     desk.write("new", value)
     os.replace(desk.folder / "new", desk.folder / name)
+
+
+def want_used_again(agent, row, times):
+    """An agent says that it uses its files again, so many times in all."""
+    agent.wait_said(USED_AGAIN, times, 8)
+    expect(f"{row}: how often", agent.errors().count(USED_AGAIN), times)
 
 
 def try_edited(world):
@@ -127,7 +134,8 @@ def try_asked_before(world):
 
 def try_invalid(world):
     """A file becomes no JSON, something that is not translated, empty, gone or a folder: the last
-    good one stays, and standard error names the file, once for each change."""
+    good one stays, and standard error names the file, once for each change. Once it is repaired, a
+    line says that it is used again."""
     bad = {"no JSON": '{"kind": ', "arithmetic": None, "empty": "", "no manifest": "[1]"}
     with provider(lambda *_: reply("0.25")) as server:
         web = measured_beside("web", "of")
@@ -136,7 +144,8 @@ def try_invalid(world):
         with desk_for(world, "invalid", template_of(server.port), web) as desk, \
                 agent_of(desk) as agent:
             wait_more(desk, "p.e6")
-            for row, value in bad.items():
+            for at, (row, value) in enumerate(bad.items()):
+                expect(f"{row}: used again before", agent.errors().count(USED_AGAIN), at)
                 count = agent.errors().count("manifests.json")
                 put(desk, value)
                 wait_more(desk, "p.e6", 3)
@@ -144,14 +153,15 @@ def try_invalid(world):
                 if said > 2 or (said < 1 and row in ("no JSON", "arithmetic")):
                     raise Wrong(f"{row}: said {said} times: {agent.errors()!r}")
                 put(desk, good)
+                want_used_again(agent, row, at + 1)
                 wait_more(desk, "p.e6", 1)
-            want_gone(desk, agent, good)
+            want_gone(desk, agent, good, len(bad))
             want_once("invalid", measured(desk))
 
 
-def want_gone(desk, agent, good):
-    """The file is removed, and a folder comes in its place."""
-    for row in ("gone", "folder"):
+def want_gone(desk, agent, good, times):
+    """The file is removed, and a folder comes in its place. It was repaired so often before."""
+    for at, row in enumerate(("gone", "folder"), 1):
         before = agent.errors().count("manifests.json")
         (desk.folder / "manifests.json").unlink()
         if row == "folder":
@@ -163,6 +173,7 @@ def want_gone(desk, agent, good):
         if row == "folder":
             (desk.folder / "manifests.json").rmdir()
         put(desk, good)
+        want_used_again(agent, row, times + at)
         wait_more(desk, "p.e6", 2)
 
 
@@ -256,6 +267,7 @@ def try_names(world):
                 expect(f"from the beginning: {ended.errors}", (ended.status, line in ended.errors),
                        (WORDS, True))
                 os.unlink(strange)
+                want_used_again(agent, "no such name", 1)
                 wait_more(desk, "p.e6", 3)
                 expect("said once", agent.errors().count("UTF-8"), 1)
 
@@ -274,6 +286,7 @@ def try_fifo_instead(world):
             expect("said", agent.errors().count("no regular one any more"), 1)
             put(desk, listed(template_of(server.port, path="new", names=("p",)), web))
             wait_until("the file counts again", lambda: "/new" in server.targets(), 8)
+            want_used_again(agent, "a FIFO", 1)
             wait_more(desk, "p.e6", 2)
             want_once("fifo instead", measured(desk))
 

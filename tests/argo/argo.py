@@ -10,13 +10,14 @@ import attempts
 import examples
 import hostile
 import inputs
+import members
 import outputs
 import pairs
 import told
 from asked import Trial, Wrong
 
 STRACE_PARTS = ("try_empty_name",)
-MODULES = (examples, told, attempts, outputs, inputs, hostile, pairs)
+MODULES = (examples, told, attempts, members, outputs, inputs, hostile, pairs)
 
 
 def parts_of(module):

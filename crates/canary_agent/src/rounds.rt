@@ -42,6 +42,8 @@ const UNTOUCHED: &str = "the file of --health cannot be touched";
 
 const STRANGE: &str = "the file is no regular one any more, and is not read again";
 
+const USED_AGAIN: &str = "nothing is found in the files any more: they are used as they are now";
+
 const ENDED: &str = "the program that gives values has ended: no more come";
 
 const NO_CALLER: &str = "not measured: its caller's name would have more than 63 bytes";
@@ -54,6 +56,8 @@ pub(crate) struct Rounds {
     list: Vec<Attended>,
     asking: ProviderClient,
     files: Files,
+    // Whether these files are not used, since something is found in them.
+    is_unused: bool,
     // When the files are looked at next, in milliseconds of the call.
     files_at: u64,
     reader: Option<LineReader>,
@@ -95,6 +99,7 @@ impl Rounds {
             list: Vec::new(alloc),
             asking: asking(rt)?,
             files,
+            is_unused: false,
             files_at: LONGEST,
             reader,
             values: UnreportedValues::new(alloc),
@@ -188,7 +193,7 @@ impl Rounds {
         Ok(None)
     }
 
-    // Reads the files again if one changed.
+    // Reads the files again if one changed. Once they can be used after they could not, says so.
     fn look_at_files<F: Write>(
         &mut self,
         rt: &HostRuntime,
@@ -205,14 +210,29 @@ impl Rounds {
             return Ok(());
         }
         self.files = files;
+        let Some(plan) = self.plan_of_files(rt, errors)? else {
+            self.is_unused = true;
+            return Ok(());
+        };
+        if self.is_unused {
+            self.is_unused = false;
+            say(errors, USED_AGAIN);
+        }
+        self.serve(rt.alloc(), named.prefix, plan, errors)
+    }
+
+    // What is measured by the files as they are now. None if one is no regular file, or if they are
+    // not translated, and then `errors` says why.
+    fn plan_of_files<F: Write>(
+        &self,
+        rt: &HostRuntime,
+        errors: &mut F,
+    ) -> Result<Option<Plan>, Memory> {
         if let Some(name) = self.files.strange() {
             say_of(rt.alloc(), errors, STRANGE, name);
-            return Ok(());
+            return Ok(None);
         }
-        match plan_in(rt, &self.files, self.reader.is_some(), errors)? {
-            Some(plan) => self.serve(rt.alloc(), named.prefix, plan, errors),
-            None => Ok(()),
-        }
+        plan_in(rt, &self.files, self.reader.is_some(), errors)
     }
 
     // Takes in what another program gave.
