@@ -117,23 +117,25 @@ def try_killed_backups(program, folder):
 
 
 def try_log_begun_anew(program, folder):
-    """A desk begins its log anew while a backup stands between the two files that it copies: it
-    copies both once more, and has what was settled before it began."""
-    place = folder_in(folder, "anew")
-    file, copy = os.path.join(place, "desk.db"), os.path.join(place, "copy")
-    log = os.path.join(folder, "anew-log")
-    make_killed_desk(program, file)
-    before = bytes_of(file + "-wal")[:32]
-    words = traced(log, ["openat"], "openat:signal=STOP:when=2") + ["-P", file + "-wal"]
-    copying = begin(words + [program, "backup", "--db", file, copy])
-    stopped = stopped_in(log)
-    make_desk(program, file)
-    expect("a log begun anew", bytes_of(file + "-wal")[:32] == before, False)
-    os.kill(stopped, signal.SIGCONT)
-    expect("backup, the log is begun anew", end_of(copying), DONE)
-    want_started("backup, the log is begun anew", program, copy)
-    want_names("backup, the log is begun anew", place,
-               ["desk[.]db", "desk[.]db-wal", "copy", "copy-wal"])
+    """A desk begins its log anew while a backup is about to read the log: for the first time, once
+    it has copied the file, and once it has copied both. It copies both once more where it has to,
+    and has what was settled before it began."""
+    for when in 1, 2, 3:
+        row = f"backup, the log is begun anew as it is opened for time {when}"
+        place = folder_in(folder, f"anew-{when}")
+        file, copy = os.path.join(place, "desk.db"), os.path.join(place, "copy")
+        log = os.path.join(folder, f"anew-{when}-log")
+        make_killed_desk(program, file)
+        before = bytes_of(file + "-wal")[:32]
+        words = traced(log, ["openat"], f"openat:signal=STOP:when={when}") + ["-P", file + "-wal"]
+        copying = begin(words + [program, "backup", "--db", file, copy])
+        stopped = stopped_in(log)
+        make_desk(program, file)
+        expect(f"{row}: its first bytes", bytes_of(file + "-wal")[:32] == before, False)
+        os.kill(stopped, signal.SIGCONT)
+        expect(row, end_of(copying), DONE)
+        want_started(row, program, copy)
+        want_names(row, place, ["desk[.]db", "desk[.]db-wal", "copy", "copy-wal"])
 
 
 def try_failing_backups(program, folder):

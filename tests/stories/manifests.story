@@ -1,4 +1,4 @@
-manifests 181
+manifests 182
 
 # Texts.
 between ...
@@ -124,6 +124,11 @@ between {"kind":"AnalysisTemplate","metadata":{"name":"t"},"spec":{"metrics":[{"
      expected result, a whole number, a bracket, a comparison, &&, || or !
      |     result > 1 && result???< 50 && result >= 10 && result <= 20 ...
      |                         ^
+"successCondition":"result >= 10 && result <= 20 || \u00a0result == 30 || result == 40",
+    "failureCondition":"" => spec.metrics[0].successCondition (metric "errors"), byte 32:
+     expected result, a whole number, a bracket, a comparison, &&, || or !
+     |     ...sult >= 10 && result <= 20 || ??result == 30 || result == 40
+     |                                      ^
 "successCondition":95 => spec.metrics[0].successCondition (metric "errors"):
      expected a condition in a text
 "initialDelay":"1.5m" => spec.metrics[0].initialDelay (metric "errors"):
