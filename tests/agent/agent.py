@@ -25,8 +25,9 @@ from world import World, Wrong, running, slowness
 # The parts that are left out without these tools.
 PARTS_WITH = {"prometheus": ("try_releases", "try_kills"), "strace": ("try_health_race",),
               "cc": ("try_hindered", "try_begun", "try_crowded", "try_other_provider",
-                     "try_unresolved", "try_two_addresses", "try_unresolved_once",
-                     "try_hindered_once", "try_abort_late_away", "try_abort_late_others")}
+                     "try_beside_slow", "try_unresolved", "try_two_addresses",
+                     "try_unresolved_once", "try_hindered_once", "try_abort_late_away",
+                     "try_abort_late_others")}
 # The most seconds of a part, and five times as many with --all.
 LONGEST = 180
 # How many parts run beside one another: they wait more than they compute.

@@ -155,6 +155,18 @@ def try_no_values(world):
         wait_until("others go on", lambda: len(measured(desk, "asked")) > before, 5)
 
 
+def try_last_line(world):
+    """Standard input ends in a line that is too long and has no end. That it is no line is said as
+    of any other, and then that no more comes."""
+    with reading(world, "last-line", SAID[:1], "-") as (_, agent, write):
+        write(b"z" * 5000)
+        time.sleep(1)
+        agent.process.stdin.close()
+        agent.wait_said("the program that gives values has ended: no more come")
+        said = "a line of --values is no SERVICE METRIC VALUE of these files"
+        expect("how often it is said", agent.errors().count(said), 1)
+
+
 def try_hostile_lines(world):
     """Lines that are none, of services and metrics that are not here, and without an end: each is
     said in plain text or ignored, the good ones among them count, others are measured in time, and

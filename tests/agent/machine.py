@@ -159,6 +159,35 @@ def try_other_provider(world):
             want_once("other provider", measured(desk))
 
 
+def try_beside_slow(world):
+    """Of two metrics of a run one has a provider that takes four seconds for each answer, and the
+    other one a provider that this machine cannot reach: that one is begun anew again and again, and
+    the first one is asked once for each of its measurements."""
+    library = library_of(world)
+
+    def answer(*_):
+        time.sleep(4)
+        return reply("0.25")
+
+    with provider(answer) as one, provider(lambda *_: reply("0.5")) as two:
+        rows = ("one", one, "6s"), ("two", two, "1s")
+        of = template("of", *(metric(name, of_web(server.port), interval=interval,
+                                     successCondition="result < 1")
+                              for name, server, interval in rows))
+        with desk_for(world, "beside-slow", of, measured_beside("web", "of")) as desk:
+            agent = Hindered(desk, library, errno.EADDRNOTAVAIL, two.port)
+            wait_until("the slow one", lambda: count_measured(desk)["one.e6"] > 1, 40)
+            expect("the other one", count_measured(desk)["two.e6"], 0)
+            agent.release()
+            wait_measured(desk, 3)
+            agent.must_run()
+            agent.kill()
+            asked, came = len(one.asked), count_measured(desk)["one.e6"]
+            expect("asked for what came, and at most once more", asked - came in (0, 1), True)
+            expect("failures", failures_of(desk), [])
+            want_once("beside slow", measured(desk))
+
+
 def try_stopped_within(world):
     """An agent that is stopped after it asked, until the time of the measurement is over: the reply
     that came meanwhile counts."""
@@ -263,11 +292,13 @@ def try_unresolved_once(world):
 
 def try_hindered_once(world):
     """With --once: the connection is tried again until the time of the measurement is over. Then
-    nothing is reported, and the status is 5; if it works in time, all is reported."""
+    nothing is reported, and the status is 5; if it works in time, all is reported, of two metrics
+    each."""
     library = library_of(world)
     with provider(lambda *_: reply("0.25")) as server:
         for row, status in (("until-its-end", LOCAL), ("for-a-moment", DONE)):
-            with desk_for(world, f"once-{row}", *services(server.port, interval="3s")) as desk:
+            made = services(server.port, "m", "n", interval="3s")
+            with desk_for(world, f"once-{row}", *made) as desk:
                 agent = Hindered(desk, library, errno.EMFILE, server.port, options=("--once",))
                 time.sleep(1.5)
                 if status == DONE:
@@ -276,7 +307,7 @@ def try_hindered_once(world):
                 expect(f"{row}: {agent.errors()}", agent.process.returncode, status)
                 found = measured(desk)
                 expect(f"{row}: measured", [each.result for each in found],
-                       [] if status == LOCAL else ["250000"])
+                       [] if status == LOCAL else ["250000"] * 2)
                 if status == LOCAL:
                     expect(f"{row}: nothing is pending",
                            journals_of(desk)["agent-web"].pending, None)

@@ -268,7 +268,7 @@ VALUES = [
     raw("list", "[0.25, 0.5, 0.75]", "250000", condition=FIRST),
     raw("list-of-two", "[0.25, 2e0, 0.75]", "[250000;2000000]",
         condition="result[0] < 0.5 && result[1] > 0.5"),
-    raw("empty-list", "[]", says=ANY, condition=FIRST),
+    raw("empty-list", "[]", says="no value", condition=FIRST),
     raw("list-of-nothing", "[null]", says="null", condition=FIRST),
     raw("list-and-a-text", '[0.25, "0.5"]', says="text", condition=FIRST),
     raw("list-of-lists", "[[0.25]]", says="list", condition=FIRST),

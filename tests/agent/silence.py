@@ -74,6 +74,32 @@ def try_slow_metric(world):
             want_once("slow metric", found)
 
 
+def try_slow_services(world):
+    """Two services whose providers take more than a second for each answer, at two intervals: an
+    answer comes while the other service waits for one that was asked for later. Each has its own
+    results."""
+    rows = (("one", "2s", "0.25"), ("two", "3s", "0.5"))
+    said = {f"/{name}": result for name, _, result in rows}
+
+    def answer(asked, _):
+        time.sleep(1.5)
+        return reply(said[asked.target])
+
+    with provider(answer) as server:
+        made = [entry for name, interval, _ in rows for entry in (
+            template(name, metric("m", of_web(server.port, name), interval=interval,
+                                  successCondition="result < 1")),
+            measured_beside(f"of-{name}", name))]
+        with desk_for(world, "slow-services", *made) as desk, agent_of(desk) as agent:
+            for name, _, result in rows:
+                wait_measured(desk, 4, f"of-{name}")
+                found = measured(desk, f"of-{name}")
+                expect(name, {(each.result, each.failure) for each in found},
+                       {(str(round(1_000_000 * float(result))), "")})
+                want_once(name, found)
+            agent.must_run()
+
+
 def unmeasured(seconds):
     """A release that time promotes after so many seconds, and a metric that no agent measures."""
     return [template("quiet", metric("m", NOBODY, successCondition="result < 1")),

@@ -230,9 +230,11 @@ def try_warnings(program, folder):
     place = os.path.join(folder, "checks")
     os.mkdir(place)
     timed = MANIFEST.replace(b'{"pause":{}}', b'{"setWeight":20},{"pause":{"duration":"5m"}}')
+    wrong = timed.replace(b'"5m"', b'"5d"')
     for name, content in (("held.json", MANIFEST), ("timed.json", timed),
                           ("body.json", b'{"service":{"version":"v1","manifest":%s}}' % timed),
-                          ("wrong.json", timed.replace(b'"5m"', b'"5d"'))):
+                          ("wrong.json", wrong),
+                          ("two.yaml", b"---\n" + MANIFEST + b"\n---\n" + wrong)):
         with open(os.path.join(place, name), "wb") as file:
             file.write(content)
     warned = (b"spec.strategy.canary.steps: no step after weight 20 waits for anybody: a version "
@@ -251,6 +253,7 @@ def try_warnings(program, folder):
         ("--request body.json --strict", 1, of_body, b""),
         ("wrong.json", 1, found, b""),
         ("--strict wrong.json", 1, found, b""),
+        ("two.yaml", 1, b"document of line 3: " + found, b""),
     )
     for words, status, output, errors in rows:
         done = run(program, ["check", *words.split()], place, capture_output=True)

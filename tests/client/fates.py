@@ -4,8 +4,8 @@ import sys
 from journal_rule import is_new, journal_of
 from journals import Reader
 from world import (
-    DONE, LATE, LOCAL, NO_JOURNAL_FILE, PENDING, PENDING_SAID, PROMOTED, TOO_LATE, Wrong, add,
-    answering, expect, free_port, shown, want, want_delivered,
+    DONE, LATE, LOCAL, NO_JOURNAL_FILE, PENDING, PENDING_SAID, PROMOTED, STARTED, TOO_LATE,
+    Wrong, add, answering, expect, free_port, shown, want, want_delivered,
 )
 
 # What becomes of messages, one letter for each, and after these all are answered; and what acted
@@ -294,3 +294,21 @@ def try_full_journal(world):
     if failed < len(services) - 2:
         raise Wrong(f"only {failed} of {len(services)} calls failed")
     return f"{failed} calls failed of {len(services)}"
+
+
+def try_first_line_without_room(world):
+    """A file that was made for a new caller, with one byte at most, and no room for all of its
+    first line: the client says so, and the same call begins it once there is room."""
+    with world.desk("first-line") as desk:
+        add(desk)
+        want("tick", desk.do("tick", "web"), DONE, shown(STARTED))
+        for at, data in enumerate(("", "-", "+", "\0")):
+            row, own = f"a file of {data!r}", {"caller": f"c{at}", "journal": f"c{at}.journal"}
+            desk.write(own["journal"], data)
+            words = desk.words("tick", "web", **own)
+            found = world.run_words([sys.executable, "-c", LIMITED, "9", world.program, *words],
+                                    desk.folder)
+            want(f"{row}, no room", found, LOCAL,
+                 said=desk.of_file(NO_JOURNAL_FILE, own["journal"]))
+            want(f"{row}, room", desk.do("tick", "web", **own), DONE, shown(STARTED))
+            want_delivered(row, desk, *own.values())

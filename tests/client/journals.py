@@ -181,6 +181,8 @@ def try_changed_journal(world):
             ("a key twice in the journal", records([*ENTRIES[:3], asked(6, PROMOTE, "first")])
              + b"-"),
             ("a CR before the LF", WHOLE.replace(b"\n", b"\r\n")),
+            ("the last number is asked", records(
+                [{"begun": {"caller": "ops", "settled": LAST - 1}}]) + b"-"),
             ("the last number is the pending one", records(
                 [{"begun": {"caller": "ops", "settled": LAST}}]) + b"-"),
             ("more than the last number", records(
@@ -287,6 +289,8 @@ def try_lost_journal(world):
         want("second", desk.do("promote", "web"), DONE, shown(ENDED))
         expect("promotions", desk.count("promote"), {"web": 2})
         expect("it begins", desk.journal().before, 1)
+        # nor does one that is asked again without a key
+        want("third", desk.do("promote", "web"), REFUSED, '{"code":"not-in-progress"}\n')
         want_delivered("lost", desk)
 
 

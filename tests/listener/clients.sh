@@ -227,7 +227,7 @@ try:
         client.shutdown(socket.SHUT_WR)
     os.kill(desk, signal.SIGCONT)
     while (ends or left > 0) and (some := client.recv(65536)):
-        left -= some.count(b"HTTP/1.1 404")
+        left -= some.count(b"HTTP/1.1 4")
         sys.stdout.buffer.write(some)
 except socket.timeout:
     os._exit(124)
@@ -235,12 +235,18 @@ except socket.timeout:
 
 # Such a client sends $1 queries, with $2 as its last word, or the row ends by $3.
 send_at_once() {
-    local status=0 got
     write_queries "$1" /services/nobod > "$work/stream"
-    timeout 30 python3 -c "$sending_at_once" "$port" "$desk" "$2" < "$work/stream" \
+    send_stream_at_once "$1" 404 "$2" "$3"
+}
+
+# Such a client sends $work/stream, with $3 as its last word, and gets $1 replies with the status
+# $2, or the row ends by $4.
+send_stream_at_once() {
+    local status=0 got
+    timeout 30 python3 -c "$sending_at_once" "$port" "$desk" "$3" < "$work/stream" \
         > "$work/replies" || status=$?
-    want_done "$status" "$3"
-    got=$(grep -o 'HTTP/1.1 404' "$work/replies" | wc -l)
+    want_done "$status" "$4"
+    got=$(grep -o "HTTP/1.1 $2" "$work/replies" | wc -l)
     [ "$got" -eq "$1" ] || miss "$got replies to $1 requests"
 }
 
