@@ -1,5 +1,6 @@
 //! A book over a database that has a desk's tables.
-ghost use Rattle.std.specs.Prelude.{◌≡◌, ◌≢◌, ◌↔◌, false, IsTrue, IfOk, IfErr, OnOk, Err};
+ghost use Rattle.std.specs.Prelude.{◌≡◌, ◌≢◌, ◌↔◌, true, false, IsTrue, IfOk, IfErr, OnOk, Err};
+ghost use Rattle.std.specs.Prelude.{IsErrAnd};
 ghost use Rattle.sqlite.specs.Held.{state};
 ghost use Rattle.canary_tables_schema.specs.Formed.{IsDeskSchema, IsRising, IsFormed, HasRows};
 ghost use Rattle.canary_tables_schema.specs.Formed.{HasWholeTallies};
@@ -9,6 +10,7 @@ ghost use Rattle.canary_tables.specs.Adopts.{HasDeskTables, HasSoundRowsWithin};
 ghost use Rattle.canary_tables.specs.Adopts.{IsBelieved, IsAdopted, TellsTables, LeavesRows};
 ghost use Rattle.canary_tables.specs.Adopts.{IsLeftBy, IsOutside};
 ghost use Rattle.canary_tables.specs.declared.fault.TableFault.TheVariants as fault;
+ghost use Rattle.canary_tables.specs.declared.fault.Unadopted.TheVariants as left;
 ghost use Rattle.canary_tables.specs.Desk.{Looks};
 
 use crate::book::{DEFAULT_ROOM, TableBook};
@@ -109,6 +111,11 @@ impl<S: Alter + Drop> TableBook<S> {
     ) -> Result<TableBook<S>, (TableFault, Unadopted<S>)>
         ensures adopted { IfOk result (λ book. IsUsable (state S.Store book)
             → IsAdopted (state S.Store conn) (state S.Store book)) }
+        ensures inside { conn.in_transaction ≡ true → IsErrAnd result
+            (λ e. (e.0 ≡ fault.Storage) × (e.1 ≡ left.Connection conn)) }
+        ensures foreign { conn.in_transaction ≡ false
+            → ¬ IsDeskSchema (state S.Store conn).now.schema → IsErrAnd result
+            (λ e. (e.0 ≡ fault.OtherSchema) × (e.1 ≡ left.Connection conn)) }
         ensures other { IfErr result (λ e. e.0 ≡ fault.OtherSchema → TellsTables S.Store e.1
             → ¬ HasDeskTables (state S.Store conn).now) }
         ensures broken { IfErr result (λ e. e.0 ≡ fault.BrokenRow → TellsTables S.Store e.1

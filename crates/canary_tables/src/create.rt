@@ -45,7 +45,7 @@ impl<S: Alter> TableBook<S> {
         ensures taken { conn.in_transaction ≡ false → (state S.Store conn).now.schema ≢ no_schema
             → IfErr result (λ e. e.0 ≡ fault.OtherSchema) }
         ensures inside { conn.in_transaction ≡ true
-            → IsErrAnd result (λ e. e.0 ≡ fault.Storage) }
+            → IsErrAnd result (λ e. (e.0 ≡ fault.Storage) × (e.1 ≡ conn)) }
         ensures unread { IfErr result (λ e. e.0 ≢ fault.BrokenRow) }
         ensures opened { IfErr result (λ e. e.0 ≢ fault.InUse) }
         ensures same { IfErr result (λ e. IsUsable (state S.Store e.1)

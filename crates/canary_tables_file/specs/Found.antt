@@ -2,6 +2,7 @@
 use Rattle.std.specs.Prelude.{◌≡◌, IsTrue}
 use Rattle.sqlite_disk.specs.declared.Disk.{Ghosts}
 use Rattle.sqlite_wal.specs.Recovery.{Image, Pages}
+use Rattle.sqlite_wal.specs.Files.{seen_image}
 use Rattle.sqlite_pool.specs.Stored.{Recovers}
 use Rattle.sqlite_store.specs.declared.store.FileStore.{FileStore}
 use Rattle.sqlite_store.specs.declared.store.open.Unopened.{Unopened}
@@ -12,6 +13,10 @@ module _ {D : Type 0} {g : Ghosts D} where
   -- the store's pages are those that these contents of a log and a database file stand for
   abbrev pub HasPagesOf : Image → FileStore D g → Type 0
   HasPagesOf first store = Recovers (state store).page_size first (state store).committed
+
+  -- the same of what is seen of a log and a database file
+  abbrev pub HasPagesSeen : D → D → FileStore D g → Type 0
+  HasPagesSeen log db store = HasPagesOf (seen_image g log db) store
 
   -- what the files stand for now, they stood for before
   pub record StandsAsBefore (old new : Unopened D g) : Type 0 where

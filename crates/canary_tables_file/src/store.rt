@@ -6,8 +6,8 @@ ghost use Rattle.sqlite.specs.Steps.{IsFresh};
 ghost use Rattle.sqlite_store.specs.FileStore.{view, is_shielded};
 ghost use Rattle.sqlite_store.specs.Unopened.{image, AreUsable};
 ghost use Rattle.sqlite_trees.specs.View.{IsClean};
-ghost use Rattle.sqlite_wal.specs.Files.{image_at, seen_image};
-ghost use Rattle.canary_tables_file.specs.Found.{HasPagesOf, IsOpenedFrom};
+ghost use Rattle.sqlite_wal.specs.Files.{image_at};
+ghost use Rattle.canary_tables_file.specs.Found.{HasPagesOf, HasPagesSeen, IsOpenedFrom};
 
 use crate::connect::{open_pair, seed};
 use crate::fault::error_of;
@@ -66,7 +66,7 @@ fn store_of<D: Disk + Drop>(
     ensures fresh { IfOk result (λ found. IfSome found
         (λ store. IsClean (view store) → IsFresh (view store))) }
     ensures found { IfOk result (λ found. IfSome found
-        (λ store. IsTrue (view store).is_clean → HasPagesOf (seen_image D.Disk files.log files.db) store)) }
+        (λ store. IsTrue (view store).is_clean → HasPagesSeen files.log files.db store)) }
     ensures guarded { IfOk result (λ found. IfSome found
         (λ store. IsTrue (view store).is_clean → is_shielded store)) }
 {

@@ -1,5 +1,6 @@
 use Rattle.std.proofs.Common.{rules}
 use Rattle.sqlite.specs.Held.{state}
+use Rattle.canary_tables_schema.specs.Formed.{IsDeskSchema}
 use Rattle.canary_tables_schema.specs.Numbered.{IsOpenedAnew}
 use Rattle.canary_tables_schema.specs.Stores.{IsUsable}
 use Rattle.canary_tables.proofs.Adopting.{adopted_anew, other_before, broken_before, left_as_it_was}
@@ -25,3 +26,13 @@ returns-in-Err-adopt_opened-clause-broken g c =
 pub returns-in-Err-adopt_opened-clause-left : goal.returns-in-Err-adopt_opened-clause-left
 returns-in-Err-adopt_opened-clause-left g c =
     left_as_it_was (state g.S.Store c.args.conn) (state g.S.Store c.in-Ok.opened.0) (state g.S.Store c.in-Err-adopt_opened.conn) (search rules) c.in-Err-adopt_opened.ensures.left
+
+pub returns-in-Ok-adopt_opened-clause-foreign : goal.returns-in-Ok-adopt_opened-clause-foreign
+returns-in-Ok-adopt_opened-clause-foreign g c = λ _ other.
+    let is : IsDeskSchema c.args.conn.schema = search rules in
+    other is
+
+pub returns-in-Err-adopt_opened-clause-foreign : goal.returns-in-Err-adopt_opened-clause-foreign
+returns-in-Err-adopt_opened-clause-foreign g c = λ _ other.
+    let is : IsDeskSchema c.args.conn.schema = search rules in
+    absurd (other is)
