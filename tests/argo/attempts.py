@@ -221,5 +221,11 @@ def try_warnings(trial):
             expect(f"{row}: in lines", (done.status, sorted(
                 line.split(": ", 3)[3] for line in lines)), (0, sorted(
                     f"items[0].{path}: {text}" for path, text in wanted)))
+    with faults:
+        manifest = rollout("web", PAUSE, {"setCanaryScale": {}}, spec={"minReadySeconds": 30})
+        text = json.dumps(manifest)
+        done = run(trial.program, ["argo", "-"], text.encode())
+        wanted = f"canary: warning: -:1:{text.index('30') + 1}: spec.minReadySeconds: {NO_PODS}\n"
+        expect("beside a finding", (done.status, done.errors.decode()), (1, wanted))
     faults.end()
-    return f"{len(WARNED)} manifests"
+    return f"{len(WARNED) + 1} manifests"

@@ -142,7 +142,8 @@ def try_lists(trial):
 
 
 def try_many_findings(trial):
-    """`argo` shows a hundred findings, of translations or of checks, and counts the others."""
+    """`argo` shows a hundred findings, of translations or of checks, each with what to write, and
+    counts the others."""
     metrics = [{"name": f"m{at}", "successCondition": "result > 1e-18",
                 "provider": {"web": {"url": "http://any/"}}} for at in range(30)]
     items = [{"kind": "AnalysisTemplate", "metadata": {"name": f"t{at}"},
@@ -150,12 +151,34 @@ def try_many_findings(trial):
     done = run(trial.program, ["argo", "-"], listed(*items).encode())
     lines = done.output.decode().splitlines()
     expect("150 findings", (done.status, len(lines), lines[-1]), (1, 101, "and 50 more"))
-    steps = {"strategy": {"canary": {"steps": [{"setWeight": 101}] * 60}}}
+    steps = {"strategy": {"canary": {"steps": [{"setCanaryScale": {}}] * 60}}}
     items = [{"kind": "Rollout", "metadata": {"name": f"s{at}"}, "spec": steps} for at in range(2)]
     done = run(trial.program, ["argo", "-"], listed(*items).encode())
-    lines = [line for line in done.output.decode().splitlines() if line[:4] != "    "]
-    expect("120 findings", (done.status, len(lines), lines[-1]), (1, 101, "and 20 more"))
+    lines = done.output.decode().splitlines()
+    expect("120 findings", (done.status, [line[:4] == "    " for line in lines], lines[-1]),
+           (1, [False, True] * 100 + [False], "and 20 more"))
     return "150 and 120 findings"
+
+
+def try_many_of_one(trial):
+    """The check of one template finds more than a hundred: that it has more than 32 metrics, and
+    three members of each of its 64. Of 103 files none is a manifest, and each is found."""
+    place, faults = folder_in(trial, "many-of-one"), Faults()
+    metrics = [{"name": f"m{at}", "interval": "x", "count": -1, "failureLimit": "x"}
+               for at in range(64)]
+    template = {"kind": "AnalysisTemplate", "metadata": {"name": "t"}, "spec": {"metrics": metrics}}
+    write(os.path.join(place, "template.json"), json.dumps(template))
+    names = [f"{at}.json" for at in range(103)]
+    for name in names:
+        write(os.path.join(place, name), "{")
+    for row, words, last in (("193 findings", ["template.json"], "and 93 more"),
+                             ("103 files", names, "and 3 more")):
+        with faults:
+            done = run(trial.program, ["argo", *words], cwd=place)
+            lines = done.output.decode().splitlines()
+            expect(row, (done.status, len(lines), lines[-1]), (1, 101, last))
+    faults.end()
+    return "193 findings, and 103 files"
 
 
 def documents(count):

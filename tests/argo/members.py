@@ -196,7 +196,8 @@ def misspellings(name):
     """How a name is misspelt, in one letter or two."""
     middle, first = len(name) // 2, next((at for at, it in enumerate(name) if it.isupper()), None)
     made = [name + "s", name[:-1], f"{name[:middle]}{name[middle]}{name[middle:]}",
-            name[:-2] + name[-1] + name[-2], name[1:], name[:1].upper() + name[1:], f"{name}ed"]
+            name[:-2] + name[-1] + name[-2], name[1:], name[:1].upper() + name[1:], f"{name}ed",
+            f"x{name[1:-1]}x"]
     if first is not None:
         made.append(f"{name[:first]}{name[first].lower()}{name[first + 1:]}")
         made.append(f"{name[:first]}_{name[first].lower()}{name[first + 1:]}")

@@ -1,11 +1,14 @@
 """What a program on a desk's file shows if a stream of it is a terminal: parts of cli.py, each of
 which returns how many rows it had."""
+import contextlib
 import os
 import re
 import select
+import sqlite3
 import subprocess
 import time
 import tty
+from concurrent.futures import ThreadPoolExecutor
 
 from conversation import without_progress
 from story_words import B, Wrong, command, expect, put
@@ -183,6 +186,28 @@ def try_reading(program, place):
     return 3
 
 
+def try_growing(program, place):
+    """Of a file that grows as it is read, what is read is no share of a whole. The lines of its
+    first rows fill a pipe, so that it has grown before its end is read."""
+    words = ["import", "--db", "desk.db", "growing.csv"]
+    with open(os.path.join(place, "growing.csv"), "wb", buffering=0) as file:
+        file.write(HEADER + 10_000 * b"x\n")
+        running, shown = begin_on_terminal(program, words, place, "stderr",
+                                           stdin=subprocess.DEVNULL, stdout=subprocess.PIPE)
+        found = read_terminal(shown, 60, lambda found: b"MB read" in found)
+        file.write(b"x" * 2_200_000 + b"\n")
+    with ThreadPoolExecutor(1) as reading:
+        told = reading.submit(running.stdout.read)
+        found += read_terminal(shown, 60)
+        running.kill()
+        expect(f"{words}: its rows", told.result().count(b' 400 {"code":"unreadable"}\n'), 10_001)
+    os.close(shown)
+    lines = re.findall(rb"\rcanary: ([^\r]*)", judged(words, found))
+    expect(words, list(dict.fromkeys(lines)),
+           [b"0 of 1 MB read", b"0 MB read", b"1 MB read", b"2 MB read"])
+    return 1
+
+
 def try_missing(program, place):
     """A name under which there is no file. `import`, `history` and `export` make the file, and say
     so on a terminal alone; `pipe` makes it and says nothing; `status`, `page` and `backup` make
@@ -232,11 +257,12 @@ def try_faults(program, place):
     """A second line says what a fault is, and of which address or file, on a terminal alone."""
     with open(os.path.join(place, "text"), "w", encoding="ascii") as file:
         file.write("a text that is longer than the first bytes of a database\n")
+    with open(os.path.join(place, "web.json"), "w", encoding="ascii") as file:
+        file.write('{"kind":"Rollout","metadata":{"name":"web"},"spec":{"strategy":{"canary":{}}}}')
     cannot = b": cannot open, make, read or write the database\n"
     invalid = b": the address is invalid, or the desk cannot listen on it\n"
     unfound = b": a file is missing, cannot be read or written, is too long, or exists already\n"
     no_desk = b": the tables of the database are not a desk's\n"
-    in_use = b": another program has the database open\n"
     rows = (
         (["serve", "--listen", "127.0.0.1"], b"listen", b"127.0.0.1" + invalid),
         (["serve", "--listen", "127.0.0.1:0", "--db", "text"], b"storage", b"text" + cannot),
@@ -250,6 +276,8 @@ def try_faults(program, place):
         (["check", "no\x1b[2J\u202ene"], b"file", b"no\\u001b[2J\\u202ene" + unfound),
         (["serve", "--listen", "\x1b[31m"], b"listen", b"\\u001b[31m" + invalid),
         (["check", "--request", "none.json"], b"file", b"none.json" + unfound),
+        (["argo", "--out", "text", "web.json"], b"file", b"web.json, text" + unfound),
+        (["argo", "web.json", "--out", ""], b"file", b"web.json" + unfound),
         (["export", "--db", "desk.db", "--caller", " ", "web"], b"bad-name", b""),
     )
     for words, word, about in rows:
@@ -263,6 +291,12 @@ def try_faults(program, place):
                (1, line))
     expect("import of a folder: a desk's file", os.path.exists(os.path.join(place, "none.db")),
            False)
+    return len(rows)
+
+
+def try_in_use(program, place):
+    """A second line says which file a desk that runs has open, on a terminal."""
+    in_use = b": another program has the database open\n"
     with open(os.path.join(place, "errors"), "w", encoding="ascii") as errors:
         desk = subprocess.Popen([program, "serve", "--listen", "127.0.0.1:0", "--db", "desk.db"],
                                 cwd=place, stdout=subprocess.PIPE, stderr=errors)
@@ -275,7 +309,19 @@ def try_faults(program, place):
     finally:
         desk.kill()
         desk.communicate()
-    return len(rows) + 1
+    return 1
+
+
+def try_broken_row(program, place):
+    """A second row in `meta` is one that no desk leaves."""
+    with contextlib.closing(sqlite3.connect(os.path.join(place, "desk.db"))) as records:
+        records.execute("INSERT INTO meta VALUES (2, 2)")
+        records.commit()
+    words = ["history", "--db", "desk.db", "web"]
+    written, shown = run_showing(program, words, place, status=1)
+    told = b"canary: broken-row\ndesk.db: the database has a row that no desk writes\n"
+    expect(words, (written, shown[-len(told):]), (b"", told))
+    return 1
 
 
 def try_watching(program, place):
@@ -303,6 +349,6 @@ def try_watching(program, place):
 
 def try_terminals(program, new_place):
     """Each of these in a new folder with a desk's file."""
-    parts = (try_judging, try_pages, try_shares, try_drawing, try_reading, try_missing, try_faults,
-             try_watching)
+    parts = (try_judging, try_pages, try_shares, try_drawing, try_reading, try_growing, try_missing,
+             try_faults, try_in_use, try_broken_row, try_watching)
     return sum(part(program, new_place()) for part in parts)

@@ -1,4 +1,4 @@
-manifests 182
+manifests 197
 
 # Texts.
 between ...
@@ -10,6 +10,9 @@ between ...
      |     instead: take one of its items, as kubectl get analysistemplate NAME -o json or
      kubectl get rollout NAME -o json prints it
 {"kind":"RolloutList","items":[]} => kind: expected AnalysisTemplate or Rollout
+     |     instead: take one of its items, as kubectl get analysistemplate NAME -o json or
+     kubectl get rollout NAME -o json prints it
+{"kind":"AnalysisTemplateList","items":[]} => kind: expected AnalysisTemplate or Rollout
      |     instead: take one of its items, as kubectl get analysistemplate NAME -o json or
      kubectl get rollout NAME -o json prints it
 {"kind":"ClusterAnalysisTemplate","metadata":{"name":"t"}} =>
@@ -68,7 +71,8 @@ between {"kind":"AnalysisTemplate","metadata":{"name":"t"},"spec":{ ... }}
      spec.measurementRetention: expected none or an empty list (others are unsupported)
      |     instead: leave it out: the desk keeps every measurement
 "metrics":[{"name":"m","interval":60},5] => spec.metrics[0].interval (metric "m"):
-     expected a duration in a text, as 90s or 1h30m, up to 8760h |
+     expected a duration in a text, as 90s or 1h30m, up to 8760h
+     |     instead: write "60s" |
      spec.metrics[1].name: missing; expected 1 to 63 bytes of A-Z a-z 0-9 . _ -
 
 # Metrics.
@@ -133,12 +137,23 @@ between {"kind":"AnalysisTemplate","metadata":{"name":"t"},"spec":{"metrics":[{"
      expected a condition in a text
 "initialDelay":"1.5m" => spec.metrics[0].initialDelay (metric "errors"):
      expected a duration in a text, as 90s or 1h30m, up to 8760h
+"initialDelay":31536000 => spec.metrics[0].initialDelay (metric "errors"):
+     expected a duration in a text, as 90s or 1h30m, up to 8760h
+     |     instead: write "31536000s"
+"initialDelay":31536001 => spec.metrics[0].initialDelay (metric "errors"):
+     expected a duration in a text, as 90s or 1h30m, up to 8760h
+"initialDelay":1.5 => spec.metrics[0].initialDelay (metric "errors"):
+     expected a duration in a text, as 90s or 1h30m, up to 8760h
+"initialDelay":-60 => spec.metrics[0].initialDelay (metric "errors"):
+     expected a duration in a text, as 90s or 1h30m, up to 8760h
 "count":1000001 => spec.metrics[0].count (metric "errors"):
      expected 0 to 1,000,000, a whole number or a text of digits
 "passAfter":1000001 => spec.metrics[0].passAfter (metric "errors"):
      expected 0 to 1,000,000, a whole number or a text of digits
 "interval":"1m","passAfter":2 => ok
 "count":2 => spec.metrics[0].interval (metric "errors"):
+     expected an interval, since the count is above 1
+"count":2,"passAfter":2 => spec.metrics[0].interval (metric "errors"):
      expected an interval, since the count is above 1
 "failureLimit":-1 => spec.metrics[0].failureLimit (metric "errors"):
      expected no limit below 0 (unsupported)
@@ -238,6 +253,12 @@ between {"kind":"Rollout","metadata":{"name":"web"},"spec":{"strategy":{"canary"
 {"setWeight":5,"plugin":{}} => spec.strategy.canary.steps[0].plugin:
      expected no member but setWeight, pause or analysis (others are unsupported)
      |     instead: leave the member out
+{"experiment":{},"plugin":{}} => spec.strategy.canary.steps[0].experiment:
+     expected no member but setWeight, pause or analysis (others are unsupported)
+     |     instead: leave the step out, or write an analysis |
+     spec.strategy.canary.steps[0].plugin:
+     expected no member but setWeight, pause or analysis (others are unsupported)
+     |     instead: leave the step out
 {"analysis":{"templates":[]}} => spec.strategy.canary.steps[0].analysis.templates:
      expected a list of 1 to 8 objects with templateName
 {"analysis":{}} => spec.strategy.canary.steps[0].analysis.templates:
@@ -248,6 +269,12 @@ between {"kind":"Rollout","metadata":{"name":"web"},"spec":{"strategy":{"canary"
      spec.strategy.canary.steps[0].analysis.templates:
      expected a list of 1 to 8 objects with templateName
 <<64*{"pause":{}},>>{"pause":{}} => spec.strategy.canary.steps: expected a list of at most 64 steps
+
+# 33 metrics, and 32.
+begins {"kind":"AnalysisTemplate","metadata":{"name":"t"},"spec":{"metrics":[ ... ]}}
+<<32*{"name":"m"},>>{"name":"m"} => spec.metrics: expected a list of 1 to 32 metrics
+     | spec.metrics[1].name
+<<31*{"name":"m"},>>{"name":"m"} => spec.metrics[1].name
 
 # A text that is no JSON, though the body that registers it would be a command's. Its JSON ends
 # before column 86; the reader may stand some bytes behind that.
@@ -286,6 +313,11 @@ kind: Rollout<<x:0a>>---<<x:0a>>kind: Service =>
      | document of line 3: metadata.name: missing;
      expected 1 to 63 bytes of a-z 0-9 -, the first and the last no -
      | document of line 3: spec.strategy.canary: expected an object
+kind: ClusterAnalysisTemplate<<x:0a>>---<<x:0a>>kind: Service =>
+     document of line 1: kind: expected AnalysisTemplate or Rollout
+     |     instead: write AnalysisTemplate for ClusterAnalysisTemplate:
+     the desk has templates of one kind
+     | document of line 2: kind: expected AnalysisTemplate or Rollout
 kind: Rollout<<x:0a>>spec:<<x:0a09>>a: b => line 3, column 1:
      a tab in an indentation: write spaces
 kind: Rollout<<x:0a>>a: [on] => line 2, column 5: YAML 1.1 reads true here:
@@ -460,6 +492,10 @@ strict ...
      spec.metrics[0] (metric "m"): no condition, so each result is Successful
 {"metadata":{"name":"t"},"spec":{"metrics":[{"name":"m","failureCondition":5}]}} =>
      spec.metrics[0].failureCondition (metric "m"): expected a condition in a text
+metadata: {name: t}<<x:0a>>spec: {metrics: [{name: m}]}<<x:0a>>---<<x:0a>>metadata: {name: u}
+    <<x:0a>>spec: {metrics: [{name: m}]} =>
+     document of line 1: spec.metrics[0] (metric "m"): no condition, so each result is Successful
+     | document of line 3: spec.metrics[0] (metric "m"): no condition, so each result is Successful
 
 # The body of a request has the same warnings.
 warns-request ...
@@ -568,3 +604,18 @@ request {"report":{"service":"web","run":1,"entries":[ ... ]}}
      report.entries[0].ordinal: expected a whole number, 1 to 1,000,000,000 |
      report.entries[0].taken: expected seconds from 1970 as a whole number, 0 to 253370764799 |
      report.entries[0]: expected exactly one of result and failure
+
+# 33 entries, and 32.
+begins-request {"report":{"service":"web","run":1,"entries":[ ... ]}}
+<<32*5,>>5 => report.entries: expected a list of 1 to 32 entries | report.entries[0].metric
+<<31*5,>>5 => report.entries[0].metric
+
+# A body is JSON alone: how to make that of YAML, by its documents.
+begins-request ...
+kind: Rollout => near line 1, column 1: expected JSON in UTF-8,
+     with arrays and objects nested at most 127 deep
+     |     instead: make JSON of YAML, by yq -o=json FILE
+kind: Rollout<<x:0a>>---<<x:0a>>kind: Rollout => near line 1, column 1: expected JSON in UTF-8,
+     with arrays and objects nested at most 127 deep
+     |     instead: make JSON of one document at a time,
+     as of the first by yq -o=json 'select(di == 0)' FILE

@@ -331,7 +331,8 @@ def told_pairs(program, rows):
 
 
 # The words of `check` for the blocks of some kinds.
-WORDS_OF = {"request": ["--request"], "warns-request": ["--request"], "strict": ["--strict"]}
+WORDS_OF = {"request": ["--request"], "begins-request": ["--request"],
+            "warns-request": ["--request"], "strict": ["--strict"]}
 
 
 def told_of_manifest(program, kind, file, wanted):
@@ -341,7 +342,7 @@ def told_of_manifest(program, kind, file, wanted):
     if kind.startswith("warns"):
         return program.warnings(words)
     found = program.run(words, status=0 if wanted == b"ok\n" else 1)
-    if kind == "begins":
+    if kind.startswith("begins"):
         return found[:len(wanted)]
     return found[-len(wanted):] if kind == "ends" else found
 
@@ -356,7 +357,7 @@ def told_manifests(program, block):
         text, told = row.split(" => ")
         with open(file, "wb") as manifest:
             manifest.write(expanded(front + text + end))
-        wanted = told.replace(" | ", "\n") + ("" if kind == "begins" else "\n")
+        wanted = told.replace(" | ", "\n") + ("" if kind.startswith("begins") else "\n")
         wanted = b"" if told == "nothing" else wanted.encode()
         expect(row, told_of_manifest(program, kind, file, wanted), wanted)
     return len(rows)

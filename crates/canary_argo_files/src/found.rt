@@ -84,11 +84,12 @@ impl FileFindings {
         Ok(())
     }
 
-    /// Adds all of them, or `Memory`.
+    /// Adds all of them, also those that are counted; or `Memory`.
     pub(crate) fn add_all(&mut self, alloc: Global, others: &FileFindings) -> Result<(), Memory> {
         for found in &others.list {
             self.add(found.copy(alloc)?)?;
         }
+        self.count(others.more);
         Ok(())
     }
 

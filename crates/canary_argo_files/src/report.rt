@@ -213,7 +213,8 @@ fn add_warnings(
     add_lines(alloc, list, manifests, made, checked.warnings())
 }
 
-// Adds the findings of these lines. A line that begins with four spaces belongs to the one before.
+// Adds the findings of these lines. A line that begins with four spaces belongs to the one before,
+// and the last one may count those that have no line.
 fn add_lines(
     alloc: Global,
     list: &mut FileFindings,
@@ -224,6 +225,8 @@ fn add_lines(
     for line in lines.lines() {
         if line.starts_with("    ") {
             list.add_to_last(alloc, line)?;
+        } else if let Some(more) = more_in(line) {
+            list.count(more as u64);
         } else if list.has_room() {
             add_line(alloc, list, manifests, made, line)?;
         } else {
@@ -231,6 +234,12 @@ fn add_lines(
         }
     }
     Ok(())
+}
+
+// How many more findings the line `and N more` counts.
+fn more_in(line: &str) -> Option<usize> {
+    let more = line.strip_prefix("and ")?;
+    more.strip_suffix(" more")?.parse::<usize>().ok()
 }
 
 // Adds what a line of a check finds.

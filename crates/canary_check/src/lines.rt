@@ -113,6 +113,16 @@ impl Lines {
         self.put("\n");
     }
 
+    /// Adds to the last finding how to write that number of seconds.
+    pub(crate) fn instead_in_seconds(&mut self, seconds: u64) {
+        if self.more > 0 {
+            return;
+        }
+        self.put("    instead: write \"");
+        self.put_number(seconds);
+        self.put("s\"\n");
+    }
+
     /// Adds a warning of the member under a key of the object there, or with an empty key of the
     /// object itself.
     pub(crate) fn warn(&mut self, place: JsonPlace, key: &str, what: &str)

@@ -6,6 +6,7 @@ use crate::json_place::JsonPlace;
 use crate::lines::Lines;
 use crate::members::{LABEL, tell_wrong};
 use crate::trial::refusal_of_times;
+use canary_base::durations::LONGEST;
 use canary_base::error::Memory;
 use canary_base::names::Label;
 use canary_canonical::form::{FormFault, label_in};
@@ -63,10 +64,10 @@ fn tell_text(lines: &mut Lines, place: JsonPlace, metric: &Value, key: &str, tex
 // Adds what is found in when, how often and until when a metric is measured.
 fn tell_times(lines: &mut Lines, place: JsonPlace, metric: &Value) {
     if duration_at(metric, "interval").is_none() {
-        lines.tell(place, "interval", DURATION);
+        tell_duration(lines, place, metric, "interval");
     }
     if delay_at(metric, "initialDelay").is_none() {
-        lines.tell(place, "initialDelay", DURATION);
+        tell_duration(lines, place, metric, "initialDelay");
     }
     if count_at(metric, "count").is_none() {
         lines.tell(place, "count", LIMIT);
@@ -77,6 +78,16 @@ fn tell_times(lines: &mut Lines, place: JsonPlace, metric: &Value) {
     let needs_interval = needs_interval(lines.alloc, metric);
     if lines.holds(needs_interval) {
         lines.tell(place, "interval", "an interval, since the count is above 1");
+    }
+}
+
+// Adds that a duration is expected under that key, and of a number of seconds how to write it.
+fn tell_duration(lines: &mut Lines, place: JsonPlace, metric: &Value, key: &str) {
+    lines.tell(place, key, DURATION);
+    if let Some(seconds) = member_of(metric, key).and_then(Value::as_u64)
+        && seconds <= LONGEST as u64
+    {
+        lines.instead_in_seconds(seconds);
     }
 }
 

@@ -153,7 +153,7 @@ fn files_of(alloc: Global, program: &Program) -> Result<String, AllocError> {
         Program::Migrate { db, .. } => listed(alloc, Some(db), None),
         Program::Succeed { db, new } => listed(alloc, Some(db), Some(new)),
         Program::Check { file, request, .. } => listed(alloc, file.as_ref(), request.as_ref()),
-        Program::Argo { out, .. } => listed(alloc, out.as_ref(), None),
+        Program::Argo { files, out, .. } => argo_files(alloc, files.as_slice(), out.as_ref()),
         Program::Ask(_) => listed(alloc, None, None),
     }
 }
@@ -172,6 +172,26 @@ fn page_files(
             Ok(format!(in alloc; "{db}, {out}, {folder}")?)
         }
     }
+}
+
+// The files of manifests, and the folder for what they become, if there is one.
+fn argo_files(alloc: Global, files: &[Text], folder: Option<&Text>) -> Result<String, AllocError> {
+    let mut names = String::new(alloc);
+    for file in files {
+        push_name(&mut names, file.as_str())?;
+    }
+    if let Some(folder) = folder {
+        push_name(&mut names, folder.as_str())?;
+    }
+    Ok(names)
+}
+
+// Appends a name, with a comma before it if it is not the first; nothing if it is empty.
+fn push_name(names: &mut String, name: &str) -> Result<(), AllocError> {
+    if !names.is_empty() && !name.is_empty() {
+        names.push_str(", ")?;
+    }
+    names.push_str(name)
 }
 
 // The file of the records.

@@ -106,7 +106,7 @@ const EMPTY: &str = "\"\"";
 // What stands before the name that may be meant.
 const MEANT: &str = "; did you mean ";
 
-/// Warns of each member of an object that is none of these; of what is no object, of nothing.
+/// Warns of each member of an object that is not among these. A value that is no object has none.
 pub(crate) fn warn_of_others(
     work: &mut Conversion,
     place: ManifestPlace,
@@ -121,7 +121,7 @@ pub(crate) fn warn_of_others_of_step(work: &mut Conversion, place: ManifestPlace
     warn_of_each(work, place, step, &STEP, UNKNOWN);
 }
 
-// Warns in these words of each member of an object that is none of these.
+// Warns in these words of each member that is not among these.
 fn warn_of_each(
     work: &mut Conversion,
     place: ManifestPlace,
@@ -140,7 +140,7 @@ fn warn_of_each(
 }
 
 // Warns of the member of that key, or counts it alone. Its name is looked for among the known ones
-// only where it is told.
+// only if the warning is shown.
 fn warn_of(
     work: &mut Conversion,
     place: ManifestPlace,
