@@ -14,6 +14,7 @@ import edges
 import edits
 import lines
 import machine
+import pauses
 import real
 import replies
 import runs
@@ -27,7 +28,7 @@ PARTS_WITH = {"prometheus": ("try_releases", "try_kills"), "strace": ("try_healt
               "cc": ("try_hindered", "try_begun", "try_crowded", "try_other_provider",
                      "try_beside_slow", "try_unresolved", "try_two_addresses",
                      "try_unresolved_once", "try_hindered_once", "try_abort_late_away",
-                     "try_abort_late_others")}
+                     "try_abort_late_others", "try_pauses", "try_said_again")}
 # The most seconds of a part, and five times as many with --all.
 LONGEST = 180
 # How many parts run beside one another: they wait more than they compute.
@@ -47,7 +48,8 @@ CONTEXT = multiprocessing.get_context("fork")
 # The parts that run, by their names.
 parts = {}
 # The long ones first.
-PARTS = parts_of(silence, real, crowd, replies, edits, lines, runs, web, edges, streams, machine)
+PARTS = parts_of(silence, real, crowd, replies, edits, lines, runs, web, edges, streams, machine,
+                 pauses)
 
 
 def give_up(*_):

@@ -62,6 +62,8 @@ def try_statuses(world, server):
         desk.write("bad.json", '{"kind": ')
         want_ended("invalid", run_agent(desk, "bad.json", options=ONCE), WORDS, "bad.json:1:")
         want_ended("no such file", run_agent(desk, "none.json", options=ONCE), WORDS, "none.json")
+        desk.write("template.json", listed(*services(server.port)))
+        want_ended("no Rollout", run_agent(desk, "template.json", options=ONCE), WORDS, "Rollout")
         desk.write("more.json", listed(*services(server.port, "web", "unknown")))
         time.sleep(1.1)
         ended = run_agent(desk, "more.json", options=ONCE)
@@ -273,12 +275,26 @@ def want_health(world, port, row):
             time.sleep(2.5)
             lines = [line for line in agent.errors().splitlines() if "health" in line]
             expect(f"{row}: said", len(lines), 1)
+            if row == "fifo":
+                want_untouched_again(desk, agent, path)
         target = desk.folder / "target"
         if row == "dangling":
             expect("what a link leads to", target.exists(), False)
         if row == "link":
             expect("what a link leads to", (target.read_text(encoding="utf-8"),
                                             int(target.stat().st_mtime)), ("as it is", 1))
+
+
+def want_untouched_again(desk, agent, path):
+    """A file takes the place of the FIFO, and is touched; then a FIFO takes its place: that is new,
+    and is said as well."""
+    desk.write("regular", "")
+    os.utime(desk.folder / "regular", (1, 1))
+    os.replace(desk.folder / "regular", path)
+    wait_until("a file is touched", lambda: path.stat().st_mtime > 1, 8)
+    os.mkfifo(desk.folder / "fifo")
+    os.replace(desk.folder / "fifo", path)
+    agent.wait_said("cannot be touched", 2, 8)
 
 
 @measuring

@@ -178,12 +178,12 @@ def want_gone(desk, agent, good, times):
 
 
 def try_new_file(world):
-    """A folder of manifests gets a new file: its service is measured from then on. Names that are
-    no manifest's are not read."""
+    """A folder of manifests gets new files, with each ending of such names: their services are
+    measured from then on. Names that are no manifest's are not read."""
     with provider(lambda *_: reply("0.25")) as server, desk_for(world, "new-file") as desk:
         folder = desk.folder / "manifests"
         folder.mkdir()
-        for name in ("one", "two"):
+        for name in ("one", "two", "three"):
             release(desk, listed(
                 template(name, metric("p", of_web(server.port), successCondition=SIX)),
                 measured_beside(name, name)), file=f"{name}.json", is_begun=name == "one")
@@ -192,9 +192,29 @@ def try_new_file(world):
         (folder / ".hidden").write_text("{", encoding="utf-8")
         with agent_of(desk, "manifests") as agent:
             wait_measured(desk, 2, "one")
-            os.rename(desk.folder / "two.json", folder / "two.json")
-            begin(desk, "two")
-            wait_measured(desk, 2, "two", seconds=8)
+            for name, ending in (("two", "yml"), ("three", "yaml")):
+                os.rename(desk.folder / f"{name}.json", folder / f"{name}.{ending}")
+                begin(desk, name)
+            for name in ("two", "three"):
+                wait_measured(desk, 2, name, seconds=8)
+            said = [line for line in agent.errors().splitlines() if "late by" not in line]
+            expect("its errors", said, [])
+
+
+def try_no_rollout(world):
+    """A file loses its Rollout, which nothing is found in: its service is measured no more, and
+    again once the Rollout is back."""
+    with provider(lambda *_: reply("0.25")) as server:
+        of, web = template_of(server.port, names=("p",)), measured_beside("web", "of")
+        with desk_for(world, "no-rollout", of, web) as desk, agent_of(desk) as agent:
+            wait_more(desk, "p.e6", 1)
+            put(desk, listed(of))
+            time.sleep(2.5)
+            count = count_of(desk, "p.e6")
+            time.sleep(2.5)
+            expect("measured meanwhile", count_of(desk, "p.e6") - count, 0)
+            put(desk, listed(of, web))
+            wait_more(desk, "p.e6")
             said = [line for line in agent.errors().splitlines() if "late by" not in line]
             expect("its errors", said, [])
 
@@ -270,6 +290,18 @@ def try_names(world):
                 want_used_again(agent, "no such name", 1)
                 wait_more(desk, "p.e6", 3)
                 expect("said once", agent.errors().count("UTF-8"), 1)
+            want_each_name(desk, folder)
+
+
+def want_each_name(desk, folder):
+    """Of two such names each has its line."""
+    for name in (b"/c\xfe.yml", b"/d\xff.json"):
+        with open(os.fsencode(folder) + name, "wb"):
+            pass
+    ended = run_agent(desk, "manifests", options=("--once",))
+    expect("two names", (ended.status, [name for name in ("c\\xfe.yml", "d\\xff.json")
+                                        if f"manifests/{name}: " in ended.errors]),
+           (WORDS, ["c\\xfe.yml", "d\\xff.json"]))
 
 
 def try_fifo_instead(world):

@@ -5,8 +5,8 @@ import subprocess
 import time
 
 from agents import (
-    Agent, agent_of, desk_for, measured, measured_beside, metric, of_web, provider, reply,
-    template, wait_until, want_once)
+    Agent, agent_of, beside, desk_for, measured, measured_beside, metric, of_web, provider,
+    reply, template, wait_until, want_once)
 from replies import want_plain
 from rows import ESCAPES, GREATEST, LESS, NAN
 from world import Wrong, expect
@@ -46,12 +46,12 @@ HOSTILE = [
 ]
 
 
-def manifests_of(rows, port):
+def manifests_of(rows, port, interval="2s"):
     """A service for each row, which another program measures, and one whose provider is asked."""
     made = []
     for name, condition, *_ in rows:
         of_other = {"provider": OTHER, "successCondition": condition}
-        made += [template(name, metric("m", interval="2s", **of_other if condition
+        made += [template(name, metric("m", interval=interval, **of_other if condition
                                        else {"provider": JOB})),
                  measured_beside(name, name)]
     return [*made, template("asked", metric("m", of_web(port), successCondition="result < 1")),
@@ -69,14 +69,17 @@ def memory_of(agent):
 
 
 @contextlib.contextmanager
-def reading(world, name, rows, source):
+def reading(world, name, rows, source, **more):
     """A desk, an agent that reads lines from there, and what writes a line."""
     with provider(lambda *_: reply("0.25")) as server, \
-            desk_for(world, name, *manifests_of(rows, server.port)) as desk:
+            desk_for(world, name, *manifests_of(rows, server.port, **more)) as desk:
         if source == "-":
             options, stdin = ("--values", "-"), subprocess.PIPE
         else:
-            os.mkfifo(desk.folder / "values")
+            if source == "fifo":
+                os.mkfifo(desk.folder / "values")
+            else:
+                (desk.folder / "values").touch()
             options, stdin = ("--values", str(desk.folder / "values")), subprocess.DEVNULL
         with agent_of(desk, options=options, stdin=stdin) as agent:
             def write(line):
@@ -84,13 +87,14 @@ def reading(world, name, rows, source):
                     agent.process.stdin.write(line)
                     agent.process.stdin.flush()
                     return
-                with open(desk.folder / "values", "wb", buffering=0) as fifo:
-                    fifo.write(line)
+                with open(desk.folder / "values", "ab", buffering=0) as file:
+                    file.write(line)
             yield desk, agent, write
 
 
-def want_values(world, name, source):
+def want_values(world, source):
     """Each kind of value is reported; the lines come when a measurement waits for them."""
+    name = f"values-{source}"
     with reading(world, name, SAID, source) as (desk, agent, write):
         for _ in range(3):
             for row in SAID:
@@ -106,13 +110,26 @@ def want_values(world, name, source):
             raise Wrong(f"{name}: failures: {[each for each in found if each.failure]}")
         if len([each for each in found if each.service == "asked"]) < 2:
             raise Wrong("the one that is asked was not measured meanwhile")
+        expect(f"{name}: its end is said", "ended" in agent.errors(), False)
 
 
 def try_values(world):
-    """Values of another program by standard input and by a FIFO, whose writers come and go."""
-    want_values(world, "values-input", "-")
-    want_values(world, "values-fifo", "fifo")
+    """Values of another program by standard input, by a FIFO, whose writers come and go, and by a
+    file that grows."""
+    beside(lambda source: want_values(world, source), ("-", "fifo", "file"))
     return f"{len(SAID)} values by each"
+
+
+def try_value_before(world):
+    """A value that comes between two measurements is reported for the next one."""
+    with reading(world, "value-before", SAID[:1], "-", interval="4s") as (desk, agent, write):
+        for count, value in enumerate((b"0.1", b"0.2"), 1):
+            write(b"one m %s\n" % value)
+            wait_until(f"measurement {count}", lambda count=count:
+                       len(measured(desk, "one")) >= count or agent.must_run(), 15)
+            time.sleep(.6)
+        expect("what is measured", [each.result or each.failure
+                                    for each in measured(desk, "one")], ["100000", "200000"])
 
 
 def try_jobs(world):
@@ -165,6 +182,21 @@ def try_last_line(world):
         agent.wait_said("the program that gives values has ended: no more come")
         said = "a line of --values is no SERVICE METRIC VALUE of these files"
         expect("how often it is said", agent.errors().count(said), 1)
+
+
+def try_input_of_a_file(world):
+    """Standard input is a file, or nothing: its value is reported, and its end is said once."""
+    with provider(lambda *_: reply("0.25")) as server, \
+            desk_for(world, "input-of-a-file", *manifests_of(SAID[:1], server.port)) as desk:
+        name, _, text, wanted = SAID[0]
+        (desk.folder / "lines").write_text(f"{name} m {text}\n", encoding="ascii")
+        for times, source in enumerate((desk.folder / "lines", os.devnull), 1):
+            with open(source, "rb") as stdin, \
+                    agent_of(desk, options=("--values", "-"), stdin=stdin) as agent:
+                agent.wait_said("the program that gives values has ended: no more come", times)
+                time.sleep(1)
+                expect(f"{source}: how often", agent.errors().count("ended"), times)
+        expect("its value is reported", wanted in reported_of(desk, name), True)
 
 
 def try_hostile_lines(world):

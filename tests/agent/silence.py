@@ -9,8 +9,9 @@ from agents import (
     provider, reply, rollout, run_agent, status, template, wait_measured, wait_status,
     wait_until, want_once)
 from machine import Hindered, library_of
+from replies import run_on_terminal
 from rows import silent
-from world import Wrong, answering, expect
+from world import REFUSED, Wrong, answering, expect
 from world import ask as ask_bytes
 
 # Of a kind that no agent asks; another program is to measure it, and does not.
@@ -138,12 +139,13 @@ def try_abort_late(world):
 
 
 def try_abort_late_away(world):
-    """The minute for which a measurement is seen to be due begins anew if the desk is away. The
-    agent has a clock that is ten times as fast."""
+    """The minute for which a measurement is seen to be due begins anew if the desk is away. That it
+    is late is said again after a minute. The agent has a clock that is ten times as fast."""
     library = library_of(world)
     with desk_for(world, "abort-late-away", *unmeasured(110)) as desk:
         agent = Hindered(desk, library, faster=10, options=("--abort-late", "3"))
         agent.wait_said(LATE)
+        said = time.monotonic()
         time.sleep(2)
         desk.kill()
         agent.wait_said("no desk")
@@ -153,6 +155,9 @@ def try_abort_late_away(world):
         wait_status(desk, "Degraded", seconds=30)
         if time.monotonic() - back < 5:
             raise Wrong(f"aborted {time.monotonic() - back} seconds after the desk was back")
+        minutes = (time.monotonic() - said + 1) / 6
+        if not 1 < agent.errors().count(LATE) <= 1 + minutes:
+            raise Wrong(f"what is late in {minutes} minutes: {agent.errors()!r}")
         agent.kill()
 
 
@@ -200,8 +205,9 @@ def try_abort_late_others(world):
 
 
 def try_abort_late_once(world):
-    """--once with --abort-late, as cron may call it: what nobody measures is aborted if it is late
-    by more, and not before; what can be measured is measured, however late it is."""
+    """--once with --abort-late, as cron may call it, and on a terminal: what nobody measures is
+    aborted if it is late by more, and not before; what can be measured is measured, however late it
+    is."""
     with provider(lambda *_: reply("0.25")) as server:
         made = [*unmeasured(60),
                 template("good", metric("m", of_web(server.port), successCondition="result < 1")),
@@ -210,8 +216,11 @@ def try_abort_late_once(world):
             ended = run_agent(desk, options=("--once", "--abort-late", "3600"))
             expect(f"not late so far: {ended}", status(desk), "Paused")
             time.sleep(4.5)
-            ended = run_agent(desk, options=("--once", "--abort-late", "3"))
-            expect(f"late: {ended}", (status(desk), status(desk, "good")), ("Degraded", "Paused"))
+            _, shown = run_on_terminal(desk, "--once", "--abort-late", "3")
+            expect(f"late: {shown}", (status(desk), status(desk, "good")), ("Degraded", "Paused"))
+            expect("what a terminal shows", [line for line in shown.splitlines()
+                                             if line.startswith("web abort")],
+                   ["web abort Degraded"])
             expect("what was measured", [each.service for each in measured(desk, "web", "good")],
                    ["good", "good"])
             expect("once", desk.count("abort"), {"web": 1})
@@ -219,7 +228,7 @@ def try_abort_late_once(world):
 
 def try_no_file(world):
     """A run's metric that no file has: standard error says so once, and the others are measured;
-    with --abort-late the release is aborted."""
+    --once has status 1 then, and with --abort-late the release is aborted."""
     with provider(lambda *_: reply("0.25")) as server:
         of = metric("m", of_web(server.port), successCondition="result < 1")
         made = [template("of", of, {**of, "name": "gone"}), measured_beside("web", "of")]
@@ -231,6 +240,8 @@ def try_no_file(world):
                 expect("said of it", agent.errors().count("no file has"), 1)
                 expect("it is there still", status(desk), "Paused")
             time.sleep(2)
+            ended = run_agent(desk, "less.json", options=("--once",))
+            expect(f"not measured: {ended}", ended.status, REFUSED)
             run_agent(desk, "less.json", options=("--once", "--abort-late", "2"))
             expect("as it is late", status(desk), "Degraded")
             expect("it was not measured", {each.metric for each in measured(desk)}, {"m.e6"})

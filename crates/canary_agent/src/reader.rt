@@ -127,12 +127,17 @@ impl LineReader {
                 return Ok(ReadLine::Nothing);
             }
             match self.read(input)? {
-                Some(0) if self.gate.is_some() => return self.rest(alloc),
+                Some(0) if self.has_an_end() => return self.rest(alloc),
                 Some(0) | None => return Ok(ReadLine::Nothing),
                 Some(_) => {}
             }
         }
         Ok(ReadLine::Nothing)
+    }
+
+    // Whether no more comes after its end: of standard input, and not of a file, which may grow.
+    fn has_an_end(&self) -> bool {
+        matches!(&self.origin, Origin::Input)
     }
 
     // The last line, if it has no end; else that no more comes.

@@ -193,7 +193,7 @@ impl Rounds {
         Ok(None)
     }
 
-    // Reads the files again if one changed. Once they can be used after they could not, says so.
+    // Reads the files again if it is time, and attends what they name if one changed.
     fn look_at_files<F: Write>(
         &mut self,
         rt: &HostRuntime,
@@ -205,20 +205,43 @@ impl Rounds {
             return Ok(());
         }
         self.files_at = now.saturating_add(LONGEST);
-        let files = Files::look(rt, named.files.as_slice())?;
+        if self.have_changed(rt, named.files.as_slice())? {
+            self.use_files(rt, named.prefix, errors)
+        } else {
+            Ok(())
+        }
+    }
+
+    // Reads the files again, and answers whether one changed.
+    fn have_changed(&mut self, rt: &HostRuntime, names: &[Text]) -> Result<bool, Memory> {
+        let files = Files::look(rt, names)?;
         if files.are_as(&self.files) {
-            return Ok(());
+            return Ok(false);
         }
         self.files = files;
-        let Some(plan) = self.plan_of_files(rt, errors)? else {
-            self.is_unused = true;
-            return Ok(());
-        };
-        if self.is_unused {
-            self.is_unused = false;
-            say(errors, USED_AGAIN);
+        Ok(true)
+    }
+
+    // Attends what the files name as they are now. If they can be used after they could not, says
+    // so.
+    fn use_files<F: Write>(
+        &mut self,
+        rt: &HostRuntime,
+        prefix: &str,
+        errors: &mut F,
+    ) -> Result<(), Memory> {
+        match self.plan_of_files(rt, errors)? {
+            Some(plan) => {
+                if mem::replace(&mut self.is_unused, false) {
+                    say(errors, USED_AGAIN);
+                }
+                self.serve(rt.alloc(), prefix, plan, errors)
+            }
+            None => {
+                self.is_unused = true;
+                Ok(())
+            }
         }
-        self.serve(rt.alloc(), named.prefix, plan, errors)
     }
 
     // What is measured by the files as they are now. None if one is no regular file, or if they are
