@@ -119,6 +119,18 @@ def report_each(desk):
          said="the run has no such metric")
 
 
+def try_argo_of_many_files(world):
+    """However many files the words name, each template in them is sent."""
+    with world.desk("argo-of-many-files") as desk:
+        names = [f"t{number}" for number in range(1, 8)]
+        files = [desk.write(f"{name}.json", {
+            "kind": "AnalysisTemplate", "metadata": {"name": name},
+            "spec": {"metrics": [{"name": "m", "successCondition": "result > 1"}]}})
+            for name in names]
+        want("seven files", desk.do("template", *files, options=ARGO), DONE, registered(*names))
+        want_delivered("argo of many files", desk)
+
+
 def try_argo_once(world):
     """With a key a second call sends nothing, and needs no desk; another manifest under it is a
     contradiction."""

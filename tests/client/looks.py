@@ -52,6 +52,19 @@ def try_due_of_services(world):
                     DONE if output else REFUSED, output)
 
 
+def try_due_of_a_missing_one(world):
+    """A call that waits goes on beside a service that the desk does not have, and names that once,
+    however often it looks."""
+    place = world.place("due-of-a-missing-one")
+    missing = reply(404, body_with(code="unknown-service"), JSON)
+    waits = [missing, service_with(), run_with(due=None)]
+    with serving(*waits, *waits, missing, service_with(), run_with()) as port:
+        found = world.run(["due", "--desk", f"127.0.0.1:{port}", "--wait", "--timeout", "60",
+                           "none", "web"], place)
+    expect("a missing one", (found.status, found.output, found.errors),
+           (DONE, "web 1 m 3\n", "canary: there is no such service: none\n"))
+
+
 def try_held_and_paused(world):
     """A release that is held is Paused, too: if both are waited for, the status is that of Held."""
     place = world.place("held-and-paused")
@@ -80,6 +93,18 @@ def try_another_run(world):
              "web Progressing, step 1, weight 20%, analysis run 1\n"
              "web Progressing, step 1, weight 20%, analysis run 2\n"
              "web Healthy, step 1, weight 20%\n")
+
+
+def try_another_hold(world):
+    """A service that is Paused as before, but is held now, stands otherwise."""
+    place = world.place("another-hold")
+    history = body_with(code="ok", lines=["2026-01-01T00:00:00Z step 1 pause"])
+    with serving(reply(200, body_with(**STANDING), JSON), reply(200, history, JSON),
+                 reply(200, body_with(**{**STANDING, "hold": "background"}), JSON)) as port:
+        want("another hold", world.run(["watch", "--desk", f"127.0.0.1:{port}", "--timeout", "20",
+                                        "--until", "Held", "web"], place), HELD,
+             "web Paused, step 1, weight 20%, waits for a promotion\n"
+             "web Paused, step 1, weight 20%, held: the background is Inconclusive\n")
 
 
 def of_metric(name, phase, is_dry=False, **counts):

@@ -28,8 +28,8 @@ pub struct Sought {
 /// the metric's label, or on a terminal its name as people read it. With more than one service the
 /// line begins with the service; of late ones it does too, and ends with the moment since which the
 /// measurement is due. If there is none, a call that waits goes on until there is one or no run is
-/// open, and else it ends with `Refused`. If the desk has no such service, `errors` names it, and
-/// the call goes on with the next one.
+/// open, and else it ends with `Refused`. If the desk has no such service, `errors` names it once,
+/// and the call goes on with the next one.
 pub fn due<W: Write, F: Write>(
     rt: &HostRuntime,
     desk: &AskedDesk,
@@ -63,6 +63,7 @@ fn try_due<W: Write, F: Write>(
         late: sought.late,
         is_named: sought.late.is_some() || services.as_slice().len() > 1,
         is_terminal,
+        is_first: true,
     };
     if !sought.waits {
         let mut network = Tcp::new(rt, &place);
@@ -88,12 +89,13 @@ fn look_until<W: Write, F: Write>(
     output: &mut W,
     errors: &mut F,
 ) -> Result<ClientExit, Stop> {
-    let mut network = network;
+    let (mut network, mut look) = (network, look);
     for _ in 0..u64::MAX {
         match look.at_services(&mut network, words, output, errors)? {
             DueState::NothingDue => call.go_on(rt)?,
             found => return Ok(outcome_of(found)),
         }
+        look.is_first = false;
     }
     Err(Stop::TimeOut)
 }
@@ -144,6 +146,8 @@ struct DueScan {
     late: Option<u64>,
     is_named: bool,
     is_terminal: bool,
+    // Whether this look is the first one of the call.
+    is_first: bool,
 }
 
 impl DueScan {
@@ -159,11 +163,21 @@ impl DueScan {
         for word in words {
             match self.at_service(network, service_of(word)?, output) {
                 Ok(more) => found = found.with(more),
-                Err(Stop::NoService) if words.len() > 1 => missing(self.alloc, word, errors)?,
+                Err(Stop::NoService) if words.len() > 1 => self.missing(word, errors)?,
                 Err(stop) => return Err(stop),
             }
         }
         Ok(found)
+    }
+
+    // Says that the desk has no service of this name, unless an earlier look said so.
+    fn missing<F: Write>(&self, word: &Text, errors: &mut F) -> Result<(), Stop> {
+        if self.is_first {
+            let word = word.as_str();
+            let sentence = format!(in self.alloc; "there is no such service: {word}")?;
+            say(errors, sentence.as_str());
+        }
+        Ok(())
     }
 
     // Shows what is sought of a service's open runs; `ReplyUnread` if the reply is no service's.
@@ -296,14 +310,6 @@ impl DueScan {
         write!(line, "{run} {metric} {ordinal}")?;
         Ok(())
     }
-}
-
-// Says that the desk has no service of this name.
-fn missing<F: Write>(alloc: Global, word: &Text, errors: &mut F) -> Result<(), Stop> {
-    let word = word.as_str();
-    let sentence = format!(in alloc; "there is no such service: {word}")?;
-    say(errors, sentence.as_str());
-    Ok(())
 }
 
 // The next measurement of a metric, and since when it is due.
