@@ -255,6 +255,36 @@ def try_twenty(program, folder):
             fail(f"{count} services: an index: {bool(root.first('nav'))}")
 
 
+def try_days(program, folder):
+    """A moment has its date if it is more than a day away: since when a measurement is due, or a
+    service waits, and until when it pauses."""
+    late = "  late Late: measurement 1 of errors, run 1 of the background, due since"
+    want_lines(program, folder, stories.days, ("  late", "  waits"), [
+        "  waits Waits for a promotion, since 01:02:03 (24 h).",
+        f"{late} 01:02:03 (24 h).",
+        "  waits Waits for a promotion, since 2222-01-04T01:02:03Z (36 h).",
+        f"{late} 2222-01-04T01:02:03Z (36 h).",
+        "  waits Waits for a promotion, since 2222-01-07T13:02:03Z (36 h).",
+        "  waits Pauses for 96h, until 2222-01-10T13:02:03Z."])
+
+
+def try_between(program, folder):
+    """An attempt that ended is drawn, although the one after it had no run."""
+    want_lines(program, folder, stories.between, ("  ended",), [
+        "  ended Attempt of v2, begun 2222-01-01T00:00:20Z, aborted by a command "
+        "2222-01-01T00:00:40Z; 1 run, 1 without a measurement"])
+
+
+def want_lines(program, folder, story, fronts, wanted):
+    """The lines of the outline of a story's page that begin with one of these."""
+    file = os.path.join(folder, f"{story.__name__}.db")
+    make_desk(program, file, story.__name__, story())
+    root = look(run([program, "page", "--db", file, "-"], story.__name__), story.__name__)
+    told = [line for line in outline(root) if line.startswith(fronts)]
+    if told != wanted:
+        fail(f"{story.__name__}: {told}")
+
+
 def at_second(moment):
     return time.strftime("%H:%M:%S", time.gmtime(moment))
 
@@ -375,6 +405,8 @@ def main(program, folder, names):
         try_many(program, folder)
         try_twenty(program, folder)
         try_silence(program, folder)
+        try_days(program, folder)
+        try_between(program, folder)
         try_watch(program, folder)
         try_faults(program, folder)
         try_textfile(program, folder)

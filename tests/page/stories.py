@@ -310,6 +310,40 @@ def ended():
     return desk
 
 
+def days():
+    """A measurement that has been due for a day, and one that has been for a day and a half; a
+    pause of four days, and one that has waited for a day and a half."""
+    desk = Desk(step=43200, at=AT + 3723)
+    desk.template("errors", metric("errors", interval="10s"))
+    background = {"templates": [{"templateName": "errors"}]}
+    for name, ticks in (("aa-day", 2), ("bb-more", 3)):
+        desk.service(name, "v1", [weight(30), pause()], background)
+        desk.start(name, "v2")
+        for _ in range(ticks):
+            desk.command("tick", name)
+    desk.service("cc-ends", "v1", [weight(30), pause("96h")])
+    desk.start("cc-ends", "v2")
+    desk.service("dd-waits", "v1", [weight(30), pause()])
+    desk.start("dd-waits", "v2")
+    for _ in range(3):
+        desk.command("tick", "dd-waits")
+    return desk
+
+
+def between():
+    """Three attempts, of which the second one was aborted before it had a run."""
+    desk = Desk()
+    desk.template("smoke", metric("probe", count=3))
+    desk.service("web", "v1", [weight(30), pause(), analysis("smoke")])
+    desk.start("web", "v2")
+    desk.command("promote", "web")
+    desk.command("abort", "web")
+    desk.start("web", "v3")
+    desk.command("abort", "web")
+    desk.start("web", "v4")
+    return desk
+
+
 def many():
     """200 services, of which 40 wait: 10 aborted, 10 held, 10 late, 10 at a pause with no end."""
     desk = Desk(step=1)

@@ -20,9 +20,20 @@ pub(crate) fn stamp(page: &mut Markup, moment: Moment) {
     page.end(Element::Time);
 }
 
-// The time of the day, in UTC, or the whole moment if that is more than a day ago.
+// The time of the day, in UTC, or the whole moment if that is more than a day away.
 pub(crate) fn near(page: &mut Markup, moment: Moment, now: Moment) {
-    if now.get().saturating_sub(moment.get()) > DAY {
+    dated(page, moment, is_far(moment, now));
+}
+
+// Whether a moment is more than a day away.
+pub(crate) fn is_far(moment: Moment, now: Moment) -> bool {
+    let (at, now) = (moment.get(), now.get());
+    now.saturating_sub(at) > DAY || at.saturating_sub(now) > DAY
+}
+
+// The time of the day, in UTC, or with a date the whole moment.
+pub(crate) fn dated(page: &mut Markup, moment: Moment, has_date: bool) {
+    if has_date {
         page.moment(moment);
     } else {
         clock(page, moment);

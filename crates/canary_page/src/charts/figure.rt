@@ -6,7 +6,7 @@ use crate::charts::plot::{Frame, axis, curve, outcome, points, thresholds};
 use crate::charts::spot::{Spot, number_text, spot_text};
 use crate::charts::thresholds::Threshold;
 use crate::parts::late::{due_of, late_since};
-use crate::time::clock;
+use crate::time::near;
 use crate::words::metric_name;
 use canary_base::lists::Text;
 use canary_base::moments::Moment;
@@ -138,7 +138,7 @@ fn last_value(page: &mut Markup, shown: &MetricFigure<'_>) {
     match shown.chart.points().last() {
         Some(point) => {
             page.text("Last, ");
-            clock(page, point.taken);
+            near(page, point.taken, shown.now);
             page.text(", ");
             page.text(point.phase.text());
             page.text(": ");
@@ -340,7 +340,7 @@ fn due(page: &mut Markup, shown: &MetricFigure<'_>) {
         return;
     };
     page.text(", due ");
-    clock(page, due);
+    near(page, due, shown.now);
     if late_since(metric, tally, shown.started, shown.now).is_some() {
         page.text(", late");
     }

@@ -4,7 +4,7 @@ use crate::charts::conditions::Conditions;
 use crate::charts::figure::{MetricFigure, badge, figure};
 use crate::parts::attempts::Attempt;
 use crate::shown::{ShownRun, ShownService};
-use crate::time::clock;
+use crate::time::{dated, is_far};
 use canary_base::moments::Moment;
 use canary_metric::metric::Metric;
 use canary_metric::tally::Tally;
@@ -26,7 +26,7 @@ pub(crate) fn runs_of(page: &mut Markup, shown: &ShownService, attempt: &Attempt
 // Draws a run, with a figure for each of its metrics.
 fn draw_run(page: &mut Markup, run: &ShownRun, now: Moment) {
     page.open(Element::Section, "run");
-    heading(page, run);
+    heading(page, run, now);
     page.open(Element::Block, "metrics");
     figures(page, run, now);
     page.end(Element::Block);
@@ -34,7 +34,7 @@ fn draw_run(page: &mut Markup, run: &ShownRun, now: Moment) {
 }
 
 // Draws the heading of a run: its number, its analysis, when it was open, and its phase.
-fn heading(page: &mut Markup, run: &ShownRun) {
+fn heading(page: &mut Markup, run: &ShownRun, now: Moment) {
     page.begin(Element::Heading3);
     page.text("Run ");
     page.number(u64::from(run.record.number));
@@ -45,8 +45,9 @@ fn heading(page: &mut Markup, run: &ShownRun) {
         template(page, *revision);
     }
     page.text(", ");
-    clock(page, run.record.started);
-    end(page, run);
+    let has_date = is_far(run.record.started, now);
+    dated(page, run.record.started, has_date);
+    end(page, run, has_date);
     page.end(Element::Small);
     page.text(" ");
     badge(page, run.phase().text());
@@ -76,12 +77,13 @@ fn template(page: &mut Markup, revision: Revision) {
     page.number(u64::from(revision.number));
 }
 
-// Draws when a run was closed, and whether from outside; or that it is open.
-fn end(page: &mut Markup, run: &ShownRun) {
+// Draws when a run was closed, with a date if its beginning has one, and whether from outside; or
+// that it is open.
+fn end(page: &mut Markup, run: &ShownRun, has_date: bool) {
     match run.record.closed {
         Some(closing) => {
             page.text(" to ");
-            clock(page, closing.at);
+            dated(page, closing.at, has_date);
             if closing.outside {
                 page.text(", ended from outside");
             }

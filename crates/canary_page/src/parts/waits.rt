@@ -2,7 +2,7 @@
 use crate::charts::figure::counted;
 use crate::parts::late::late_since;
 use crate::shown::{AttentionLevel, ShownService, step_of};
-use crate::time::{clock, near, since, span};
+use crate::time::{near, since, span};
 use crate::words::metric_name;
 use canary_base::durations::Seconds;
 use canary_base::moments::Moment;
@@ -89,7 +89,7 @@ fn say_in_progress(page: &mut Markup, service: &Service) {
 // Since when a release is at a pause without an end, and what can be said to it.
 fn at_pause(page: &mut Markup, service: &Service, now: Moment) {
     page.text("Waits for a promotion, since ");
-    clock(page, service.entered());
+    near(page, service.entered(), now);
     page.text(" (");
     since(page, service.entered(), now);
     page.text(").");
@@ -99,19 +99,19 @@ fn at_pause(page: &mut Markup, service: &Service, now: Moment) {
 // What goes on by itself: a pause with an end, or else an analysis.
 fn goes(page: &mut Markup, service: &Service, now: Moment) {
     match step_of(service) {
-        Some(Step::Pause(Some(seconds))) => pauses(page, service, *seconds),
+        Some(Step::Pause(Some(seconds))) => pauses(page, service, *seconds, now),
         _ => analysed(page, service, now),
     }
 }
 
 // How long a pause is, and when it ends, if that is a moment.
-fn pauses(page: &mut Markup, service: &Service, seconds: Seconds) {
+fn pauses(page: &mut Markup, service: &Service, seconds: Seconds, now: Moment) {
     let seconds = u64::from(seconds.get());
     page.text("Pauses for ");
     span(page, seconds);
     if let Some(end) = Moment::new(service.entered().get().saturating_add(seconds)) {
         page.text(", until ");
-        clock(page, end);
+        near(page, end, now);
     }
     page.text(".");
     say_in_progress(page, service);
@@ -120,7 +120,7 @@ fn pauses(page: &mut Markup, service: &Service, seconds: Seconds) {
 // Since when an analysis goes on, and the command that aborts it: there is no pause to end.
 fn analysed(page: &mut Markup, service: &Service, now: Moment) {
     page.text("Is analysed, since ");
-    clock(page, service.entered());
+    near(page, service.entered(), now);
     page.text(" (");
     since(page, service.entered(), now);
     page.text(").");
