@@ -202,10 +202,11 @@ class Case:
         if moments[0] > 2 * STEP or min(gaps) < BETWEEN or max(gaps[:count - 1]) > 2 * BETWEEN:
             raise Wrong(f"{self.row}: lines at {moments}, of which {count} count what is read")
 
-    def try_quick(self):
-        """No line of what takes less than a second."""
-        self.run(SERVE, step=QUICK)
-        expect(f"{self.row}: its lines", [call for call in self.calls() if call[0] == 2], [])
+    def try_quick(self, *words):
+        """No line in the first second."""
+        self.run(words, step=QUICK)
+        early = [call for call in self.calls() if call[0] == 2 and call[1] < BETWEEN]
+        expect(f"{self.row}: its lines", early, [])
 
     def try_closed(self):
         """With standard error closed."""
@@ -245,7 +246,9 @@ def try_all(case):
     case("status of a large desk").try_large("status", *db)
     for words in (SERVE, ["status", *db], ["migrate", *db]):
         case(f"{words[0]} of a desk that is checked").with_check().try_checked(*words)
-    case("a quick desk").try_quick()
+    case("a quick desk").try_quick(*SERVE)
+    case("a quick import").try_quick("import", *db, "rows.csv")
+    case("a quick page").try_quick("page", *db, "out.html")
     for at in ("", " as a file is checked"):
         for row, trial in (("closed", Case.try_closed), ("full", Case.try_unread),
                            ("left", Case.try_left)):

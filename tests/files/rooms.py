@@ -157,11 +157,15 @@ def try_services(program, folder):
 
 def try_room(program, folder, row, sent, told=ACCEPTED):
     """What a desk keeps of these takes no more than twice the room, which is an estimate. All of it
-    would take more than three times the room."""
-    nothing, kept = (memory_with(program, folder, sent, ["--cache", room], told)
-                     for room in ("1", str(ROOM)))
-    print(f"files: {row}: {kept - nothing} bytes of memory more in a room of {ROOM}",
-          file=sys.stderr)
+    would take more than three times the room. Without room, a desk takes no more for all of it than
+    for the first tenth: what had no weight would be kept there, too."""
+    tenth = sent[:len(sent) // 10]
+    few, nothing, kept = (memory_with(program, folder, asked, ["--cache", room], told)
+                          for asked, room in ((tenth, "1"), (sent, "1"), (sent, str(ROOM))))
+    print(f"files: {row}: {kept - nothing} bytes of memory more in a room of {ROOM}, and without "
+          f"room {nothing - few} more than for a tenth", file=sys.stderr)
+    if nothing - few > ROOM:
+        raise Wrong(f"{row}: a desk without room keeps them: {few}, {nothing}")
     if kept - nothing > 2 * ROOM:
         raise Wrong(f"{row}: a desk keeps more than --cache says: {nothing}, {kept}")
 
