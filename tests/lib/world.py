@@ -148,10 +148,12 @@ class World:
 
 
 class Desk:
-    """A desk on a file."""
+    """A desk on a file. Its port is its own also while it is killed: no server of another part, to
+    which its clients would then send, is given it."""
 
-    def __init__(self, world, folder, port=0):
-        self.world, self.folder, self.port, self.process = world, folder, port, None
+    def __init__(self, world, folder, port=None):
+        self.world, self.folder, self.process = world, folder, None
+        self.port = port or free_port()
         self.start()
 
     def start(self, front=()):
@@ -161,9 +163,8 @@ class Desk:
                                         stdout=subprocess.PIPE, stderr=subprocess.DEVNULL)
         running.add(self.process)
         told = self.process.stdout.readline().decode()
-        if not told.startswith("listening 127.0.0.1:"):
+        if told != f"listening 127.0.0.1:{self.port}\n":
             raise Wrong(f"the desk does not listen: {told!r}")
-        self.port = int(told.rsplit(":", 1)[1])
 
     def kill(self):
         if self.process is not None:
@@ -344,11 +345,15 @@ def answering(answer):
             except OSError:
                 pass
 
-    threading.Thread(target=serve, daemon=True).start()
+    serving = threading.Thread(target=serve, daemon=True)
+    serving.start()
     try:
         yield server.getsockname()[1]
     finally:
         is_over.set()
+        # Closed alone, it would listen on as long as the thread waits for a client.
+        server.shutdown(socket.SHUT_RDWR)
+        serving.join()
         server.close()
 
 
