@@ -325,8 +325,9 @@ def ask(port, message):
 
 @contextlib.contextmanager
 def answering(answer):
-    """A server whose each connection the function `answer` gets. Its port."""
-    server = socket.create_server(("127.0.0.1", 0), backlog=64)
+    """A server whose each connection the function `answer` gets. Its port, which nobody is given
+    afterwards."""
+    server = socket.create_server(("127.0.0.1", free_port()), backlog=64)
     is_over = threading.Event()
 
     def serve():
