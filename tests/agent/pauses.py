@@ -9,8 +9,8 @@ from world import Wrong, answering
 
 # How many times as fast the clock of an agent is.
 FASTER = 40
-# How many tries are seen. The last two pauses would be 128 and 256 seconds without a limit.
-TRIES = 10
+# How many tries are seen. The last four pauses would be 128 to 1,024 seconds without a limit.
+TRIES = 12
 # The seconds by such a clock before the same trouble is said again.
 TEN_MINUTES = 600
 BROKEN = "web: this file is no whole journal"
@@ -22,11 +22,11 @@ def try_pauses(world):
     with desk_for(world, "pauses", *services(1, "web")) as desk, \
             answering(lambda _: moments.append(time.monotonic())) as port:
         agent = Hindered(desk, library, faster=FASTER, port=port)
-        wait_until(f"{TRIES} tries", lambda: len(moments) >= TRIES or agent.must_run(), 40)
+        wait_until(f"{TRIES} tries", lambda: len(moments) >= TRIES or agent.must_run())
         agent.kill()
         pauses = [after - before for before, after in zip(moments, moments[1:])]
-        # the agent may wake a second after its time
-        if max(pauses[:TRIES - 1]) > 30 / FASTER + 1 + world.slowness:
+        # the agent may wake a second after its time, and two pauses be longer on a busy machine
+        if sorted(pauses[:TRIES - 1])[-3] > 30 / FASTER + 1 + world.slowness:
             raise Wrong(f"it tried again after {pauses} seconds")
 
 
@@ -36,11 +36,11 @@ def try_said_again(world):
     with desk_for(world, "said-again", *services(1, "web")) as desk:
         (desk.folder / "journals").mkdir()
         plant_journal(desk, "another file")
+        # from before it is said first: seen later, it would seem to be said again too soon
+        begun = time.monotonic()
         agent = Hindered(desk, library, faster=faster)
-        agent.wait_said(BROKEN)
-        said = time.monotonic()
-        agent.wait_said(BROKEN, 2, 15)
-        took = time.monotonic() - said
+        agent.wait_said(BROKEN, 2)
+        took = time.monotonic() - begun
         agent.kill()
-        if took < TEN_MINUTES / faster - .5:
+        if took < TEN_MINUTES / faster:
             raise Wrong(f"said again after {took * faster} seconds")
