@@ -29,6 +29,18 @@ def wait_until(row, is_so, seconds=60):
         time.sleep(.1)
 
 
+def want_rest(row, count, seconds=2):
+    """A count grows no more: soon it is the same for so many seconds."""
+    known = [count(), time.monotonic()]
+
+    def is_at_rest():
+        if (found := count()) != known[0]:
+            known[:] = found, time.monotonic()
+        return time.monotonic() - known[1] > seconds
+
+    wait_until(row, is_at_rest, 30)
+
+
 # ---- manifests
 
 def metric(name, provider, **more):
@@ -142,13 +154,28 @@ def outcome_of(text):
 def rows_of(desk, statement):
     """Rows of the desk's tables, out of a copy of its file and its log."""
     copy = desk.folder / f"copy-{threading.get_ident()}.db"
-    for ending in ("", "-wal"):
-        shutil.copy(desk.folder / f"desk.db{ending}", f"{copy}{ending}")
+    while not is_copied(desk, copy):
+        pass
     with contextlib.closing(sqlite3.connect(copy)) as opened:
         found = opened.execute(statement).fetchall()
     for file in desk.folder.glob(f"{copy.name}*"):
         file.unlink()
     return found
+
+
+def is_copied(desk, copy):
+    """Copies a desk's file and its log. Whether they belong together: the log has not begun anew
+    meanwhile, as it does once it is in the file."""
+    begun = begin_of_log(desk)
+    for ending in ("", "-wal"):
+        shutil.copy(desk.folder / f"desk.db{ending}", f"{copy}{ending}")
+    return begin_of_log(desk) == begun
+
+
+def begin_of_log(desk):
+    """The head of the log of a desk's file, which says how often the log has begun."""
+    with open(desk.folder / "desk.db-wal", "rb") as log:
+        return log.read(32)
 
 
 def services_measured(desk):
@@ -162,13 +189,13 @@ def count_measured(desk, name="web", run=1):
     return {each["name"]: each["measurements"] for each in found["metrics"]} if found else {}
 
 
-def wait_measured(desk, count, name="web", run=1, seconds=30):
+def wait_measured(desk, count, name="web", run=1, seconds=60):
     """Waits until each metric of a run has so many measurements."""
     wait_until(f"{name} has {count} measurements",
                lambda: min(count_measured(desk, name, run).values(), default=0) >= count, seconds)
 
 
-def wait_status(desk, wanted, name="web", seconds=30):
+def wait_status(desk, wanted, name="web", seconds=60):
     wait_until(f"{name} is {wanted}", lambda: status(desk, name) == wanted, seconds)
 
 
@@ -196,6 +223,11 @@ def agent_words(desk, *files, journals="journals", options=(), port=None):
     where = ["--journals", str(desk.folder / journals)] if journals else []
     return ["agent", "--desk", f"127.0.0.1:{port or desk.port}", *where, *options, "--",
             *(files or ("manifests.json",))]
+
+
+def but_late(errors):
+    """What an agent said, but for measurements that are late, as they may be on a busy machine."""
+    return "".join(line for line in errors.splitlines(keepends=True) if "late by" not in line)
 
 
 class Agent:
@@ -228,7 +260,7 @@ class Agent:
     def errors(self):
         return self.said.read_text(encoding="utf-8", errors="surrogateescape")
 
-    def wait_said(self, text, count=1, seconds=20):
+    def wait_said(self, text, count=1, seconds=60):
         """Waits until it has said a text so often on standard error."""
         wait_until(f"it says {text!r}", lambda: self.errors().count(text) >= count
                    or self.must_run(), seconds)

@@ -12,8 +12,8 @@ import sys
 import time
 
 from agents import (
-    Agent, agent_of, agent_words, beside, count_measured, desk_for, journals_of, listed, measured,
-    measured_beside, metric, of_web, provider, reply, run_agent, template, wait_measured,
+    Agent, agent_of, agent_words, beside, but_late, count_measured, desk_for, journals_of, listed,
+    measured, measured_beside, metric, of_web, provider, reply, run_agent, template, wait_measured,
     wait_until, want_once, want_reported)
 from journal_rule import journal_of, line_of
 from world import (
@@ -28,10 +28,10 @@ NO_DEADLINE = ("the desk ignores it, and has no deadline: have a job look for la
 NOBODY = 65534
 
 
-def services(port, *names):
+def services(port, *names, interval="1s"):
     """Manifests of services whose metric is 0.25 by a server."""
-    return [template("of", metric("m", of_web(port), successCondition="result < 1")),
-            *(measured_beside(name, "of") for name in names)]
+    one = metric("m", of_web(port), interval=interval, successCondition="result < 1")
+    return [template("of", one), *(measured_beside(name, "of") for name in names)]
 
 
 def measuring(function):
@@ -54,7 +54,7 @@ def try_statuses(world, server):
     with desk_for(world, "statuses", *services(server.port, "web")) as desk:
         for row in range(2):
             ended = run_agent(desk, options=ONCE)
-            expect(f"done {row}", (ended.status, ended.errors), (DONE, ""))
+            expect(f"done {row}", (ended.status, but_late(ended.errors)), (DONE, ""))
             time.sleep(1.1)
         expect("measured each time", len(measured(desk)), 2)
         ended = run_agent(desk, journals=None, options=ONCE)
@@ -91,12 +91,12 @@ def want_warned(desk, port):
             f"items[1].spec.progressDeadlineSeconds: {NO_DEADLINE}\n")
     for options in (ONCE, ("--dry-run",)):
         ended = run_agent(desk, "warned.json", options=options)
-        expect(f"warned: {options}", (ended.status, ended.errors), (DONE, line))
+        expect(f"warned: {options}", (ended.status, but_late(ended.errors)), (DONE, line))
     with agent_of(desk, "warned.json") as agent:
-        wait_until("warned", lambda: agent.errors() == line)
+        wait_until("warned", lambda: but_late(agent.errors()) == line)
         desk.write("next.json", text.replace("600", "700"))
         os.replace(desk.folder / "next.json", desk.folder / "warned.json")
-        wait_until("warned again, once changed", lambda: agent.errors() == line * 2)
+        wait_until("warned again, once changed", lambda: but_late(agent.errors()) == line * 2)
 
 
 def want_words(desk):
@@ -156,8 +156,8 @@ def want_journal(world, port, row, status, said):
         expect(f"{row}: {ended.errors}", ended.status, status)
         if said and said.split(". ")[0] not in ended.errors:
             raise Wrong(f"{row}: {ended.errors!r}")
-        expect(f"{row}: measured", [each.service for each in measured(desk, "web", "other")],
-               ["web", "other"] if row == "link" else ["other"])
+        expect(f"{row}: measured", sorted(each.service for each in measured(desk, "web", "other")),
+               ["other", "web"] if row == "link" else ["other"])
         if row != "link":
             after = path.read_bytes() if path.is_file() else os.lstat(path).st_mode
             # what the desk has not settled so far is asked, and stays pending
@@ -176,7 +176,7 @@ def want_repaired(desk, path, row):
         lines = [line for line in agent.errors().splitlines() if "web:" in line]
         expect(f"{row}: said {lines}", len(lines), 1)
         path.rmdir() if path.is_dir() else path.unlink()
-        wait_measured(desk, 1, "web", seconds=12)
+        wait_measured(desk, 1, "web")
 
 
 @measuring
@@ -225,7 +225,7 @@ def try_two_agents(world, server):
             wait_measured(desk, before + 2)
             expect("the second shows", two.lines(), [])
             one.kill()
-            wait_until("the second takes over", two.lines, 35)
+            wait_until("the second takes over", two.lines)
         want_once("one folder", measured(desk))
         want_reported("one folder", desk, measured(desk))
     with desk_for(world, "two-folders", *services(server.port, "web")) as desk:
@@ -270,7 +270,7 @@ def want_health(world, port, row):
             wait_measured(desk, 2)
             if row in ("new", "there"):
                 want_touched(path, row)
-                expect(f"{row}: its errors", agent.errors(), "")
+                expect(f"{row}: its errors", but_late(agent.errors()), "")
                 return
             time.sleep(2.5)
             lines = [line for line in agent.errors().splitlines() if "health" in line]
@@ -291,10 +291,10 @@ def want_untouched_again(desk, agent, path):
     desk.write("regular", "")
     os.utime(desk.folder / "regular", (1, 1))
     os.replace(desk.folder / "regular", path)
-    wait_until("a file is touched", lambda: path.stat().st_mtime > 1, 8)
+    wait_until("a file is touched", lambda: path.stat().st_mtime > 1)
     os.mkfifo(desk.folder / "fifo")
     os.replace(desk.folder / "fifo", path)
-    agent.wait_said("cannot be touched", 2, 8)
+    agent.wait_said("cannot be touched", 2)
 
 
 @measuring
@@ -315,7 +315,7 @@ def try_health_race(world, server):
                 os.rename(desk.folder / "regular", path)
                 time.sleep(1.2)
             before = count_measured(desk)["m.e6"]
-            wait_measured(desk, before + 2, seconds=15)
+            wait_measured(desk, before + 2)
         if "openat" not in (desk.folder / "calls").read_text(encoding="utf-8"):
             raise Wrong("the file was not opened")
 
@@ -335,11 +335,21 @@ def slowed(agent, path, log):
 
 
 def want_touched(path, row):
-    before = path.stat().st_mtime
-    time.sleep(2.2)
-    after = path.stat().st_mtime
-    if after - before < 1 or abs(time.time() - after) > 3:
-        raise Wrong(f"{row}: touched at {before} and {after}")
+    """A file is touched each second: of the times between four moments at which it is, a busy
+    machine does not make each one longer. Each moment is that at which it is seen."""
+    moments = [path.stat().st_mtime]
+
+    def is_touched():
+        found = path.stat().st_mtime
+        if found != moments[-1]:
+            moments.append(found)
+            if abs(time.time() - found) > 10:
+                raise Wrong(f"{row}: touched at {found}, as it is {time.time()}")
+        return len(moments) > 3
+
+    wait_until(f"{row}: touched", is_touched)
+    if min(after - before for before, after in zip(moments, moments[1:])) > 1.5:
+        raise Wrong(f"{row}: touched at {moments}")
     expect(f"{row}: what it holds", path.read_text(encoding="utf-8"),
            "content" if row == "there" else "")
     if row == "new":
@@ -370,10 +380,10 @@ def try_sigterm(world, server):
             come = []
             with losing(desk, come, is_passed) as port:
                 agent = Agent(desk, port=port, options=("--timeout", "1"))
-                wait_until("a report", lambda: come, 10)
+                wait_until("a report", lambda: come)
                 time.sleep(1)
                 agent.signal(signal.SIGTERM)
-                expect(f"{row}: its end", agent.process.wait(2), -signal.SIGTERM)
+                expect(f"{row}: its end", agent.process.wait(20), -signal.SIGTERM)
             pending = journals_of(desk)["agent-web"].pending
             if pending is None:
                 raise Wrong(f"{row}: nothing is pending")
@@ -398,7 +408,7 @@ def try_dry_run(world, server):
     """--dry-run sends queries alone, makes no folder and no journal, needs none, and shows what it
     would ask and report."""
     methods = []
-    with desk_for(world, "dry-run", *services(server.port, "web")) as desk:
+    with desk_for(world, "dry-run", *services(server.port, "web", interval="20s")) as desk:
         def answer(client):
             message = client.recv(65536)
             methods.append(message.split(b" ")[0])
@@ -407,7 +417,8 @@ def try_dry_run(world, server):
         with answering(answer) as port:
             for journals in ("journals", None):
                 ended = run_agent(desk, port=port, journals=journals, options=("--dry-run",))
-                expect(f"its end: {ended.errors}", (ended.status, ended.errors), (DONE, ""))
+                found = (ended.status, but_late(ended.errors))
+                expect(f"its end: {ended.errors}", found, (DONE, ""))
                 want_dry(server, ended.output)
         expect("what was sent", set(methods), {b"GET"})
         expect("the desk", desk.rows("SELECT * FROM kept"), before)
@@ -419,7 +430,7 @@ def want_dry(server, output):
     asks, reports = map(json.loads, output.splitlines())
     expect("what is asked", asks, {"ask": "GET /", "metric": "m.e6", "service": "web",
                                    "of": f"127.0.0.1:{server.port}"})
-    if not abs(reports.pop("taken") - time.time()) < 5:
+    if not abs(reports.pop("taken") - time.time()) < 60:
         raise Wrong("a moment that is far")
     expect("what is reported", reports, {"metric": "m.e6", "ordinal": 1, "result": 250000, "run": 1,
                                          "service": "web"})
@@ -449,7 +460,7 @@ def try_full_disk(world, server):
             raise Wrong(f"{len(server.asked) - asked} messages in 12 seconds")
         count = count_measured(desk)["m.e6"]
         resource.prlimit(agent.process.pid, resource.RLIMIT_FSIZE, before)
-        wait_measured(desk, count + 3, seconds=40)
+        wait_measured(desk, count + 3, seconds=80)
         want_once("full disk", measured(desk))
         want_reported("full disk", desk, measured(desk))
 
