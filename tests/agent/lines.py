@@ -54,8 +54,8 @@ def manifests_of(rows, port, interval="2s"):
         made += [template(name, metric("m", interval=interval, **of_other if condition
                                        else {"provider": JOB})),
                  measured_beside(name, name)]
-    return [*made, template("asked", metric("m", of_web(port), successCondition="result < 1")),
-            measured_beside("asked", "asked")]
+    asked = metric("m", of_web(port), interval="2s", successCondition="result < 1")
+    return [*made, template("asked", asked), measured_beside("asked", "asked")]
 
 
 def reported_of(desk, name):
@@ -102,14 +102,14 @@ def want_values(world, source):
             time.sleep(.8)
         for row, _, text, wanted in SAID:
             wait_until(f"{row} is reported", lambda row=row: reported_of(desk, row)
-                       or agent.must_run(), 8)
+                       or agent.must_run())
             expect(f"{name}: {row} {text}", set(reported_of(desk, row)), {wanted})
+        wait_until("the one that is asked is measured meanwhile",
+                   lambda: len(measured(desk, "asked")) > 1 or agent.must_run())
         found = measured(desk, *(row[0] for row in SAID), "asked")
         want_once(name, found)
         if any("no value" not in each.failure for each in found if each.failure):
             raise Wrong(f"{name}: failures: {[each for each in found if each.failure]}")
-        if len([each for each in found if each.service == "asked"]) < 2:
-            raise Wrong("the one that is asked was not measured meanwhile")
         expect(f"{name}: its end is said", "ended" in agent.errors(), False)
 
 
@@ -122,12 +122,13 @@ def try_values(world):
 
 def try_value_before(world):
     """A value that comes between two measurements is reported for the next one."""
-    with reading(world, "value-before", SAID[:1], "-", interval="4s") as (desk, agent, write):
-        for count, value in enumerate((b"0.1", b"0.2"), 1):
+    with reading(world, "value-before", SAID[:1], "-", interval="8s") as (desk, agent, write):
+        for count, value in enumerate((b"0.1", b"0.2")):
+            # far from the measurement before it, and from the one that is due then
+            time.sleep(3 * count)
             write(b"one m %s\n" % value)
-            wait_until(f"measurement {count}", lambda count=count:
-                       len(measured(desk, "one")) >= count or agent.must_run(), 15)
-            time.sleep(.6)
+            wait_until(f"measurement {count + 1}", lambda count=count:
+                       len(measured(desk, "one")) > count or agent.must_run())
         expect("what is measured", [each.result or each.failure
                                     for each in measured(desk, "one")], ["100000", "200000"])
 
@@ -145,7 +146,7 @@ def try_jobs(world):
             time.sleep(.8)
         for name, text, result, says in OF_JOBS:
             wait_until(f"{name} is reported", lambda name=name: said_of(name) or agent.must_run(),
-                       8)
+                       30)
             found = said_of(name)
             if any(each != result if result else says not in each for each in found):
                 raise Wrong(f"{name} {text}: {found} in place of {result or says}")
@@ -156,9 +157,9 @@ def try_no_values(world):
     """Without a line a measurement is a failure in time. A later line takes the place of an earlier
     one, and each is reported once. The input's end is said once."""
     with reading(world, "no-values", SAID[:1], "-") as (desk, agent, write):
-        wait_until("a failure", lambda: any(each.failure for each in measured(desk, "one")), 10)
+        wait_until("a failure", lambda: any(each.failure for each in measured(desk, "one")))
         write(b"one m 0.1\none m 0.2\none m 0.3\n")
-        wait_until("a result", lambda: reported_of(desk, "one"), 10)
+        wait_until("a result", lambda: reported_of(desk, "one"))
         time.sleep(5)
         expect("the last of three lines, once", reported_of(desk, "one"), ["300000"])
         # A last line that is too long and has no end is said, as each other one is.
@@ -169,7 +170,7 @@ def try_no_values(world):
         time.sleep(2)
         expect("said once", agent.errors().count("ended"), 1)
         before = len(measured(desk, "asked"))
-        wait_until("others go on", lambda: len(measured(desk, "asked")) > before, 5)
+        wait_until("others go on", lambda: len(measured(desk, "asked")) > before)
 
 
 def try_last_line(world):
@@ -194,9 +195,10 @@ def try_input_of_a_file(world):
             with open(source, "rb") as stdin, \
                     agent_of(desk, options=("--values", "-"), stdin=stdin) as agent:
                 agent.wait_said("the program that gives values has ended: no more come", times)
+                wait_until("its value is reported", lambda agent=agent:
+                           wanted in reported_of(desk, name) or agent.must_run())
                 time.sleep(1)
                 expect(f"{source}: how often", agent.errors().count("ended"), times)
-        expect("its value is reported", wanted in reported_of(desk, name), True)
 
 
 def try_hostile_lines(world):
@@ -222,7 +224,7 @@ def try_hostile_lines(world):
         found = measured(desk, "asked")
         expect("what is asked", {each.result for each in found}, {"250000"})
         moments = [each.taken for each in found]
-        if max(two - one for one, two in zip(moments, moments[1:])) > 3 * world.slowness:
+        if max(two - one for one, two in zip(moments, moments[1:])) > 4 * world.slowness:
             raise Wrong(f"the other service was measured at {moments}")
         want_plain("its errors", agent.errors(), "\n")
         want_plain("its output", agent.output.read_text(encoding="utf-8"), "\n")
@@ -246,7 +248,7 @@ def try_no_reader(world):
         os.mkfifo(desk.folder / "quiet")
         for name in ("none", "folder"):
             agent = Agent(desk, options=("--values", str(desk.folder / name)), name=name)
-            expect(name, agent.process.wait(10), 5)
+            expect(name, agent.process.wait(30), 5)
             agent.kill()
         with agent_of(desk, options=("--values", str(desk.folder / "quiet"))):
-            wait_until("others", lambda: len(measured(desk, "asked")) > 2, 10)
+            wait_until("others", lambda: len(measured(desk, "asked")) > 2)
