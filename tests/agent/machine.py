@@ -8,7 +8,7 @@ import time
 
 from agents import (
     Agent, agent_of, beside, count_measured, desk_for, journals_of, measured, measured_beside,
-    metric, of_web, provider, reply, template, wait_measured, wait_until, want_once)
+    metric, of_web, provider, reply, template, wait_measured, wait_until, want_once, want_rest)
 from rows import silent
 from world import DONE, LOCAL, Wrong, expect
 
@@ -74,25 +74,28 @@ def try_hindered(world):
     is the provider's is a failure."""
     library = library_of(world)
     with provider(lambda *_: reply("0.25")) as server, \
-            desk_for(world, "hindered", *services(server.port)) as desk:
+            desk_for(world, "hindered", *services(server.port, interval="2s")) as desk:
         agent = Hindered(desk, library)
         wait_measured(desk, 2)
+        agent.hinder(errno.EMFILE, server.port)
+        # what was under way may be measured still
+        want_rest("measured no more", lambda: count_measured(desk)["m.e6"], 3)
+        before = count_measured(desk)["m.e6"]
         for number in OWN:
             agent.hinder(number, server.port)
-            time.sleep(1.2)
-            before = count_measured(desk)["m.e6"]
+            agent.wait_said(OWN[number])
             time.sleep(1.5)
             expect(f"{errno.errorcode[number]}: measured", count_measured(desk)["m.e6"], before)
         for word in {*OWN.values()}:
             want_said("hindered", agent, word)
         agent.release()
-        wait_measured(desk, before + 2, seconds=15)
+        wait_measured(desk, before + 2)
         expect("failures", failures_of(desk), [])
         for number in OF_PROVIDER:
             before = len(failures_of(desk))
             agent.hinder(number, server.port)
             wait_until(errno.errorcode[number],
-                       lambda before=before: len(failures_of(desk)) > before + 1, 15)
+                       lambda before=before: len(failures_of(desk)) > before + 1)
         expect("how they go", {failure[:9] for failure in failures_of(desk)}, {"no answer"})
         agent.must_run()
         agent.kill()
@@ -104,11 +107,11 @@ def try_begun(world):
     """A connection that was begun and is refused then is a failure that says so."""
     library = library_of(world)
     with provider(lambda *_: reply("0.25")) as server, \
-            desk_for(world, "begun", *services(server.port)) as desk:
+            desk_for(world, "begun", *services(server.port, interval="3s")) as desk:
         agent = Hindered(desk, library)
         wait_measured(desk, 2)
         agent.hinder(errno.ECONNREFUSED, -1)
-        wait_until("failures", lambda: len(failures_of(desk)) > 1, 15)
+        wait_until("failures", lambda: len(failures_of(desk)) > 1)
         agent.release()
         expect("how they go", {failure[:9] for failure in failures_of(desk)}, {"no answer"})
         agent.must_run()
@@ -128,9 +131,9 @@ def try_crowded(world):
             *(measured_beside(name, names[0]) for name in names))]
         with desk_for(world, "crowded", *made) as desk:
             agent = Hindered(desk, library, errno.EMFILE, server.port)
-            agent.wait_said("EMFILE", seconds=60)
+            agent.wait_said("EMFILE")
             agent.release()
-            agent.wait_said("providers that do not answer have all connections", seconds=40)
+            agent.wait_said("providers that do not answer have all connections")
             agent.must_run()
             agent.kill()
 
@@ -140,19 +143,20 @@ def try_other_provider(world):
     one's measurements count, and the second is measured once it is reached."""
     library = library_of(world)
     with provider(lambda *_: reply("0.25")) as one, provider(lambda *_: reply("0.5")) as two:
-        of = template("of", *(metric(name, of_web(server.port), successCondition="result < 1")
+        of = template("of", *(metric(name, of_web(server.port), interval="2s",
+                                     successCondition="result < 1")
                               for name, server in (("one", one), ("two", two))))
         with desk_for(world, "other-provider", of, measured_beside("web", "of")) as desk:
             agent = Hindered(desk, library)
             wait_measured(desk, 1)
             agent.hinder(errno.EADDRNOTAVAIL, two.port)
-            time.sleep(2.5)
+            # what was under way may be measured still
+            want_rest("the second is measured no more", lambda: count_measured(desk)["two.e6"], 3)
             before = count_measured(desk)
-            wait_until("the first", lambda: count_measured(desk)["one.e6"] > before["one.e6"] + 1,
-                       15)
+            wait_until("the first", lambda: count_measured(desk)["one.e6"] > before["one.e6"] + 1)
             expect("the second", count_measured(desk)["two.e6"], before["two.e6"])
             agent.release()
-            wait_measured(desk, before["one.e6"] + 4, seconds=30)
+            wait_measured(desk, before["one.e6"] + 4)
             agent.must_run()
             agent.kill()
             expect("failures", failures_of(desk), [])
@@ -170,13 +174,13 @@ def try_beside_slow(world):
         return reply("0.25")
 
     with provider(answer) as one, provider(lambda *_: reply("0.5")) as two:
-        rows = ("one", one, "6s"), ("two", two, "1s")
+        rows = ("one", one, "9s"), ("two", two, "2s")
         of = template("of", *(metric(name, of_web(server.port), interval=interval,
                                      successCondition="result < 1")
                               for name, server, interval in rows))
         with desk_for(world, "beside-slow", of, measured_beside("web", "of")) as desk:
             agent = Hindered(desk, library, errno.EADDRNOTAVAIL, two.port)
-            wait_until("the slow one", lambda: count_measured(desk)["one.e6"] > 1, 40)
+            wait_until("the slow one", lambda: count_measured(desk)["one.e6"] > 1)
             expect("the other one", count_measured(desk)["two.e6"], 0)
             agent.release()
             wait_measured(desk, 3)
@@ -195,21 +199,20 @@ def try_stopped_within(world):
 
     def answer(_, client):
         if agents and len(server.asked) % 3 == 0:
-            time.sleep(.5)
             agents[0].signal(signal.SIGSTOP)
             client.sendall(reply("0.5"))
-            time.sleep(2.5)
+            time.sleep(3.5)
             agents[0].signal(signal.SIGCONT)
             return None
         return reply("0.25")
 
     with provider(answer) as server, \
-            desk_for(world, "stopped-within", *services(server.port, interval="2s")) as desk, \
+            desk_for(world, "stopped-within", *services(server.port, interval="3s")) as desk, \
             agent_of(desk) as agent:
         agents.append(agent)
         wait_until("three that it was stopped for",
                    lambda: [each.result for each in measured(desk)].count("500000") > 2
-                   or failures_of(desk) or agent.must_run(), 60)
+                   or failures_of(desk) or agent.must_run(), 120)
         expect("failures", failures_of(desk), [])
         want_once("stopped within", measured(desk))
 
@@ -237,21 +240,23 @@ def try_unresolved(world):
 
 
 def want_unresolved(world, library, port, row, numbers, word):
-    with desk_for(world, f"unresolved-{row}", *services(port, host="measures.example")) as desk:
+    made = services(port, host="measures.example", interval="3s")
+    with desk_for(world, f"unresolved-{row}", *made) as desk:
         agent = Hindered(desk, library, *numbers)
-        time.sleep(4)
-        found = measured(desk)
         if word is None:
             wait_measured(desk, 1)
             expect(f"{row}: a failure", {"not known" in each.failure for each in measured(desk)},
                    {True})
             agent.kill()
             return
+        agent.wait_said(word)
+        time.sleep(3)
+        found = measured(desk)
         expect(f"{row}: measured meanwhile", [each for each in found if each.failure], [])
         want_said(row, agent, word)
         agent.release()
         before = len(found)
-        wait_measured(desk, before + 2, seconds=30)
+        wait_measured(desk, before + 2)
         expect(f"{row}: failures", [each for each in measured(desk) if each.failure], [])
         agent.kill()
 
@@ -262,13 +267,14 @@ def try_two_addresses(world):
     library = library_of(world)
     with provider(lambda *_: reply("0.25")) as server, \
             desk_for(world, "two-addresses",
-                     *services(server.port, host="both.example", interval="3s")) as desk:
-        agent = Hindered(desk, library, faster=10)
+                     *services(server.port, host="both.example", interval="8s")) as desk:
+        # by its clock a provider has two seconds for its answer
+        agent = Hindered(desk, library, faster=4)
         wait_measured(desk, 1)
         agent.hinder(EAI_AGAIN, 0)
-        time.sleep(8)
+        time.sleep(16)
         before = count_measured(desk)["m.e6"]
-        wait_measured(desk, before + 2, seconds=20)
+        wait_measured(desk, before + 2)
         expect("failures", failures_of(desk), [])
         expect("said", agent.errors().count(HINDERED), 0)
         agent.must_run()
@@ -284,7 +290,7 @@ def try_unresolved_once(world):
         for row, more in (("alone", ()), ("beside", (measured_beside("x" * 60, "of"),))):
             with desk_for(world, f"unresolved-once-{row}", *made, *more) as desk:
                 agent = Hindered(desk, library, EAI_AGAIN, 0, options=("--once",))
-                wait_until("the end", agent.has_ended, 20)
+                wait_until("the end", agent.has_ended)
                 expect(f"{row}: {agent.errors()}", agent.process.returncode, LOCAL)
                 expect(f"{row}: measured", measured(desk), [])
                 agent.kill()
@@ -297,13 +303,13 @@ def try_hindered_once(world):
     library = library_of(world)
     with provider(lambda *_: reply("0.25")) as server:
         for row, status in (("until-its-end", LOCAL), ("for-a-moment", DONE)):
-            made = services(server.port, "m", "n", interval="3s")
+            made = services(server.port, "m", "n", interval="6s")
             with desk_for(world, f"once-{row}", *made) as desk:
                 agent = Hindered(desk, library, errno.EMFILE, server.port, options=("--once",))
-                time.sleep(1.5)
+                agent.wait_said("EMFILE")
                 if status == DONE:
                     agent.release()
-                wait_until("the end", agent.has_ended, 20)
+                wait_until("the end", agent.has_ended)
                 expect(f"{row}: {agent.errors()}", agent.process.returncode, status)
                 found = measured(desk)
                 expect(f"{row}: measured", [each.result for each in found],
@@ -342,7 +348,7 @@ def try_few_descriptors(world):
         wait_measured(desk, 1)
         free_descriptors(agent.process, 2)
         before = min(count_measured(desk).values())
-        wait_measured(desk, before + 3, seconds=40)
+        wait_measured(desk, before + 3, seconds=80)
         found = measured(desk)
         expect("failures", [each for each in found if each.failure], [])
         want_once("few descriptors", found)
@@ -354,7 +360,7 @@ def try_no_descriptor(world):
     """An agent without any descriptor: its folder of manifests cannot be read, which is said once,
     the desk is not reached, and nothing is reported. With descriptors all goes on as before."""
     with provider(lambda *_: reply("0.25")) as server, \
-            desk_for(world, "no-descriptor", *services(server.port)) as desk:
+            desk_for(world, "no-descriptor", *services(server.port, interval="2s")) as desk:
         folder = desk.folder / "manifests"
         folder.mkdir()
         os.rename(desk.folder / "manifests.json", folder / "web.json")
@@ -366,7 +372,7 @@ def try_no_descriptor(world):
             expect("said once", agent.errors().count("cannot be read"), 1)
             resource.prlimit(agent.process.pid, resource.RLIMIT_NOFILE, (most, most))
             before = count_measured(desk)["m.e6"]
-            wait_measured(desk, before + 3, seconds=40)
+            wait_measured(desk, before + 3, seconds=80)
         found = measured(desk)
         expect("failures", [each for each in found if each.failure], [])
         want_once("no descriptor", found)
