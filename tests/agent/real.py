@@ -59,7 +59,7 @@ def try_releases(world):
             *((in_step if name.endswith("step") else beside)(name) for name in names)))
         with agent_of(desk) as agent:
             for name in names:
-                wait_status(desk, "Healthy" if shares[name] == GOOD else "Degraded", name, 40)
+                wait_status(desk, "Healthy" if shares[name] == GOOD else "Degraded", name)
             agent.must_run()
         for name in names:
             found = measured(desk, name)

@@ -38,7 +38,7 @@ def manifests_of(rows, port, slowness):
     made = []
     for row in rows:
         name = name_of(row)
-        made += [template(name, metric("m", provider_of(row, port), interval=f"{3 * slowness}s",
+        made += [template(name, metric("m", provider_of(row, port), interval=f"{5 * slowness}s",
                                        successCondition=row.condition)),
                  measured_beside(name, name)]
     for name in (*GOOD, GONE):
@@ -88,14 +88,14 @@ def want_rows(world, name, rows):
             desk_for(world, name, *manifests_of(rows, server.port, world.slowness)) as desk:
         names = [*map(name_of, rows), *GOOD, GONE]
         with agent_of(desk) as agent:
-            time.sleep((30 if world.is_whole else 10) * world.slowness)
+            time.sleep((30 if world.is_whole else 12) * world.slowness)
             wait_until("each row was measured", lambda: services_measured(desk) == len(names),
                        20 * world.slowness)
             until = time.time()
         found = measured(desk, *names)
         want_each(rows, found, until, PATIENCE * world.slowness)
         want_said(agent, found, len(names))
-        time.sleep(3.2 * world.slowness)
+        time.sleep(5.2 * world.slowness)
         want_shown(desk, names)
     return f"{len(rows)} kinds of reply, {len(found)} measurements"
 

@@ -12,10 +12,10 @@ COUNT = 6
 
 
 def manifests(port):
-    """A release with an analysis beside its steps and one in its first step, due each second."""
+    """A release with an analysis beside its steps and one in its first step, due every 2 s."""
     def one(name, **more):
-        return template(name, metric(name, of_web(port, name), successCondition="result < 1",
-                                     **more))
+        return template(name, metric(name, of_web(port, name), interval="2s",
+                                     successCondition="result < 1", **more))
     return [one("beside"), one("within", count=COUNT),
             rollout("web", {"analysis": analysis("within")}, {"pause": {}},
                     analysis=analysis("beside"))]

@@ -38,10 +38,10 @@ def try_closed(world):
 
 def want_closed(world, port, closed):
     row = f"closed-{''.join(map(str, closed))}"
-    made = services(port, "web")
-    with desk_for(world, row, *made) as desk:
+    # a provider has three seconds for its answer
+    with desk_for(world, row, *services(port, "web", interval="3s")) as desk:
         # a service that is not at the desk: something is said of it
-        desk.write("more.json", listed(*services(port, "web", "unknown")))
+        desk.write("more.json", listed(*services(port, "web", "unknown", interval="3s")))
         before = (desk.folder / "more.json").read_bytes()
         for turn in (1, 2):
             ended = run_closed(desk, closed, "more.json", options=ONCE)
@@ -52,7 +52,7 @@ def want_closed(world, port, closed):
             expect(f"{row}: measured", [each.result for each in found], ["250000"] * turn)
             want_once(row, found)
             want_reported(row, desk, found)
-            time.sleep(1.1)
+            time.sleep(3.1)
         expect(f"{row}: the file", (desk.folder / "more.json").read_bytes(), before)
         want_values_closed(desk, closed, row)
 
@@ -85,7 +85,7 @@ def try_outputs(world):
                     env=environment(), stdin=subprocess.DEVNULL, stdout=subprocess.DEVNULL,
                     stderr=errors) as agent:
                 before = len(measured(desk))
-                wait_until(f"errors: {row}", lambda: len(measured(desk)) > before + 1, 10)
+                wait_until(f"errors: {row}", lambda: len(measured(desk)) > before + 1)
                 expect(f"errors: {row}: it goes on", agent.poll(), None)
         want_once("outputs", measured(desk))
 
@@ -107,13 +107,13 @@ def try_lines(world):
         return reply(values[asked.target])
 
     with provider(answer) as server:
-        of = [metric("one", of_web(server.port, "one"), successCondition="result < 1"),
-              metric("two", of_web(server.port, "two"),
-                     successCondition="result[0] < 1 && result[1] < 1"),
-              metric("none", of_web(server.port, "none"), successCondition="result < 1")]
+        conditions = {"one": "result < 1", "two": "result[0] < 1 && result[1] < 1",
+                      "none": "result < 1"}
+        of = [metric(name, of_web(server.port, name), interval="3s", successCondition=condition)
+              for name, condition in conditions.items()]
         with desk_for(world, "lines", template("of", *of), measured_beside("web", "of")) as desk:
             want_json(desk)
-            time.sleep(1.1)
+            time.sleep(3.1)
             want_plain_lines(desk, server.port)
 
 
@@ -157,25 +157,24 @@ def try_refused(world):
     with provider(lambda *_: time.sleep(.8) or reply("0.25")) as server, \
             desk_for(world, "refused", *services(server.port, "web")) as desk, \
             agent_of(desk) as agent:
-        until = time.monotonic() + 25
+        until = time.monotonic() + 60
         while not refused and time.monotonic() < until:
-            wait_until("it is asked", lambda: server.asked, 10)
+            wait_until("it is asked", lambda: server.asked)
             server.asked.clear()
             count = len(measured(desk))
             desk.do("report", "web", "1", "m.e6", "500000", caller="other",
                     journal="other.journal")
-            wait_until("one more", lambda: len(measured(desk)) > count, 10)
+            wait_until("one more", lambda: len(measured(desk)) > count)
             time.sleep(1)
             refused = [line["code"] for line in agent.lines() if "code" in line]
         if not refused or not set(refused) <= {"recorded", "out-of-turn", "too-early"}:
             raise Wrong(f"what was refused: {refused}")
         before = len(measured(desk))
-        wait_until("it goes on", lambda: len(measured(desk)) > before + 1, 10)
+        wait_until("it goes on", lambda: len(measured(desk)) > before + 1)
         caller = desk.do("abort", "web", caller="other", journal="other.journal")
         expect("abort", caller.status, DONE)
         time.sleep(2)
         begin(desk, "web", version="v3")
-        wait_until("another attempt", lambda: [each for each in measured(desk) if each.run == 2],
-                   10)
+        wait_until("another attempt", lambda: [each for each in measured(desk) if each.run == 2])
         want_once("refused", measured(desk))
         expect("its journal", journals_of(desk)["agent-web"].caller, "agent-web")

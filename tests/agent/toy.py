@@ -19,8 +19,8 @@ scrape_configs:
   static_configs: [{{targets: ["127.0.0.1:{port}"]}}]
 """
 
-QUERY = ('sum(rate(requests_total{service="{{args.service-name}}",code!~"5.."}[4s])) /\n'
-         'sum(rate(requests_total{service="{{args.service-name}}"}[4s]))')
+QUERY = ('sum(rate(requests_total{service="{{args.service-name}}",code!~"5.."}[10s])) /\n'
+         'sum(rate(requests_total{service="{{args.service-name}}"}[10s]))')
 
 
 @contextlib.contextmanager

@@ -96,7 +96,7 @@ def try_asked(world):
 
     def make(port):
         def one(name, of):
-            return metric(name, of, successCondition="result < 1")
+            return metric(name, of, interval="20s", successCondition="result < 1")
         return [
             one("get", of_web(port, "get?x=1&y=%20", headers=headers)),
             one("post", of_web(port, "post", method="POST", body="a=\u00e9\r\n\r\nb")),
@@ -146,7 +146,7 @@ def try_versions(world):
     knows: the latest and the stable one."""
     with provider(lambda *_: reply("0.25")) as server:
         of = template("of", metric("m", of_web(server.port, "{{args.new}}/{{args.old}}"),
-                                   successCondition="result < 1"))
+                                   interval="20s", successCondition="result < 1"))
         of["spec"]["args"] = [{"name": "new"}, {"name": "old"}]
         web = measured_beside("web", "of")
         web["spec"]["strategy"]["canary"]["analysis"]["args"] = [
@@ -181,7 +181,7 @@ def try_seconds(world):
             expect("failures", {each.service: each.failure[:7] for each in measured(desk, *rows)
                                 if each.service != "a-long"},
                    dict.fromkeys(("of-web", "of-prometheus", "of-interval"), "timeout"))
-            if took > 10:
+            if took > 15:
                 raise Wrong(f"it took {took} seconds")
 
 
@@ -219,7 +219,8 @@ def try_refused_providers(world):
     }
     with provider(lambda *_: reply("0.25")) as server:
         metrics = [metric(name, of, successCondition="result < 1") for name, of in refused.items()]
-        metrics.append(metric("good", of_web(server.port), successCondition="result < 1"))
+        metrics.append(metric("good", of_web(server.port), interval="20s",
+                              successCondition="result < 1"))
         with desk_for(world, "refused-providers", template("of", *metrics),
                       measured_beside("web", "of")) as desk:
             ended = run_agent(desk, options=("--once",))
