@@ -143,7 +143,7 @@ def try_other_provider(world):
     one's measurements count, and the second is measured once it is reached."""
     library = library_of(world)
     with provider(lambda *_: reply("0.25")) as one, provider(lambda *_: reply("0.5")) as two:
-        of = template("of", *(metric(name, of_web(server.port), interval="2s",
+        of = template("of", *(metric(name, of_web(server.port), interval="3s",
                                      successCondition="result < 1")
                               for name, server in (("one", one), ("two", two))))
         with desk_for(world, "other-provider", of, measured_beside("web", "of")) as desk:
@@ -151,7 +151,7 @@ def try_other_provider(world):
             wait_measured(desk, 1)
             agent.hinder(errno.EADDRNOTAVAIL, two.port)
             # what was under way may be measured still
-            want_rest("the second is measured no more", lambda: count_measured(desk)["two.e6"], 3)
+            want_rest("the second is measured no more", lambda: count_measured(desk)["two.e6"], 4)
             before = count_measured(desk)
             wait_until("the first", lambda: count_measured(desk)["one.e6"] > before["one.e6"] + 1)
             expect("the second", count_measured(desk)["two.e6"], before["two.e6"])
