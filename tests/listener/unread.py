@@ -10,6 +10,7 @@ import time
 
 # Addresses, from each of which come two clients.
 ADDRESSES = 240
+LAST = b"canary: truncated 127.0.0.250\n"
 LINE = re.compile(rb"canary: (?:truncated 127\.0\.0\.\d+(?: \((\d+) times\))?|(\d+) lines dropped)\n")
 
 
@@ -26,11 +27,11 @@ def status_of_answer(port):
         return client.recv(65536).split(b" ")[1]
 
 
-def told(pipe, seconds):
-    """What is in the pipe, and comes within so many seconds."""
+def told(pipe, seconds, is_all=lambda _: False):
+    """What is in the pipe, and comes within so many seconds, or until that is all."""
     os.set_blocking(pipe, False)
     found, end = b"", time.monotonic() + seconds
-    while time.monotonic() < end:
+    while time.monotonic() < end and not is_all(found):
         try:
             found += os.read(pipe, 65536)
         except BlockingIOError:
@@ -67,9 +68,9 @@ def try_desk(port, pipe):
     if not 50 < len(before) < ADDRESSES:
         sys.exit(f"{len(before)} lines are in a pipe of 8,192 bytes, of {ADDRESSES}")
     cut_off(port, 250)
-    after = lines_of(b"first\n" + told(pipe, 4))
-    if not any(it.endswith(b" lines dropped\n") for it in after) or (
-            b"canary: truncated 127.0.0.250\n" not in after):
+    text = told(pipe, 10, lambda found: b" lines dropped\n" in found and LAST in found)
+    after = lines_of(b"first\n" + text + told(pipe, 2))
+    if not any(it.endswith(b" lines dropped\n") for it in after) or LAST not in after:
         sys.exit(f"no line says how many were dropped, or none of the last client: {after!r}")
     if (count := count_told(before[1:] + after[1:])) != 2 * ADDRESSES + 1:
         sys.exit(f"lines are about {count} clients, with those dropped, of {2 * ADDRESSES + 1}")

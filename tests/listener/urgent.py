@@ -10,7 +10,7 @@ import sys
 import time
 
 REQUEST = b"GET /services/nobody HTTP/1.1\r\n\r\n"
-SECONDS = 5
+SECONDS = 8
 
 
 def reply(client, row):
@@ -18,7 +18,7 @@ def reply(client, row):
     try:
         found = client.recv(65536)
     except TimeoutError:
-        sys.exit(f"{row}: no reply in {SECONDS} seconds")
+        sys.exit(f"late: {row}: no reply in {SECONDS} seconds")
     return found.split(b" ")[1]
 
 
