@@ -75,6 +75,17 @@ want_reply() {
     [ "$reply_status" = "$2" ] || miss "status $reply_status in place of $2: $reply_body"
 }
 
+# A query on the connection $1 gets its reply, or the row ends by $2: as late if this client had been
+# still since the moment $3 for $4 milliseconds, so that the desk may have let it go.
+want_answer() {
+    get /services/nobody 2> /dev/null >&"$1" || true
+    if ! read_reply "$1"; then
+        [ "$(($(now) - $3))" -lt "$4" ] || late "this row stood still"
+        miss "$2"
+    fi
+    [ "$reply_status" = 404 ] || miss "status $reply_status in place of 404: $reply_body"
+}
+
 # The desk answers a client that comes now within $1 milliseconds.
 want_service() {
     local client begun
@@ -98,10 +109,10 @@ want_end() {
     [ "$spent" -le "$(($3 * 1000))" ] || late "the client is let go after $spent ms only"
 }
 
-# A line of standard error is $1, within four seconds.
+# A line of standard error is $1, within ten seconds.
 want_line() {
     local tries
-    for ((tries = 0; tries < 80; tries++)); do
+    for ((tries = 0; tries < 200; tries++)); do
         ! grep -qxF "$1" "$work/errors" || return 0
         sleep 0.05
     done
@@ -135,16 +146,17 @@ want_faults() {
     [ "$found" = "$wanted" ] || miss "other faults on standard error: ${found:-none}"
 }
 
-# The desk has told of $2 faults of the kind $1, within four seconds. Those of one second are one
+# The desk has told of $2 faults of the kind $1, within ten seconds. Those of one second are one
 # line.
 want_times() {
     local tries times=0
-    for ((tries = 0; tries < 80 && times < $2; tries++)); do
+    for ((tries = 0; tries < 200 && times < $2; tries++)); do
         sleep 0.05
         times=$(awk -v line="canary: $1 127.0.0.1" '$0 == line { sum += 1 }
             index($0, line " (") == 1 { sum += substr($4, 2) }
             END { print sum + 0 }' "$work/errors")
     done
+    [ "$times" -ge "$2" ] || late "$times faults of the kind $1 in place of $2"
     [ "$times" -eq "$2" ] || miss "$times faults of the kind $1 in place of $2"
 }
 
@@ -155,14 +167,41 @@ want_truncated() {
     ! grep -E '^canary: (read|write|memory)' "$work/errors" > /dev/null || miss "another fault"
 }
 
-# The desk ends by itself with the status $1, within five seconds.
+# Each of the processes $@ waits for something, or has ended: so it is found ten times in a row.
+want_rest() {
+    local tries rests=0 process line
+    for ((tries = 0; tries < 200 && rests < 10; tries++)); do
+        rests=$((rests + 1))
+        for process in "$@"; do
+            line=$(cat "/proc/$process/stat" 2> /dev/null) || continue
+            [[ ${line##*) } == [SZ]* ]] || rests=0
+        done
+        sleep 0.05
+    done
+    [ "$rests" -eq 10 ] || late "a process does not come to rest"
+}
+
+# The system calls of the desk that write are in `$work/calls` from now on; `tracer` is strace.
+trace_writes() {
+    local tries
+    : > "$work/traced"
+    strace -f -o "$work/calls" -e trace=write,sendto -p "$desk" 2> "$work/traced" &
+    tracer=$!
+    for ((tries = 0; tries < 200; tries++)); do
+        ! grep -q attached "$work/traced" || return 0
+        sleep 0.05
+    done
+    late "strace does not attach to the desk"
+}
+
+# The desk ends by itself with the status $1, within ten seconds.
 want_exit() {
     local tries status=0
-    for ((tries = 0; tries < 100; tries++)); do
+    for ((tries = 0; tries < 200; tries++)); do
         kill -0 "$desk" 2> /dev/null || break
         sleep 0.05
     done
-    [ "$tries" -lt 100 ] || late "the desk goes on"
+    [ "$tries" -lt 200 ] || late "the desk goes on"
     wait "$desk" 2> /dev/null || status=$?
     desk=''
     [ "$status" -eq "$1" ] || miss "exit status $status in place of $1"
@@ -226,8 +265,11 @@ try:
         writer.join()
         client.shutdown(socket.SHUT_WR)
     os.kill(desk, signal.SIGCONT)
+    begin, rest = b"HTTP/1.1 4", b""
     while (ends or left > 0) and (some := client.recv(65536)):
-        left -= some.count(b"HTTP/1.1 4")
+        # a reply may begin at the end of one piece, and go on in the next one
+        left -= (rest + some).count(begin)
+        rest = (rest + some)[1 - len(begin):]
         sys.stdout.buffer.write(some)
 except socket.timeout:
     os._exit(124)
