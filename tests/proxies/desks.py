@@ -215,7 +215,7 @@ def kill_for_a_while(desk, senders, has_ended):
     before = [sender.sent for sender in senders]
     try:
         wait_until("the others go on", lambda: has_ended() or all(
-            sender.sent > sent + 100 for sender, sent in zip(senders, before)), 30)
+            sender.sent > sent + 100 for sender, sent in zip(senders, before)))
     finally:
         desk.start()
 

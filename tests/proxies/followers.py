@@ -38,12 +38,15 @@ HOSTILE = [*NO_LINES, *(line(version=name) for name in NO_VERSIONS),
            *(line(weight=weight) for weight in NO_WEIGHTS)]
 
 
-def want_all_said(said):
+def want_all_said(said, lines=None):
+    """Each of these lines, which are none, came twice, and is said each time."""
+    wanted = 2 * len(lines or HOSTILE)
+
     def count():
         return said().count("no line of canary watch: ")
 
-    wait_until("each is said", lambda: count() >= 2 * len(HOSTILE), LONGEST)
-    expect("each is said once", count(), 2 * len(HOSTILE))
+    wait_until("each is said", lambda: count() >= wanted, LONGEST)
+    expect("each is said once", count(), wanted)
 
 
 def said_after(script_folder, lines):

@@ -1,14 +1,18 @@
 """What examples/operations/notify posts: to a webhook that takes it, and to one that is away, slow,
 answers 500 or a byte at a time, closes or leads elsewhere: parts of proxies.py."""
+import array
 import contextlib
+import fcntl
 import http.server
 import json
 import os
 import subprocess
+import termios
 import threading
 import time
 
-from followers import LONGEST, NO_LINES, NO_VERSIONS, NO_WEIGHTS, line, said_after, unheard
+from followers import (
+    LONGEST, NO_LINES, NO_VERSIONS, NO_WEIGHTS, line, said_after, unheard, want_all_said)
 from parts import OPERATIONS, children_of, follower, is_alive, lasts, speaking
 from silence import variables
 from world import Caller, Wrong, expect, free_port, process, rollout, wait_until
@@ -66,8 +70,10 @@ class Webhook:
 
     def texts(self):
         """What it took; each is an object with one text."""
-        expect("what is posted", [[*each] for each in self.taken], [["text"]] * len(self.taken))
-        return [each["text"] for each in self.taken]
+        # as it is now: more may come meanwhile
+        taken = [*self.taken]
+        expect("what is posted", [[*each] for each in taken], [["text"]] * len(taken))
+        return [each["text"] for each in taken]
 
     def close(self):
         self.server.shutdown()
@@ -248,9 +254,11 @@ def try_notify_flood(world):
         let_go.wait(LONGEST)
         return False
 
-    script = f"cat '{folder}/lines'; touch '{folder}/written'; echo '{last}'"
-    with webhook(answer) as hook, notifying(folder, speaking(folder, script), hook.port):
-        wait_until("all is read", (folder / "written").exists, LONGEST / 2)
+    script = f"cat '{folder}/lines'; echo '{last}'; touch '{folder}/written'"
+    with webhook(answer) as hook, \
+            notifying(folder, speaking(folder, script), hook.port) as (started, _):
+        wait_until("all is written", (folder / "written").exists, LONGEST / 2)
+        wait_until("all is read", lambda: not any(map(unread_of, children_of(started))), LONGEST)
         expect("nothing is taken yet", (hook.taken, let_go.is_set()), ([], False))
         time.sleep(2)
         let_go.set()
@@ -258,8 +266,19 @@ def try_notify_flood(world):
         texts = hook.texts()
         expect("each once, and in order", texts[-100:-1],
                [f"web v{at} at {at % 101}%" for at in range(3901, 4000)])
-        # before these at most what was on its way
-        expect("none is kept beyond", len(texts) <= 102, True)
+        # before these at most what was on its way, which is tried again as the webhook is slow
+        expect("none is kept beyond", len({*texts}) <= 102, True)
+
+
+def unread_of(process):
+    """How many bytes that a process wrote to the pipe of its standard output nobody has read."""
+    pipe = os.open(f"/proc/{process}/fd/1", os.O_RDONLY | os.O_NONBLOCK)
+    try:
+        found = array.array("i", [0])
+        fcntl.ioctl(pipe, termios.FIONREAD, found)
+        return found[0]
+    finally:
+        os.close(pipe)
 
 
 def try_notify_words(world):
@@ -269,7 +288,7 @@ def try_notify_words(world):
     with webhook() as hook, notifying(folder, spoken, hook.port) as (started, said):
         want_texts("what is a line", hook, "web v2 at 35%", "web v2 at 36%", "web v2 at 40%")
         expect("it goes on", started.poll(), None)
-        expect("each is said", said().count("no line of canary watch: "), 2 * len(HOSTILE))
+        want_all_said(said, HOSTILE)
         expect("in plain text", [mark for mark in said() if mark < " " and mark != "\n"], [])
     want_files(world)
     # with all its streams closed, and if nobody reads its standard error
