@@ -35,7 +35,7 @@ def in_step(name):
 
 def beside(name):
     """A release that is promoted by time, if nothing is bad."""
-    return rollout(name, {"setWeight": 20}, {"pause": {"duration": "8s"}}, analysis=judged(name))
+    return rollout(name, {"setWeight": 20}, {"pause": {"duration": "12s"}}, analysis=judged(name))
 
 
 def want_shares(row, found, share):
@@ -55,7 +55,7 @@ def try_releases(world):
         for name in names:
             real.wait_for(name)
         release(desk, listed(
-            success_rate(real.port, interval="2s", count=3),
+            success_rate(real.port, interval="3s", count=3),
             *((in_step if name.endswith("step") else beside)(name) for name in names)))
         with agent_of(desk) as agent:
             for name in names:
