@@ -14,8 +14,8 @@ from world import MARKS, Wrong, environment, expect, free_port, process
 GOOD = ("good-1", "good-2", "good-3")
 # A service whose provider is gone.
 GONE = "gone"
-# The most seconds between two measurements of an interval of 2.
-PATIENCE = 4
+# The most seconds between two measurements of an interval of 3.
+PATIENCE = 6
 
 
 def name_of(row):
@@ -38,12 +38,12 @@ def manifests_of(rows, port, slowness):
     made = []
     for row in rows:
         name = name_of(row)
-        made += [template(name, metric("m", provider_of(row, port), interval=f"{5 * slowness}s",
+        made += [template(name, metric("m", provider_of(row, port), interval=f"{4 * slowness}s",
                                        successCondition=row.condition)),
                  measured_beside(name, name)]
     for name in (*GOOD, GONE):
         made += [template(name, metric("m", of_web(free_port() if name == GONE else port, name),
-                                       interval=f"{2 * slowness}s",
+                                       interval=f"{3 * slowness}s",
                                        successCondition="result < 0.5")),
                  measured_beside(name, name)]
     return made
@@ -95,7 +95,7 @@ def want_rows(world, name, rows):
         found = measured(desk, *names)
         want_each(rows, found, until, PATIENCE * world.slowness)
         want_said(agent, found, len(names))
-        time.sleep(5.2 * world.slowness)
+        time.sleep(4.2 * world.slowness)
         want_shown(desk, names)
     return f"{len(rows)} kinds of reply, {len(found)} measurements"
 
