@@ -64,7 +64,7 @@ busy_makes_no_room() {
     until=$(($(now) + 2500))
     while [ "$asked" -lt "$until" ]; do
         before=$asked asked=$(now)
-        want_answer "$busy" "a busy client makes room" "$before" 500
+        want_answer "$busy" "a busy client makes room" "$before" 900
         sleep 0.05
     done
     want_reply "$third" 404 5 "a client that is idle by now makes no room"
