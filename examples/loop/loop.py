@@ -31,12 +31,19 @@ class Wrong(Exception):
     """The loop is not as it should be."""
 
 
+# The sockets of free ports. The system gives such a port to no program that asks for any port, also
+# while a part is killed.
+HELD = []
+
+
 def free_ports(count):
-    held = [socket.create_server(("127.0.0.1", 0)) for _ in range(count)]
-    ports = [each.getsockname()[1] for each in held]
+    """Ports on which nobody listens, until parts of the loop do."""
+    held = [socket.socket() for _ in range(count)]
     for each in held:
-        each.close()
-    return ports
+        each.setsockopt(socket.SOL_SOCKET, socket.SO_REUSEADDR, 1)
+        each.bind(("127.0.0.1", 0))
+    HELD.extend(held)
+    return [each.getsockname()[1] for each in held]
 
 
 def wait_until(what, is_so, seconds=60):
