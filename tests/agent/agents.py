@@ -6,8 +6,6 @@ import contextlib
 import functools
 import http.client
 import json
-import shutil
-import sqlite3
 import subprocess
 import threading
 import time
@@ -138,7 +136,7 @@ def history(desk, name="web"):
 def measured(desk, *names):
     """The measurements of services, or of web, that stand in the desk's tables, in their order."""
     names = names or ("web",)
-    found = rows_of(desk, "SELECT service, run, metric, ordinal, taken, outcome FROM measurement"
+    found = desk.rows("SELECT service, run, metric, ordinal, taken, outcome FROM measurement"
                     " ORDER BY place")
     metrics = functools.cache(lambda name, run: [
         each["name"] for each in ask(desk, f"/services/{name}/runs/{run}")["metrics"]])
@@ -151,36 +149,9 @@ def outcome_of(text):
     return ("", text[1:]) if text.startswith("!") else (text, "")
 
 
-def rows_of(desk, statement):
-    """Rows of the desk's tables, out of a copy of its file and its log."""
-    copy = desk.folder / f"copy-{threading.get_ident()}.db"
-    while not is_copied(desk, copy):
-        pass
-    with contextlib.closing(sqlite3.connect(copy)) as opened:
-        found = opened.execute(statement).fetchall()
-    for file in desk.folder.glob(f"{copy.name}*"):
-        file.unlink()
-    return found
-
-
-def is_copied(desk, copy):
-    """Copies a desk's file and its log. Whether they belong together: the log has not begun anew
-    meanwhile, as it does once it is in the file."""
-    begun = begin_of_log(desk)
-    for ending in ("", "-wal"):
-        shutil.copy(desk.folder / f"desk.db{ending}", f"{copy}{ending}")
-    return begin_of_log(desk) == begun
-
-
-def begin_of_log(desk):
-    """The head of the log of a desk's file, which says how often the log has begun."""
-    with open(desk.folder / "desk.db-wal", "rb") as log:
-        return log.read(32)
-
-
 def services_measured(desk):
     """How many services have a measurement."""
-    return rows_of(desk, "SELECT count(DISTINCT service) FROM measurement")[0][0]
+    return desk.rows("SELECT count(DISTINCT service) FROM measurement")[0][0]
 
 
 def count_measured(desk, name="web", run=1):

@@ -213,14 +213,27 @@ class Desk:
 
     def rows(self, statement, *values):
         """Rows of the desk's tables, out of a copy of its file and its log."""
-        copy = self.folder / "copy.db"
-        for end_of_name in ("", "-wal"):
-            shutil.copy(self.folder / f"desk.db{end_of_name}", f"{copy}{end_of_name}")
+        copy = self.folder / f"copy-{threading.get_ident()}.db"
+        while not self.is_copied(copy):
+            pass
         with contextlib.closing(sqlite3.connect(copy)) as records:
             found = records.execute(statement, values).fetchall()
-        for file in self.folder.glob("copy.db*"):
+        for file in self.folder.glob(f"{copy.name}*"):
             file.unlink()
         return found
+
+    def is_copied(self, copy):
+        """Copies the desk's file and its log. Whether they belong together: the log has not begun
+        anew meanwhile, as it does once it is in the file."""
+        begun = self.begin_of_log()
+        for end_of_name in ("", "-wal"):
+            shutil.copy(self.folder / f"desk.db{end_of_name}", f"{copy}{end_of_name}")
+        return self.begin_of_log() == begun
+
+    def begin_of_log(self):
+        """The head of the log of the desk's file, which says how often the log has begun."""
+        with open(self.folder / "desk.db-wal", "rb") as log:
+            return log.read(32)
 
     def kept(self, caller="ops"):
         """The number, status and body of each request of the caller that is settled."""
