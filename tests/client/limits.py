@@ -9,10 +9,10 @@ from journals import records
 from replies import reply
 from reports import NOT_IN_TIME
 from sends import HEADER
-from strangers import JSON, serving, silent_after, timed
+from strangers import JSON, serving, silent_after, soonest, timed
 from world import (
-    DONE, FOREIGN, LOST, NO_DESK, PENDING, REFUSED, STARTED, UNREACHABLE, Wrong, add, answering,
-    ask, environment, expect, free_port, process, shows, want, want_all_said,
+    DONE, FOREIGN, LOST, NO_DESK, PENDING, REFUSED, STARTED, UNREACHABLE, add, answering, ask,
+    environment, expect, free_port, process, shows, want, want_all_said,
 )
 
 OK = shows("web", *STARTED)
@@ -141,20 +141,6 @@ def try_addresses(world):
             DONE, OK + "\n")
         answered.result(20)
     return None
-
-
-def soonest(row, least, most, call):
-    """What came of a call that takes so many seconds where the machine is not busy: each takes as
-    long at least, and of five one is over in time."""
-    for _ in range(4):
-        begun = time.monotonic()
-        found = call()
-        spent = time.monotonic() - begun
-        if spent < least:
-            raise Wrong(f"{row}: {spent:.2f} seconds, in place of {least} at least")
-        if spent <= most:
-            return found
-    return timed(row, least, most, call)
 
 
 def stalling_first(desk):

@@ -121,6 +121,20 @@ def timed(row, least, most, call):
     return found
 
 
+def soonest(row, least, most, call):
+    """What came of a call that takes so many seconds where the machine is not busy: each takes as
+    long at least, and of five one is over in time."""
+    for _ in range(4):
+        begun = time.monotonic()
+        found = call()
+        spent = time.monotonic() - begun
+        if spent < least:
+            raise Wrong(f"{row}: {spent:.2f} seconds, in place of {least} at least")
+        if spent <= most:
+            return found
+    return timed(row, least, most, call)
+
+
 def silent_after(*pieces):
     """A server that sends these pieces, each 0.8 seconds after the one before, and then nothing."""
     def answer(client):
@@ -143,7 +157,7 @@ def try_silence(world):
                         ("within the body", (whole[:body], whole[body:body + 9])),
                         ("the last byte", (whole[:-2], whole[-2:-1]))):
         with silent_after(*pieces) as port:
-            found = timed(row, 1.9, 3.1, lambda port=port: world.run(
+            found = soonest(row, 1.9, 3.1, lambda port=port: world.run(
                 ["get", "--desk", f"127.0.0.1:{port}", "--timeout", "2", "--tries", "1", "web"],
                 place))
             want(row, found, PENDING, said=NO_DESK)
@@ -162,11 +176,11 @@ def try_calls_that_end(world):
             for row, port in (("nobody", free_port()), ("stalls", stalls), ("others", others),
                               ("slow", slow)):
                 row = f"{words[0]}: {row}"
-                found = timed(row, 1.9, 4, lambda port=port, words=words: world.run(
+                found = soonest(row, 1.9, 4, lambda port=port, words=words: world.run(
                     [*words, "--desk", f"127.0.0.1:{port}", "--timeout", "2", "web"], place))
                 want(row, found, PENDING, said=NOT_IN_TIME)
         # without --wait it is the time of each reply
-        found = timed("due", 1.9, 3.1, lambda: world.run(
+        found = soonest("due", 1.9, 3.1, lambda: world.run(
             ["due", "--desk", f"127.0.0.1:{stalls}", "--timeout", "2", "--tries", "1", "web"],
             place))
         want("due", found, PENDING, said=NO_DESK)
@@ -210,7 +224,7 @@ def try_long_replies(world):
                             ("chunks", b"HTTP/1.1 200 OK\r\nTransfer-Encoding: chunked\r\n\r\n",
                              b"4\r\nxxxx\r\n" * 8000)):
         with endless(head, more) as port:
-            found, peak = timed(row, 0, 3.1, lambda port=port: peak_of(world, [
+            found, peak = soonest(row, 0, 3.1, lambda port=port: peak_of(world, [
                 "get", "--desk", f"127.0.0.1:{port}", "--timeout", "2", "--tries", "1", "web"],
                 place))
             expect(row, found, PENDING)
