@@ -3,7 +3,6 @@ import contextlib
 import http.client
 import json
 import subprocess
-import threading
 import time
 
 from reports import INVALID_NAME, NOT_IN_TIME, NO_SERVICE, add_measured, metric
@@ -57,9 +56,9 @@ def line(status, step, weight, version="v2"):
 
 
 @contextlib.contextmanager
-def watching(world, desk, *words):
+def watching(world, desk, *words, service="web"):
     with process([world.program, "watch", "--desk", f"127.0.0.1:{desk.port}", "--tries", "100",
-                  *words, "web"],
+                  *words, service],
                  cwd=desk.folder, env=environment(), stdin=subprocess.DEVNULL,
                  stdout=subprocess.PIPE, stderr=subprocess.PIPE) as watch:
         yield watch
@@ -127,15 +126,15 @@ def try_watch_ends(world):
         want("each", desk.ask("watch", "--until", "Healthy,Degraded,Paused,Progressing", "other"),
              DONE, progressing)
         begun = time.monotonic()
-        want("not in time", desk.ask("watch", "--timeout", "2", "other"), PENDING, progressing,
+        want("not in time", desk.ask("watch", "--timeout", "5", "other"), PENDING, progressing,
              NOT_IN_TIME)
-        if not 2 <= time.monotonic() - begun < 20:
-            raise Wrong(f"watch --timeout 2 took {time.monotonic() - begun} seconds")
-        ending = threading.Timer(.3, lambda: setup.send({"abort": {"service": "other"}}))
-        ending.start()
-        want("Degraded", desk.ask("watch", "--until", "Degraded", "other"), REFUSED,
-             progressing + "other Degraded, step 1, weight 0%, version v2, aborted by a command\n")
-        ending.join()
+        if not 5 <= time.monotonic() - begun < 25:
+            raise Wrong(f"watch --timeout 5 took {time.monotonic() - begun} seconds")
+        with watching(world, desk, "--until", "Degraded", service="other") as watch:
+            expect("before the abort", next_line(watch), progressing)
+            setup.send({"abort": {"service": "other"}})
+            want_end("Degraded", watch, REFUSED,
+                     "other Degraded, step 1, weight 0%, version v2, aborted by a command\n")
         want("no service", desk.ask("watch", "none"), REFUSED, said=NO_SERVICE)
         want("no name", desk.ask("watch", "None"), WORDS, said=INVALID_NAME)
         for until in ("healthy", "Healthy,", "", ",", "Healthy,Done", "Healthy, Paused"):
