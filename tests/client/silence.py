@@ -167,14 +167,16 @@ def watching(desk, *words):
                    stdout=subprocess.PIPE, stderr=subprocess.PIPE)
 
 
-def add_held(desk, name="web"):
-    """A service whose analysis is Inconclusive by a result of 5, between pauses."""
+def add_held(desk, name="web", seconds=3):
+    """A service whose analysis is Inconclusive by a result of 5, before a pause of so many
+    seconds."""
     setup = Caller(desk, f"setup-{name}")
     setup.send({"template": {"metadata": {"name": f"of-{name}"}, "spec": {"metrics": [
         {"name": "m", "successCondition": "result < 5", "failureCondition": "result > 5"}]}}})
     setup.send({"service": {"version": "v1", "manifest": rollout(
         name, {"setWeight": 20}, {"analysis": {"templates": [{"templateName": f"of-{name}"}]}},
-        {"setWeight": 50}, {"pause": {"duration": "3s"}}, {"setWeight": 80}, {"pause": {}})}})
+        {"setWeight": 50}, {"pause": {"duration": f"{seconds}s"}}, {"setWeight": 80},
+        {"pause": {}})}})
     return setup
 
 
@@ -186,30 +188,30 @@ def try_reasons(world):
     """Why a service stands so is the end of each line; a hold, a timed pause and a pause without an
     end are told apart by --until."""
     with world.desk("reasons") as desk:
-        setup = add_held(desk)
+        setup = add_held(desk, seconds=8)
         setup.send({"start": {"service": "web", "version": "v2"}})
         until = "Waiting,Held,Healthy,Degraded"
         with watching(desk, "--until", until, "web") as watch:
             expect("an analysis", lines_of(watch, 1),
                    [place("Progressing", 1, 20) + ", analysis run 1\n"])
             expect("inconclusive", desk.do("report", "web", "1", "m", "5").status, DONE)
-            found = watch.communicate(timeout=30)
+            found = watch.communicate(timeout=60)
             expect("held", (watch.returncode, found[0].decode(), found[1]), (
                 HELD, place("Paused", 1, 20) + ", held: step 1 is Inconclusive\n", b""))
         want("no Held among the words", desk.ask("watch", "--until", "Paused", "web"), DONE,
              place("Paused", 1, 20) + ", held: step 1 is Inconclusive\n")
-        setup.send({"promote": {"service": "web"}})
         begun = time.monotonic()
+        setup.send({"promote": {"service": "web"}})
         with watching(desk, "--until", until, "web") as watch:
-            found = watch.communicate(timeout=30)
+            found = watch.communicate(timeout=60)
             timed, waits = found[0].decode().splitlines()
-            wanted = (re.escape(place("Paused", 3, 50)) + r", pause of 3 s until"
+            wanted = (re.escape(place("Paused", 3, 50)) + r", pause of 8 s until"
                       r" (\d{4}-\d\d-\d\dT)?\d\d:\d\d:\d\dZ")
             if not re.fullmatch(wanted, timed):
                 raise Wrong(f"a timed pause: {timed!r} in place of {wanted!r}")
             expect("waits", (watch.returncode, waits),
                    (DONE, place("Paused", 5, 80) + ", waits for a promotion"))
-        if time.monotonic() - begun < 2:
+        if time.monotonic() - begun < 7:
             raise Wrong("the timed pause was cut short")
         setup.send({"abort": {"service": "web"}})
         want("aborted", desk.ask("watch", "web"), REFUSED,
@@ -245,7 +247,7 @@ def try_json_forever(world):
                 **waits, "status": "Degraded", "weight": 0, "version": "v3", "stable": "v2",
                 "why": "aborted"})
             watch.send_signal(signal.SIGTERM)
-            expect("without end", watch.wait(10), -signal.SIGTERM)
+            expect("without end", watch.wait(60), -signal.SIGTERM)
 
 
 @contextlib.contextmanager
@@ -258,7 +260,7 @@ def until_done(desk, words):
     asks.is_of_group = True
     running.add(asks)
     yield
-    expect(words, asks.wait(30), DONE)
+    expect(words, asks.wait(60), DONE)
     running.discard(asks)
 
 
