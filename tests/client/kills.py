@@ -222,6 +222,10 @@ def try_desk_killed(world):
                         desk.restart()
                     output = client.communicate(timeout=60)[0].decode()
                     expect(row, (client.returncode, output), (DONE, shown(PROMOTED, service)))
+            # or later, as it looks at its file once a second
+            if desk.has_ended():
+                kills += 1
+                desk.restart()
         if kills < 12:
             raise Wrong(f"only {kills} kills of {len(names)} calls")
         want_delivered("desk killed", desk)
