@@ -270,7 +270,7 @@ def want_nothing_lacks(desk):
          '{"code":"unknown-run"}\n')
     found = desk.ask("due", "measured")
     expect("what is due", (found.status, found.output, found.errors), (REFUSED, "", ""))
-    found = desk.ask("watch", "--json", "--timeout", "3", "--until", "Healthy", "shop")
+    found = desk.ask("watch", "--json", "--timeout", "30", "--until", "Healthy", "shop")
     expect("a follower", (found.status, json.loads(found.output)["weight"]), (DONE, 100))
     desk.write("rows.csv", HEADER + rows(1, 1, 1))
     want_sent("rows of a run that is not there", desk.ask("send", "rows.csv"), ROWS_REFUSED,

@@ -169,8 +169,8 @@ def want_fate(world, folder, row):
     with answering(desk.answer) as port:
         def do(letter, tries, *options):
             return world.run(["do", "--desk", f"127.0.0.1:{port}", "--as", "ops", "--journal",
-                              str(file), "--tries", str(tries), *options, COMMANDS[letter], "web"],
-                             folder)
+                              str(file), "--tries", str(tries), "--timeout", "60", *options,
+                              COMMANDS[letter], "web"], folder)
 
         first = do("p", 2)
         if acted[0] == "p" and not late:
