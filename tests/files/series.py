@@ -170,6 +170,7 @@ def try_kept(program, folder):
             made.update(name for name in copies_in(out) if name not in OLD)
             return len(made) >= 4
         wait_until("four copies", has_made)
+    remove_parts(out)
     make_one(program, file, out, 2)
     made.update(name for name in copies_in(out) if name not in OLD)
     left = sorted(made)[-2:]
@@ -177,7 +178,7 @@ def try_kept(program, folder):
     for name in left:
         want_whole("two are kept", program, out, name, place)
     with copying(words_of(program, file, out, 1)):
-        wait_until("all are kept", lambda: len(copies_in(out)) == 4)
+        wait_until("all are kept", lambda: len(copies_in(out)) >= 4)
 
 
 def try_one_kept(program, folder):
@@ -321,6 +322,7 @@ def try_places(program, folder):
     expect("nothing is made", os.listdir(os.path.join(place, "out")), [])
     for name in ("around", "out/", "./out"):
         out = os.path.join(place, "out")
+        remove_parts(out)
         for end in os.listdir(out):
             os.remove(os.path.join(out, end))
         with copying(words_of(program, "desk.db", name, 1000), cwd=place):
