@@ -17,6 +17,8 @@ from story_words import Wrong, answer, command, expect, put
 
 # Seconds in which a program that refuses a name has ended; a desk looks once a second.
 SECONDS, LOOKED = 20, 2.5
+# For a second it answers 503. A test whose clients come so far apart may miss that.
+APART = .5
 STORAGE, MISSING = b"canary: storage\n", b"canary: file\n"
 NOBODY = 65534
 HEADER = "caller,number,service,run,metric,ordinal,taken,result,failure\n"
@@ -243,8 +245,9 @@ class Desk:
         expect(f"{row}: the end", self.process.poll(), None)
 
     def statuses(self):
-        """Those of clients that come one after another until the desk ends, each new one once."""
-        found, end = [], time.monotonic() + SECONDS
+        """Those of clients that come one after another until the desk ends, each new one once; and
+        the longest time between two of them."""
+        found, last, apart, end = [], time.monotonic(), 0, time.monotonic() + SECONDS
         while self.process.poll() is None:
             if time.monotonic() > end:
                 raise Wrong(f"the desk goes on: {found}")
@@ -252,7 +255,8 @@ class Desk:
             if status is not None and found[-1:] != [status]:
                 found.append(status)
             time.sleep(0.02)
-        return found
+            apart, last = max(apart, time.monotonic() - last), time.monotonic()
+        return found, apart
 
     def ended(self):
         output, errors = self.process.communicate(timeout=SECONDS)
@@ -293,7 +297,16 @@ CHANGES = (move, remove, replace, link, move_folder, cover_folder, turn_link)
 
 
 def try_change(program, folder, change):
-    """One such change, in a folder of its own."""
+    """One such change. Where the machine lets no client come for so long that the 503 may have been
+    missed, the file of another desk is changed, of five at most."""
+    for left in reversed(range(5)):
+        if has_seen_change(program, folder, change, left > 0):
+            return
+
+
+def has_seen_change(program, folder, change, may_miss):
+    """A desk whose file is changed so, in a folder of its own, is seen to answer 503 and to end.
+    It may be that it is not, if so much time is between two clients."""
     row, folder = f"a desk's file, {change.__name__}", os.path.join(folder, change.__name__)
     shutil.rmtree(folder, ignore_errors=True)
     os.mkdir(folder)
@@ -310,13 +323,14 @@ def try_change(program, folder, change):
         is_moved = change in (move_folder, cover_folder)
         log = os.path.join(place.folder + (".moved" if is_moved else ""), "desk.db-wal")
         before = read(log)
-        found, spent = desk.statuses(), time.monotonic() - begun
-        if found not in ([200, 503], [503]):
-            raise Wrong(f"{row}: the replies until it ends: {found}")
-        if spent > 2 * LOOKED:
-            raise Wrong(f"{row}: it ends after {spent:.1f} seconds")
+        found, apart = desk.statuses()
+        spent = time.monotonic() - begun
+        has_seen = found in ([200, 503], [503]) and spent <= 2 * LOOKED
+        if not has_seen and not (may_miss and apart > APART):
+            raise Wrong(f"{row}: the replies until it ends after {spent:.1f} seconds: {found}")
         expect_advice(row, path, desk.ended(), (b"link", b"start the desk again"))
     expect(f"{row}: its log", read(log), before)
+    return has_seen
 
 
 def try_replaced(program, folder):
@@ -340,7 +354,7 @@ def try_back(program, folder):
                 raise Wrong("a file that is moved: the desk goes on")
             time.sleep(0.02)
         os.rename(place.file + ".moved", place.file)
-        found = desk.statuses()
+        found, _ = desk.statuses()
         if found not in ([], [503]):
             raise Wrong(f"a file that comes back: the replies until it ends: {found}")
         expect("a file that comes back: the end", desk.ended()[0], 1)
