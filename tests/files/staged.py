@@ -356,27 +356,41 @@ def want_places(program, file, log, there, wanted, *injected):
     expect("status: how many folders it makes", len(made), len(wanted))
 
 
+def stops_of_copying(program, file, log):
+    """What has strace stop `status` of a desk that runs, each time at another moment: once it has
+    made its folder, the copy of the file in it, and that of the log."""
+    calls = traced(log, ["mkdir", "openat"])
+    done = told([*calls, program, "status", "--db", file], env=dict(os.environ, **NO_PLACES))
+    expect("status, traced", (done[0], done[2]), (0, b""))
+    opened = [words for call, words, _ in calls_in(log) if call == "openat"]
+    made = [at for at, words in enumerate(opened, 1)
+            if ".status-copy-" in words and "O_EXCL" in words]
+    return ["mkdir:signal=STOP:when=1", *(f"openat:signal=STOP:when={at}" for at in made[:2])]
+
+
 def try_folder_taken(program, folder):
     """Somebody who may write beside the file puts a link in the place of the folder that `status`
     made there: where it leads nothing is changed, and `status` ends."""
-    for row, injected in (("at once", "mkdir:delay_exit=700000"),
-                          ("while it copies", "openat:delay_enter=40000")):
+    for at, row in enumerate(("at once", "once it has a file", "once it has a log")):
         place = folder_in(folder, f"taken {row}".replace(" ", "-"), 0o777)
-        file, log = os.path.join(place, "desk.db"), os.path.join(folder, "taken-log")
+        file, log = os.path.join(place, "desk.db"), os.path.join(folder, f"taken-log-{at}")
         victim = folder_in(folder, f"victim {row}".replace(" ", "-"))
         for name in ("desk.db", "desk.db-wal"):
             write(os.path.join(victim, name), "kept")
         with serving(program, file, 3):
-            looking = begin(traced(log, ["mkdir", "openat"], injected)
+            stop = stops_of_copying(program, file, os.path.join(folder, "copying-log"))[at]
+            looking = begin(traced(log, ["mkdir", "openat"], stop)
                             + [program, "status", "--db", file],
                             env=dict(os.environ, **NO_PLACES))
-            def made():
-                return [name for name in os.listdir(place) if ".status-copy-" in name]
-            wait_until(f"a folder taken {row}", made)
-            taken = os.path.join(place, made()[0])
+            stopped = stopped_in(log)
+            made, = [name for name in os.listdir(place) if ".status-copy-" in name]
+            taken = os.path.join(place, made)
             os.rename(taken, os.path.join(place, "moved"))
             os.symlink(victim, taken)
+            os.kill(stopped, signal.SIGCONT)
             expect(f"status, its folder is taken {row}", end_of(looking), FILE_FAULT)
+            left = sorted(os.listdir(os.path.join(place, "moved")))
+            expect(f"its folder is taken {row}: what it had made there", len(left), at)
         want_names(f"its folder is taken {row}", victim, ["desk[.]db", "desk[.]db-wal"])
         expect(f"its folder is taken {row}: a victim", pair(os.path.join(victim, "desk.db")),
                [b"kept", b"kept"])
