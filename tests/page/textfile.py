@@ -6,12 +6,12 @@ import json
 import os
 import re
 import shutil
-import socket
 import subprocess
 import time
 import urllib.request
 
 import stories
+from world import free_port
 
 HERE = os.path.dirname(os.path.abspath(__file__))
 OPERATIONS = os.path.join(HERE, "..", "..", "examples", "operations")
@@ -197,8 +197,7 @@ def collect(folder, text):
     os.mkdir(place)
     with open(os.path.join(place, "canary.prom"), "wb") as file:
         file.write(text)
-    with socket.create_server(("127.0.0.1", 0)) as held:
-        port = held.getsockname()[1]
+    port = free_port()
     shown = subprocess.Popen([exporter, "--collector.disable-defaults", "--collector.textfile",
                               f"--collector.textfile.directory={place}",
                               f"--web.listen-address=127.0.0.1:{port}"], stdin=subprocess.DEVNULL,
