@@ -181,7 +181,7 @@ def try_last_second(world):
     """A whole call ends with its last second, and not with the one behind that."""
     with world.desk("last-second") as desk:
         add(desk)
-        found = soonest("watch", .9, 1.8, lambda: desk.ask("watch", "--timeout", "1", "web"))
+        found = soonest("watch", 1.9, 2.8, lambda: desk.ask("watch", "--timeout", "2", "web"))
         want("watch", found, PENDING, "web Paused, step 1, weight 20%, version v2,"
              " waits for a promotion\n", NOT_IN_TIME)
 

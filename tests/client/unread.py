@@ -144,7 +144,7 @@ def try_watch_unread(world):
         found = world.run(["watch", "--until", "Paused", "--desk", f"127.0.0.1:{port}", "web"], place)
         want("a pause past the last moment", found, DONE,
              "web Paused, step 1, weight 20%, pause of 60 s, which does not end\n")
-    with serving(unread[0][0], standing, lines) as port, process(
+    with serving(unread[0][0], *[standing, lines] * 100) as port, process(
             [world.program, "watch", "--forever", "--desk", f"127.0.0.1:{port}", "web"], cwd=place,
             env=environment(), stdin=subprocess.DEVNULL, stdout=subprocess.PIPE,
             stderr=subprocess.PIPE) as watch:
