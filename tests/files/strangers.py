@@ -79,7 +79,7 @@ def try_planted(program, folder):
         part, out = (os.path.join(place, name) for name in ("out.part", "out"))
         plant(part)
         before = os.lstat(part)
-        words = ["timeout", "10", program, "page", "--db", "desk.db", "out"]
+        words = ["timeout", "50", program, "page", "--db", "desk.db", "out"]
         expect(f"page beside {kind}", told(words, cwd=place), DONE)
         expect(f"page beside {kind}: a page", bytes_of(out)[-8:], b"</html>\n")
         expect(f"page beside {kind}: the victim", bytes_of(victim), b"kept")
@@ -212,7 +212,7 @@ def try_odd_logs(program, folder):
             ("a link", lambda name: os.symlink("secret", name), FILE_FAULT),
             ("a FIFO", os.mkfifo, (1, b"", b"canary: storage\n"))):
         make(file + "-wal")
-        words = ["timeout", "10", program, "backup", "--db", "desk.db", "copy"]
+        words = ["timeout", "50", program, "backup", "--db", "desk.db", "copy"]
         expect(f"backup, the log is {kind}", told(words, cwd=place), fault)
         os.remove(file + "-wal")
     want_names("backup, an odd log: what is left", place, ["desk[.]db", "secret"])
