@@ -102,8 +102,8 @@ def main():
         signal.signal(number, end_all)
     failed = try_all(world, names, BESIDE)
     if failed:
-        # A desk that is killed leaves its port, which a server of another part may then be given.
-        # So what failed beside other parts is tried once more, alone, in a folder of its own.
+        # A machine that stands still for seconds makes what is about seconds fail. So what failed
+        # beside other parts is tried once more, alone, in a folder of its own.
         again = os.path.join(folder, "again")
         os.mkdir(again)
         world = World(os.path.realpath(program), again, is_whole == "1", int(share))
