@@ -25,6 +25,9 @@ def name_of_kept():
         probe = f"{folder}/crates/{PROBE}"
         subprocess.run(["rt", "new", probe, "start_lib"], cwd=folder, check=True,
                        stdout=subprocess.DEVNULL)
+        # Some kits name the crate there, too.
+        with contextlib.suppress(FileNotFoundError):
+            os.remove(f"{probe}/BUILD.bazel")
         with open(f"{folder}/crates.txt", "w", encoding="utf-8") as crates:
             crates.write(f"{PROBE}:\n")
         subprocess.run(["rt", "check"], cwd=probe, check=True, stdout=subprocess.DEVNULL)
