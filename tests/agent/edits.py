@@ -13,6 +13,7 @@ from replies import want_plain
 from world import WORDS, Wrong, expect
 
 NO_PROVIDER = "no file has a provider for this metric"
+GONE = "not measured any more: no file has a Rollout of this name"
 USED_AGAIN = "nothing is found in the files any more: they are used as they are now"
 SIX, SEVEN = "result < 0.5", "result < 0.500001"
 
@@ -205,8 +206,8 @@ def try_new_file(world):
 
 
 def try_no_rollout(world):
-    """A file loses its Rollout, which nothing is found in: its service is measured no more, and
-    again once the Rollout is back."""
+    """A file loses its Rollout, which nothing is found in: its service is measured no more, which is
+    said once, and again once the Rollout is back."""
     with provider(lambda *_: reply("0.25")) as server:
         of, web = template_of(server.port, names=("p",)), measured_beside("web", "of")
         with desk_for(world, "no-rollout", of, web) as desk, agent_of(desk) as agent:
@@ -215,7 +216,7 @@ def try_no_rollout(world):
             want_rest("measured no more", lambda: count_of(desk, "p.e6"), 3)
             put(desk, listed(of, web))
             wait_more(desk, "p.e6")
-            expect("its errors", but_late(agent.errors()), "")
+            expect("its errors", but_late(agent.errors()), f"canary: web: {GONE}\n")
 
 
 def try_strange_files(world):

@@ -187,7 +187,7 @@ def try_seconds(world):
 
 def try_refused_providers(world):
     """What no agent asks is said by name as the files are read, with the service and the metric;
-    the others are measured."""
+    the others are measured. Of a time, 0 seconds are as if absent."""
     refused = {
         "kind": {"datadog": {"query": "x"}},
         "https": {"web": {"url": "https://127.0.0.1/"}},
@@ -199,7 +199,7 @@ def try_refused_providers(world):
         "range": {"prometheus": {"address": "http://127.0.0.1:1", "query": "x",
                                  "rangeQuery": {"start": "now() - 60", "end": "now()"}}},
         "member": {"web": {"url": "http://127.0.0.1/", "jsonPaths": "{$.a}"}},
-        "no-seconds": {"web": {"url": "http://127.0.0.1/", "timeoutSeconds": 0}},
+        "no-seconds": {"web": {"url": "http://127.0.0.1/", "timeoutSeconds": -1}},
         "no-number": {"prometheus": {"address": "http://127.0.0.1:1", "query": "x",
                                      "timeout": "5s"}},
         "query-in-address": {"prometheus": {"address": "http://127.0.0.1:1/a?b=c",
@@ -219,7 +219,7 @@ def try_refused_providers(world):
     }
     with provider(lambda *_: reply("0.25")) as server:
         metrics = [metric(name, of, successCondition="result < 1") for name, of in refused.items()]
-        metrics.append(metric("good", of_web(server.port), interval="20s",
+        metrics.append(metric("good", of_web(server.port, timeoutSeconds=0), interval="20s",
                               successCondition="result < 1"))
         with desk_for(world, "refused-providers", template("of", *metrics),
                       measured_beside("web", "of")) as desk:

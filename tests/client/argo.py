@@ -1,7 +1,7 @@
 """Argo's manifests that `do --argo` translates and sends: parts of client.py."""
 import json
 
-from words import MANIFEST, NO_FILE
+from words import MANIFEST
 from world import (
     CONTRADICTION, DONE, KEY_USED, LOCAL, PENDING, REFUSED, WORDS, answering, ask, expect, rollout,
     shows, want, want_all_said, want_delivered)
@@ -10,6 +10,8 @@ ARGO = ("--argo",)
 KEY = ("--argo", "--once", "deploy-77")
 UNTRANSLATED = "nothing was sent: these manifests are not translated"
 ARGO_COMMAND = "--argo takes template FILE.. or service FILE.. VERSION"
+UNREAD_FILE = "nothing was sent: a file cannot be read"
+INPUT = "- is no FILE of do --argo: give /dev/stdin"
 LATENCY = """
 apiVersion: argoproj.io/v1alpha1
 kind: AnalysisTemplate
@@ -185,7 +187,14 @@ def try_argo_found(world):
             want(words, ended, WORDS, said=UNTRANSLATED)
             expect(f"{words}: what was found", ended.errors.splitlines()[:-1], [FOUND])
             want_nothing_sent(words, desk)
-        want("no file", desk.do("template", *FILES, "none.yaml", options=ARGO), LOCAL, said=NO_FILE)
+        ended = desk.do("template", *FILES, "none\x1b.yaml", options=ARGO)
+        want("no file", ended, LOCAL, said=UNREAD_FILE)
+        want_all_said("no file", ended, "the file cannot be read: none\\u001b.yaml", UNREAD_FILE)
+        for words in (("template", *FILES, "-"), ("service", "-", "v1")):
+            ended = desk.do(*words, options=ARGO)
+            want(words, ended, WORDS, said=ARGO_COMMAND)
+            want_all_said(words, ended, INPUT, ARGO_COMMAND)
+            want_nothing_sent(words, desk)
         long = " || ".join(["result > 1"] * 51)
         metrics = [{"name": f"m{at}", "successCondition": long, "failureCondition": long,
                     "provider": {"web": {}}} for at in range(32)]

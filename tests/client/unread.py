@@ -9,7 +9,7 @@ from sends import HEADER
 from strangers import JSON, body_with, serving
 from world import (
     CONTRADICTION, DONE, LOCAL, REFUSED, REPLACED, STARTED, WORDS, add, answering, environment,
-    expect, process, shown, want, want_all_said, want_delivered,
+    expect, process, rollout, shown, want, want_all_said, want_delivered,
 )
 
 LATE_CLOCK = ("the clock is past the last moment that a desk takes, the end of the year 9998:"
@@ -121,6 +121,25 @@ def try_due_unread(world):
     return f"{len(SERVICES_UNREAD) + len(RUNS_UNREAD)} replies"
 
 
+def try_agent_unread(world):
+    """Of such a reply the agent says the same, and measures nothing."""
+    place = world.place("agent-unread")
+    of = {"kind": "AnalysisTemplate", "metadata": {"name": "of"}, "spec": {"metrics": [
+        {"name": "m", "successCondition": "result > 1",
+         "provider": {"web": {"url": "http://127.0.0.1/"}}}]}}
+    web = rollout("web", {"setWeight": 10}, {"analysis": {"templates": [{"templateName": "of"}]}})
+    (place / "web.json").write_text(json.dumps({"kind": "List", "items": [of, web]}))
+    releases = body_with(code="ok", moment=9, open=[1], service="web", stable="v1", version="v2")
+    service = reply(200, releases, JSON)
+    served = [[it] for it in SERVICES_UNREAD + [SERVICE]] + [[service, it] for it in RUNS_UNREAD]
+    for number, replies in enumerate(served):
+        with serving(*replies) as port:
+            found = world.run(["agent", "--once", "--journals", "journals", "--desk",
+                               f"127.0.0.1:{port}", "web.json"], place)
+            want(number, found, CONTRADICTION, said=f"web: {REPLY_UNREAD}")
+    return f"{len(served)} replies"
+
+
 def try_watch_unread(world):
     """The same of a service and of its history that `watch` cannot read. A call without end says so,
     and goes on."""
@@ -144,15 +163,19 @@ def try_watch_unread(world):
         found = world.run(["watch", "--until", "Paused", "--desk", f"127.0.0.1:{port}", "web"], place)
         want("a pause past the last moment", found, DONE,
              "web Paused, step 1, weight 20%, pause of 60 s, which does not end\n")
-    with serving(unread[0][0], *[standing, lines] * 100) as port, process(
+    with serving(standing, late) as port:
+        found = world.run(["watch", "--json", "--until", "Paused", "--desk", f"127.0.0.1:{port}",
+                           "web"], place)
+        expect("its end in JSON", (found.status, json.loads(found.output)["until"]), (DONE, None))
+    with serving(*unread[0] * 3, *[standing, lines] * 100) as port, process(
             [world.program, "watch", "--forever", "--desk", f"127.0.0.1:{port}", "web"], cwd=place,
             env=environment(), stdin=subprocess.DEVNULL, stdout=subprocess.PIPE,
             stderr=subprocess.PIPE) as watch:
         expect("it goes on", watch.stdout.readline(),
                b"web Paused, step 1, weight 20%, waits for a promotion\n")
         watch.kill()
-        expect("what it said", {*watch.stderr.read().splitlines()},
-               {f"canary: {REPLY_UNREAD}".encode()})
+        expect("what it said, once", watch.stderr.read().splitlines(),
+               [f"canary: {REPLY_UNREAD}".encode()])
     return f"{len(unread)} replies"
 
 

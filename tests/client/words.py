@@ -159,7 +159,7 @@ def try_words(world):
 
 def try_long_manifests(world):
     """A manifest whose command is of 65,536 bytes is taken; one of a byte more the desk would not
-    read, so nothing is asked."""
+    read, so nothing is asked. Comments of YAML are no part of a command."""
     with world.desk("long-manifests") as desk:
         for words, around, name in ((("template", "t.json"), '{"template":%s}', "t"),
                                     (("service", "web.json", "v1"),
@@ -175,6 +175,10 @@ def try_long_manifests(world):
                     want(words, found, WORDS, said=MANIFEST)
                     expect("nothing is asked", desk.kept(), [] if name == "t" else [
                         (1, 200, '{"code":"ok","revision":1,"template":"t"}')])
+        desk.write("commented.yaml", "# a comment\n" * 6_000
+                   + "metadata: {name: c}\nspec: {metrics: [{name: m}]}\n")
+        want("comments", desk.do("template", "commented.yaml"), DONE,
+             '{"code":"ok","revision":1,"template":"c"}\n')
         want_delivered("long manifests", desk)
 
 

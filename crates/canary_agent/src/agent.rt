@@ -3,6 +3,7 @@ use crate::ended::AgentStop;
 use crate::options::AgentOptions;
 use crate::reader::LineReader;
 use crate::rounds::{AgentInputs, Rounds};
+use canary_argo_files::reading::STANDARD_INPUT;
 use canary_base::lists::Text;
 use canary_base::names::Name;
 use canary_cli_words::words::AgentCall;
@@ -51,6 +52,14 @@ fn try_agent<R: Read, W: Write, F: Write>(
 ) -> Result<ClientExit, AgentStop> {
     if call.files.as_slice().is_empty() {
         return Err(AgentStop::NoFiles);
+    }
+    if call
+        .files
+        .as_slice()
+        .iter()
+        .any(|file| file.as_str() == STANDARD_INPUT)
+    {
+        return Err(AgentStop::InputAsFile);
     }
     let place = endpoint_of(rt, &call.desk)?;
     let folder = folder_of(rt, call)?;

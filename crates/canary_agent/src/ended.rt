@@ -14,6 +14,8 @@ pub(crate) enum AgentStop {
     Folder,
     /// No file is given.
     NoFiles,
+    /// Standard input is given as a file of manifests.
+    InputAsFile,
     /// The files have something that is not translated.
     Manifests,
     /// The files have no service that can be measured.
@@ -30,6 +32,7 @@ impl AgentStop {
         match self {
             AgentStop::Stopped(stop) => stop.outcome(),
             AgentStop::NoJournals | AgentStop::NoFiles => ClientExit::Words,
+            AgentStop::InputAsFile => ClientExit::Words,
             AgentStop::Manifests | AgentStop::NoService => ClientExit::Words,
             AgentStop::Folder | AgentStop::Values | AgentStop::Connections => ClientExit::Local,
         }
@@ -44,11 +47,13 @@ impl AgentStop {
             }
             AgentStop::Folder => "the folder of the journals cannot be made",
             AgentStop::NoFiles => "give files or folders of Argo's manifests",
+            AgentStop::InputAsFile =>
+                "- is no FILE of agent, which reads its files again: give a file or a folder",
             AgentStop::Manifests => "nothing is measured: these manifests are not translated",
             AgentStop::NoService =>
                 "nothing is measured: these files have no Rollout to measure for",
             AgentStop::Values => "the file with values cannot be read",
-            AgentStop::Connections => "the system tells nothing of connections",
+            AgentStop::Connections => "this machine cannot wait for connections (epoll)",
         }
     }
 }

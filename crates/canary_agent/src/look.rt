@@ -44,7 +44,7 @@ pub struct Looked {
 ///
 /// # Errors
 /// `NoService` if there is none; `NoDesk` if the desk did not answer; `Query` if it refused a
-/// query, or its reply is none to it; `Memory`.
+/// query; `ReplyUnread` if its reply cannot be read; `Memory`.
 pub fn look<N: Network>(
     alloc: Global,
     network: &mut N,
@@ -68,32 +68,32 @@ pub fn look<N: Network>(
     look_at_runs(alloc, network, service, looked, runs.as_slice(), tries)
 }
 
-// The desk's moment in a service's reply; `Query` if it is missing or invalid.
+// The desk's moment in a service's reply; `ReplyUnread` if it is missing or invalid.
 fn moment_of(service: &Value) -> Result<Moment, Stop> {
     match service.get("moment").and_then(Value::as_u64) {
-        Some(seconds) => Moment::new(seconds).ok_or(Stop::Query),
-        None => Err(Stop::Query),
+        Some(seconds) => Moment::new(seconds).ok_or(Stop::ReplyUnread),
+        None => Err(Stop::ReplyUnread),
     }
 }
 
-// The version in this member of a service's reply; `Query` if it is missing or invalid.
+// The version in this member of a service's reply; `ReplyUnread` if it is missing or invalid.
 fn version_of(service: &Value, member: &str) -> Result<Label, Stop> {
     match service.get(member).and_then(Value::as_str) {
-        Some(version) => Label::read(version.as_bytes()).ok_or(Stop::Query),
-        None => Err(Stop::Query),
+        Some(version) => Label::read(version.as_bytes()).ok_or(Stop::ReplyUnread),
+        None => Err(Stop::ReplyUnread),
     }
 }
 
-// The open runs.
+// The open runs; `ReplyUnread` if they are missing or invalid.
 fn runs_of(alloc: Global, service: &Value) -> Result<Vec<Number>, Stop> {
     let Some(open) = service.get("open").and_then(Value::as_array) else {
-        return Err(Stop::Query);
+        return Err(Stop::ReplyUnread);
     };
     let mut runs = Vec::new(alloc);
     for run in open.iter() {
         match run.as_u64().and_then(number_of) {
             Some(run) => runs.push(run)?,
-            None => return Err(Stop::Query),
+            None => return Err(Stop::ReplyUnread),
         }
     }
     Ok(runs)
@@ -143,7 +143,7 @@ impl Looked {
     // Adds what is due of a run, and when more is.
     fn add_run(&mut self, run: Number, value: &Value) -> Result<(), Stop> {
         let Some(metrics) = value.get("metrics").and_then(Value::as_array) else {
-            return Err(Stop::Query);
+            return Err(Stop::ReplyUnread);
         };
         for metric in metrics.iter() {
             if let Some(since) = metric.get("due").and_then(Value::as_u64) {
@@ -161,7 +161,7 @@ impl Looked {
         }
         match due_of(run, metric, since) {
             Some(due) => Ok(self.due.push(due)?),
-            None => Err(Stop::Query),
+            None => Err(Stop::ReplyUnread),
         }
     }
 }

@@ -8,15 +8,13 @@ use canary_base::durations::Seconds;
 use canary_base::error::Memory;
 use canary_base::lists::Text;
 use canary_base::names::{Label, Name};
-use canary_client::outcome::{say, say_lines, say_of, say_warnings};
+use canary_client::outcome::{say, say_lines, say_unread, say_warnings};
 use canary_convert::conversion::Converted;
 use canary_convert::work::{Made, Planned};
 use canary_page_html::shown::{TextKind, shown};
 use serde_json::Value;
 use std::alloc::Global;
 use std::io::Write;
-
-const UNREAD: &str = "the file cannot be read";
 
 /// What is measured by these files; none if they are not translated, and then `errors` says why, or
 /// else what is warned of. With `has_lines` another program gives what no provider is asked for;
@@ -41,7 +39,7 @@ pub(crate) fn plan_in<F: Write>(
         Ok(manifests) => plan_of(alloc, &manifests, has_lines, errors),
         Err(FileReadFault::Memory) => Err(Memory),
         Err(FileReadFault::File(index)) => {
-            say_unread(alloc, names.as_slice(), index, errors);
+            say_unread(alloc, errors, names.as_slice(), index);
             Ok(None)
         }
     }
@@ -54,14 +52,6 @@ fn say_faults<F: Write>(alloc: Global, faults: &[String], errors: &mut F) -> Res
         say(errors, line.as_str());
     }
     Ok(())
-}
-
-// Says that the file at this index cannot be read, with its name.
-fn say_unread<F: Write>(alloc: Global, names: &[Text], index: usize, errors: &mut F) {
-    match names.get(index) {
-        Some(name) => say_of(alloc, errors, UNREAD, name.as_str()),
-        None => say(errors, UNREAD),
-    }
 }
 
 // What is measured by these manifests; none if they are not translated, and `errors` says why.

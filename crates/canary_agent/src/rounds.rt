@@ -32,7 +32,7 @@ const LONGEST: u64 = 1_000;
 // The most lines of another program that are read in a round.
 const MAX_LINES: u32 = 1_000;
 
-// The most bytes that are shown of a line that is none.
+// The most bytes that are shown of an invalid line.
 const MAX_SHOWN: usize = 200;
 
 const HINDERED: &str =
@@ -46,7 +46,11 @@ const USED_AGAIN: &str = "nothing is found in the files any more: they are used 
 
 const ENDED: &str = "the program that gives values has ended: no more come";
 
+const GONE: &str = "not measured any more: no file has a Rollout of this name";
+
 const NO_CALLER: &str = "not measured: its caller's name would have more than 63 bytes";
+
+const LONG_LINE: &str = "a line of --values has more than 4,096 bytes, and is left out";
 
 const NO_LINE: &str = "a line of --values is no SERVICE METRIC VALUE of these files";
 
@@ -116,7 +120,8 @@ impl Rounds {
         Ok(rounds)
     }
 
-    // Attends the services of a plan from now on. One that was attended goes on.
+    // Attends the services of a plan from now on. One that was attended goes on; of one that the
+    // plan does not have any more, a line says so.
     fn serve<F: Write>(
         &mut self,
         alloc: Global,
@@ -133,7 +138,7 @@ impl Rounds {
                 None => self.add(alloc, prefix, served, errors)?,
             }
         }
-        Ok(())
+        before.tell_gone(alloc, errors)
     }
 
     // Attends one service more. If its caller's name would be too long, says so and leaves it out.
@@ -212,14 +217,11 @@ impl Rounds {
         }
     }
 
-    // Reads the files again, and answers whether one changed.
+    // Looks at the files again, and answers whether one changed.
     fn have_changed(&mut self, rt: &HostRuntime, names: &[Text]) -> Result<bool, Memory> {
         let files = Files::look(rt, names)?;
-        if files.are_as(&self.files) {
-            return Ok(false);
-        }
-        self.files = files;
-        Ok(true)
+        let before = mem::replace(&mut self.files, files);
+        Ok(!self.files.are_as(&before))
     }
 
     // Attends what the files name as they are now. If they can be used after they could not, says
@@ -272,7 +274,7 @@ impl Rounds {
             };
             match reader.next(alloc, input)? {
                 ReadLine::Line(line) => self.read_line(alloc, line.as_slice(), now, errors)?,
-                ReadLine::TooLong => say_no_line(alloc, b"", errors)?,
+                ReadLine::TooLong => say(errors, LONG_LINE),
                 ReadLine::End => say(errors, ENDED),
                 ReadLine::Nothing => return Ok(()),
             }
@@ -435,6 +437,15 @@ impl Known {
         }
         Ok(found)
     }
+
+    // Says of each that no file has a Rollout of its name any more; or `Memory`.
+    fn tell_gone<F: Write>(&self, alloc: Global, errors: &mut F) -> Result<(), Memory> {
+        for attended in &self.list {
+            let service = attended.name();
+            say(errors, format!(in alloc; "{service}: {GONE}")?.as_str());
+        }
+        Ok(())
+    }
 }
 
 // The service as it was attended, with what is measured of it by the new files.
@@ -467,7 +478,7 @@ fn caller_of(alloc: Global, prefix: &str, service: Name) -> Result<Option<Name>,
     Ok(Name::read(text.as_str().as_bytes()))
 }
 
-// Says that a line is none, and how it begins.
+// Says that a line is invalid, and how it begins.
 fn say_no_line<F: Write>(alloc: Global, line: &[u8], errors: &mut F) -> Result<(), Memory> {
     let front = line.get(..line.len().min(MAX_SHOWN)).unwrap_or(&[]);
     let front = String::from_utf8_lossy(alloc, front)?;

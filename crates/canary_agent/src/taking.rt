@@ -62,6 +62,18 @@ impl Taking {
         self.run == run && self.metric == *metric
     }
 
+    // When something is to be done of it; never while a provider is asked, whose answer, or the end
+    // of its time, is waited for elsewhere.
+    fn next_at(&self) -> u64 {
+        if self.came.is_some() {
+            self.report_at
+        } else if self.message.is_some() {
+            u64::MAX
+        } else {
+            self.ends_at
+        }
+    }
+
     // How the reply to the message of this token is read, if it is asked for by it.
     fn answer_to(&self, token: usize) -> Option<&ReplyFormat> {
         match &self.message {
@@ -235,11 +247,7 @@ impl Takings {
     pub(crate) fn next_at(&self) -> Option<u64> {
         let mut next: Option<u64> = None;
         for taking in &self.list {
-            let at = if taking.came.is_some() {
-                taking.report_at
-            } else {
-                taking.ends_at
-            };
+            let at = taking.next_at();
             next = Some(next.unwrap_or(at).min(at));
         }
         next

@@ -41,7 +41,7 @@ fn word_of(text: &str) -> Option<(&str, &str)> {
 }
 
 /// What a value says was measured: a decimal, NaN, an infinity or null, or a list of these in
-/// brackets with commas. None if it is none; or `Memory`.
+/// brackets with commas. None if it is invalid; or `Memory`.
 pub(crate) fn measured_in(alloc: Global, value: &str) -> Result<Option<Measured>, Memory> {
     let Some(inside) = value
         .strip_prefix("[")

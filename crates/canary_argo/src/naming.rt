@@ -19,7 +19,7 @@ fn of_word(word: &[u8], next: Option<u8>) -> UnsupportedSyntax {
         UnsupportedSyntax::Matching
     } else if is_same(word, "true") || is_same(word, "false") {
         UnsupportedSyntax::Truth
-    } else if is_same(word, "nil") || is_same(word, "null") {
+    } else if is_same(word, "nil") || is_same(word, "null") || is_same(word, "isNil") {
         UnsupportedSyntax::Nil
     } else if next == Some(b'(') {
         UnsupportedSyntax::Function

@@ -136,7 +136,8 @@ impl FileFindings {
     }
 }
 
-// Appends the line of a finding: its file, line, column, path if it is not empty, and text.
+// Appends the line of a finding: its file, line and column if it is of a file, its path if that is
+// not empty, and its text.
 fn push_line(
     alloc: Global,
     out: &mut String,
@@ -144,7 +145,9 @@ fn push_line(
     files: &[ArgoFile],
 ) -> Result<(), Memory> {
     let name = shown(alloc, name_of(files, found.file), TextKind::Line)?;
-    write!(out, "{name}:{}:{}: ", found.line, found.column)?;
+    if !name.is_empty() {
+        write!(out, "{name}:{}:{}: ", found.line, found.column)?;
+    }
     if !found.path.is_empty() {
         write!(out, "{}: ", found.path.as_str())?;
     }

@@ -16,6 +16,9 @@ pub const STANDARD_INPUT: &str = "-";
 /// The most bytes of a file: 16 MiB. One in YAML has 1 MiB at most.
 pub const MAX_BYTES: usize = 16_777_216;
 
+// The byte order mark of UTF-8.
+const BYTE_ORDER_MARK: &[u8] = b"\xef\xbb\xbf";
+
 /// A file that was read.
 #[derive(Drop)]
 pub struct ArgoFile {
@@ -145,10 +148,12 @@ enum FileContent {
 // Reads the bytes of a file as JSON or, unless they are meant as JSON, as YAML. What is unreadable
 // is a `Refused`, and no error.
 fn documents_of(alloc: Global, bytes: &[u8]) -> Result<FileContent, Memory> {
-    match Value::from_slice(alloc, bytes) {
+    // kubectl takes JSON behind a byte order mark, too
+    let text = bytes.strip_prefix(BYTE_ORDER_MARK).unwrap_or(bytes);
+    match Value::from_slice(alloc, text) {
         Ok(value) => return Ok(FileContent::Json(value)),
         Err(fault) if fault.is_memory() => return Err(Memory),
-        Err(fault) if is_meant_as_json(bytes) => {
+        Err(fault) if is_meant_as_json(text) => {
             return Ok(FileContent::Refused(no_json(alloc, fault.line(), fault.column())?));
         }
         Err(_) => {}

@@ -2,10 +2,10 @@
 //! each member that it would not read, or would refuse, where the member stands and what is
 //! expected there.
 //!
-//! Callers may rest on this: `CheckReport` are ok, and their text is `ok`, exactly where the desk
+//! Callers may rest on this: a `CheckReport` is ok, and its text is `ok`, exactly if the desk
 //! reads the manifest, as the body of a command, or the body itself, and refuses nothing that it
 //! holds itself (`Memory` aside). If nothing is warned of, no service is registered that time alone
-//! brings to 100 percent. No contract says which other warnings `CheckReport` have.
+//! brings to 100 percent. No contract says which other warnings a `CheckReport` has.
 //!
 //! In use (canary_cli, src/check.rt):
 //!

@@ -84,10 +84,21 @@ fn tell_times(lines: &mut Lines, place: JsonPlace, metric: &Value) {
 // Adds that a duration is expected under that key, and of a number of seconds how to write it.
 fn tell_duration(lines: &mut Lines, place: JsonPlace, metric: &Value, key: &str) {
     lines.tell(place, key, DURATION);
-    if let Some(seconds) = member_of(metric, key).and_then(Value::as_u64)
+    if let Some(seconds) = member_of(metric, key).and_then(seconds_in)
         && seconds <= LONGEST as u64
     {
         lines.instead_in_seconds(seconds);
+    }
+}
+
+// The whole number that a member is, or that its text spells in digits alone.
+fn seconds_in(member: &Value) -> Option<u64> {
+    match member.as_str() {
+        Some(text) if text.as_bytes().iter().all(|byte| byte.is_ascii_digit()) => {
+            text.parse::<u64>().ok()
+        }
+        Some(_) => None,
+        None => member.as_u64(),
     }
 }
 

@@ -242,7 +242,7 @@ fn write_file(rt: &HostRuntime, folder: &str, name: &str, line: &str) -> Result<
     let mut draft = Draft::of(rt, path.as_str())?;
     if write_line(&mut draft, line).is_err() {
         draft.remove(rt);
-        return Err(Fault::Write);
+        return Err(Fault::File);
     }
     Ok(draft.name(rt)?)
 }

@@ -103,8 +103,8 @@ fn check_documents<W: Write, F: Write>(
     Ok(ProgramExit::Findings)
 }
 
-// Adds what the desk would refuse of a document, with the line in which it begins, unless that is
-// 0; and warns of it.
+// Adds what the desk would refuse of a document, and warns of what it takes; each with the line in
+// which the document begins, unless that is 0.
 fn add_found<F: Write>(
     alloc: Global,
     found: &mut String,
@@ -114,11 +114,18 @@ fn add_found<F: Write>(
     errors: &mut F,
 ) -> Result<(), Fault> {
     let findings = counted(alloc, found_in(alloc, document)?, strict)?;
-    warn(&findings, errors);
+    let mut warned = String::new(alloc);
+    add_lines(&mut warned, findings.warnings(), line)?;
+    warn(warned.as_str(), errors);
     if findings.is_ok() {
         return Ok(());
     }
-    match yaml::add_lines(found, findings.text(), line) {
+    add_lines(found, findings.text(), line)
+}
+
+// Adds lines, each with the line in which its document begins, unless that is 0.
+fn add_lines(found: &mut String, lines: &str, line: usize) -> Result<(), Fault> {
+    match yaml::add_lines(found, lines, line) {
         Ok(()) => Ok(()),
         Err(_) => Err(Fault::Memory),
     }
@@ -204,7 +211,7 @@ fn show_findings<W: Write, F: Write>(
 {
     let findings = counted(alloc, findings, strict)?;
     show(findings.text(), output)?;
-    warn(&findings, errors);
+    warn(findings.warnings(), errors);
     if findings.is_ok() {
         Ok(ProgramExit::Done)
     } else {
@@ -231,9 +238,9 @@ fn counted(alloc: Global, findings: CheckReport, strict: bool) -> Result<CheckRe
     }
 }
 
-// Writes on `errors` what a check warns of.
-fn warn<F: Write>(findings: &CheckReport, errors: &mut F) {
-    for line in findings.warnings().lines() {
+// Writes on `errors` what a check warns of, in these lines.
+fn warn<F: Write>(lines: &str, errors: &mut F) {
+    for line in lines.lines() {
         let _ = warn_of(line, errors);
     }
 }

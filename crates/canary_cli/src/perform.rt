@@ -87,8 +87,9 @@ pub struct Terminals {
 
 /// Runs a command line, the words behind the program's name, on this input, output and error
 /// stream, with the machine's files, sockets and clocks, and answers the exit status. Long work
-/// shows on `errors` how far it has come. If that is a terminal, `import`, `history` and `export`
-/// say there that they made a file that was not there.
+/// shows on `errors` how far it has come, and the check of a file on the standard error of the
+/// process. If `errors` is a terminal, `import`, `history` and `export` say there that they made a
+/// file that was not there.
 ///
 /// 0: what was asked was done, or help or the version was asked for, whose text is written to
 /// `output`. 1: a check found something, or a fault, which one line `canary: WORD` on `errors`

@@ -15,6 +15,7 @@
 #![tactic(auto)]
 
 mod client;
+mod client_commands;
 mod client_help;
 mod commands;
 mod help;

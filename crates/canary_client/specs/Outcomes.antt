@@ -85,6 +85,7 @@ outcome_of stop.JournalBroken = Local
 outcome_of stop.JournalNoFile = Local
 outcome_of stop.JournalEmptied = Local
 outcome_of stop.File = Local
+outcome_of stop.ArgoFile = Local
 outcome_of stop.RowsSpent = Local
 outcome_of stop.Output = Local
 outcome_of stop.Clock = Local

@@ -1,7 +1,7 @@
 //! What `do --argo` asks: the commands that manifests of Argo Rollouts become.
-use crate::outcome::{Stop, say_lines, say_warnings};
+use crate::outcome::{Stop, say, say_lines, say_unread, say_warnings};
 use crate::wish::{Asking, label_of, service_asking, template_asking};
-use canary_argo_files::reading::{FileReadFault, Manifests, read_files};
+use canary_argo_files::reading::{FileReadFault, Manifests, STANDARD_INPUT, read_files};
 use canary_argo_files::translated::{Translated, translate};
 use canary_base::lists::Text;
 use canary_base::names::Label;
@@ -11,6 +11,8 @@ use canary_convert::work::Made;
 use std::alloc::Global;
 use std::fs::Files;
 use std::io::Write;
+
+const INPUT: &str = "- is no FILE of do --argo: give /dev/stdin";
 
 /// A command, and the name of what it registers.
 #[derive(Drop)]
@@ -25,8 +27,8 @@ pub(crate) struct NamedCommand {
 ///
 /// # Errors
 /// `ArgoCommand` if the words are no such command, `Argo` if anything is found, `ArgoNothing` if
-/// the files have no template, or no Rollout; `NoVersion`, `BadVersion`; `File` if a file cannot be
-/// read; `Manifest` if the desk takes no body of that length; `Memory`.
+/// the files have no template, or no Rollout; `NoVersion`, `BadVersion`; `ArgoFile` if a file
+/// cannot be read; `Manifest` if the desk takes no body of that length; `Memory`.
 pub(crate) fn commands_of<P: Files + AllocGlobal, F: Write>(
     rt: &P,
     words: &AskedCommand,
@@ -115,7 +117,8 @@ fn named_each(
     Ok(commands)
 }
 
-// What the files become, if nothing is found in them.
+// What the files become, if nothing is found in them; `ArgoFile` if one cannot be read, and
+// `errors` says which.
 fn made_of<P: Files + AllocGlobal, F: Write>(
     rt: &P,
     files: &[Text],
@@ -124,11 +127,18 @@ fn made_of<P: Files + AllocGlobal, F: Write>(
     if files.is_empty() {
         return Err(Stop::ArgoCommand);
     }
+    if files.iter().any(|file| file.as_str() == STANDARD_INPUT) {
+        say(errors, INPUT);
+        return Err(Stop::ArgoCommand);
+    }
     let mut nothing: &[u8] = &[];
     match read_files(rt, files, &mut nothing) {
         Ok(manifests) => made_in(rt.alloc(), &manifests, errors),
         Err(FileReadFault::Memory) => Err(Stop::Memory),
-        Err(FileReadFault::File(_)) => Err(Stop::File),
+        Err(FileReadFault::File(index)) => {
+            say_unread(rt.alloc(), errors, files, index);
+            Err(Stop::ArgoFile)
+        }
     }
 }
 

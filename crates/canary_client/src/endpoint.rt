@@ -105,6 +105,7 @@ fn looked_up(rt: &HostRuntime, text: &str) -> Result<SocketAddr, Stop> {
     match address_in(rt, text) {
         Ok(address) => Ok(address),
         Err(fault) if fault.kind() == ErrorKind::InvalidInput => Err(Stop::Address),
+        Err(fault) if fault.kind() == ErrorKind::OutOfMemory => Err(Stop::Memory),
         Err(_) => Err(Stop::DeskName),
     }
 }

@@ -4,6 +4,7 @@ ghost use Rattle.std.specs.Io.KnownBytes.{Appends};
 ghost use Rattle.canary_client.specs.Outcomes.{status_of, outcome_of};
 
 use canary_base::error::Memory;
+use canary_base::lists::Text;
 use canary_client_journal::entry::EntryRefusal;
 use canary_client_journal::kept::KeepFault;
 use canary_client_journal::settle::Unsettled;
@@ -14,6 +15,8 @@ use std::io::Write;
 // What is said if no answer came.
 const UNANSWERED: &str =
     "pending: no answer came, so it may have acted or not; the same call again finds out";
+
+const UNREAD: &str = "the file cannot be read";
 
 /// How a call ends.
 #[derive(Clone, Copy, Debug, PartialEq, Eq)]
@@ -173,6 +176,8 @@ pub enum Stop {
     JournalEmptied,
     /// A file cannot be read.
     File,
+    /// A file of Argo's manifests cannot be read.
+    ArgoFile,
     /// A measurement file has too many rows or bytes.
     RowsSpent,
     /// The output failed.
@@ -210,7 +215,7 @@ impl Stop {
             Stop::ReplyUnread => ClientExit::Contradiction,
             Stop::InUse | Stop::Journal | Stop::JournalFull => ClientExit::Local,
             Stop::JournalBroken | Stop::JournalNoFile | Stop::JournalEmptied => ClientExit::Local,
-            Stop::File | Stop::RowsSpent => ClientExit::Local,
+            Stop::File | Stop::ArgoFile | Stop::RowsSpent => ClientExit::Local,
             Stop::Output | Stop::Clock | Stop::LateClock | Stop::Memory => ClientExit::Local,
         }
     }
@@ -367,7 +372,8 @@ impl Stop {
                 "this journal is empty, and the desk has settled commands of this caller. It is \
                  left as it is. Restore it, or remove it to begin a new one"
             }
-            Stop::File => "the file cannot be read",
+            Stop::File => UNREAD,
+            Stop::ArgoFile => "nothing was sent: a file cannot be read",
             Stop::RowsSpent => "the file has more than 1,000,000 rows, or 1,000,000,000 bytes",
             Stop::Output => "the output failed or was closed",
             Stop::Clock => "the clock cannot be read",
@@ -426,6 +432,14 @@ pub fn say_of<F: Write>(alloc: Global, errors: &mut F, sentence: &str, path: &st
             let _ = errors.write_all(b"\n");
         }
         Err(_) => say(errors, sentence),
+    }
+}
+
+/// Says that the file at this index of the names cannot be read.
+pub fn say_unread<F: Write>(alloc: Global, errors: &mut F, names: &[Text], index: usize) {
+    match names.get(index) {
+        Some(name) => say_of(alloc, errors, UNREAD, name.as_str()),
+        None => say(errors, UNREAD),
     }
 }
 

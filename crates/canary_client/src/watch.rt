@@ -7,6 +7,7 @@ use crate::query::value_at;
 use crate::standing::{Hold, Standing, StandingReason, is_of_step, is_word, last_line, parts_of};
 use crate::tcp::Tcp;
 use canary_base::lists::Text;
+use canary_base::moments::Moment;
 use canary_cli_words::words::AskedDesk;
 use canary_client_journal::network::Network;
 use serde_json::{Map, Value};
@@ -65,6 +66,7 @@ fn try_watch<W: Write, F: Write>(
         path,
         tries: place.tries,
         seen: LastShown::nothing(rt.alloc(), manner.is_json),
+        told: None,
     };
     match look_until(rt, looking, until, manner.is_forever, call, output, errors) {
         Ok(outcome) => Ok(outcome),
@@ -85,13 +87,9 @@ fn look_until<W: Write, F: Write>(
     let mut looking = looking;
     for _ in 0..u64::MAX {
         let looked = looking.look(rt.alloc(), output);
-        match went_on(looked, is_forever, errors)? {
-            Some(standing) if !is_forever => {
-                if let Some(outcome) = ended_by(&standing, until) {
-                    return Ok(outcome);
-                }
-            }
-            _ => {}
+        let found = looking.went_on(looked, is_forever, errors)?;
+        if let Some(outcome) = ended_by(found, until, is_forever) {
+            return Ok(outcome);
         }
         call.go_on(rt)?;
     }
@@ -105,6 +103,8 @@ struct Looking<'a> {
     path: String,
     tries: u32,
     seen: LastShown,
+    // Why the last look failed, as it was said.
+    told: Option<Stop>,
 }
 
 impl Looking<'_> {
@@ -113,6 +113,35 @@ impl Looking<'_> {
         let path = self.path.as_str();
         self.seen
             .look(alloc, &mut self.network, path, self.tries, output)
+    }
+
+    // What was found, or nothing if a call without end goes on although no desk answered, it has no
+    // such service, or its reply cannot be read; `errors` has the sentence that says so, once until
+    // a look succeeds or fails otherwise.
+    fn went_on<F: Write>(
+        &mut self,
+        looked: Result<Option<Standing>, Stop>,
+        is_forever: bool,
+        errors: &mut F,
+    ) -> Result<Option<Standing>, Stop> {
+        match looked {
+            Err(stop) if is_forever && is_passing(stop) => {
+                self.tell(stop, errors);
+                Ok(None)
+            }
+            _ => {
+                self.told = None;
+                looked
+            }
+        }
+    }
+
+    // Says why a look failed, unless that was said of the one before.
+    fn tell<F: Write>(&mut self, stop: Stop, errors: &mut F) {
+        if self.told != Some(stop) {
+            say(errors, stop.sentence());
+            self.told = Some(stop);
+        }
     }
 }
 
@@ -126,26 +155,18 @@ fn until_of(manner: &WatchOptions) -> Result<&str, Stop> {
     }
 }
 
-// What was found, or nothing if a call without end goes on although no desk answered, it has no
-// such service, or its reply cannot be read; `errors` has the sentence that says so.
-fn went_on<F: Write>(
-    looked: Result<Option<Standing>, Stop>,
-    is_forever: bool,
-    errors: &mut F,
-) -> Result<Option<Standing>, Stop> {
-    match looked {
-        Err(Stop::NoDesk | Stop::NoService | Stop::Query | Stop::ReplyUnread) if is_forever => {
-            if let Err(stop) = looked {
-                say(errors, stop.sentence());
-            }
-            Ok(None)
-        }
-        _ => looked,
+// Whether a call without end goes on after a look that failed so.
+fn is_passing(stop: Stop) -> bool {
+    match stop {
+        Stop::NoDesk | Stop::NoService | Stop::Query | Stop::ReplyUnread => true,
+        _ => false,
     }
 }
 
-// How the call ends if the service stands as one of these words says.
-fn ended_by(standing: &Standing, until: &str) -> Option<ClientExit> {
+// How the call ends if the service stands as one of these words says; a call without end never
+// does.
+fn ended_by(found: Option<Standing>, until: &str, is_forever: bool) -> Option<ClientExit> {
+    let standing = found.filter(|_| !is_forever)?;
     let mut ended = None;
     for word in until.split(',') {
         if standing.meets(word) && ended != Some(ClientExit::Held) {
@@ -318,13 +339,18 @@ fn number_or_null(number: Option<u64>) -> Value {
     }
 }
 
+// The seconds of a moment; none after the last one, as of a pause that does not end.
+fn moment_at(seconds: u64) -> Option<u64> {
+    Some(Moment::new(seconds)?.get())
+}
+
 // Why, as the members of a JSON value: a word, a run, and when a pause ends.
 fn members_of(why: StandingReason) -> (&'static str, Option<u64>, Option<u64>) {
     match why {
         StandingReason::Plain => ("plain", None, None),
         StandingReason::Held(_) => ("held", None, None),
         StandingReason::Waiting => ("waiting", None, None),
-        StandingReason::Pause { seconds: _, until } => ("pause", None, Some(until)),
+        StandingReason::Pause { seconds: _, until } => ("pause", None, moment_at(until)),
         StandingReason::Analysis { run } => ("analysis", Some(run as u64), None),
         StandingReason::Aborted => ("aborted", None, None),
         StandingReason::AbortedBy { run } => ("aborted", Some(run as u64), None),

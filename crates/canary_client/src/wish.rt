@@ -19,8 +19,11 @@ use std::alloc::Global;
 use std::fs::{File, Files};
 use std::io::{ErrorKind, Read};
 
-// The most bytes of a manifest's file, and of the body of a request.
+// The most bytes of the body of a request.
 const MAX_BYTES: u64 = 65_536;
+
+// The most bytes of a manifest's file, which may have comments and blanks that no body has.
+const MAX_FILE_BYTES: u64 = 16_777_216;
 
 /// What words ask for.
 #[derive(Drop)]
@@ -204,8 +207,8 @@ fn manifest<P: Files + AllocGlobal>(rt: &P, file: &str) -> Result<String, Stop> 
         return Err(Stop::File);
     };
     let mut text = String::new(rt.alloc());
-    match file.take(MAX_BYTES + 1).read_to_string(&mut text) {
-        Ok(_) if text.len() as u64 <= MAX_BYTES => json(rt.alloc(), text),
+    match file.take(MAX_FILE_BYTES + 1).read_to_string(&mut text) {
+        Ok(_) if text.len() as u64 <= MAX_FILE_BYTES => json(rt.alloc(), text),
         Ok(_) => Err(Stop::Manifest),
         Err(error) if error.kind() == ErrorKind::OutOfMemory => Err(Stop::Memory),
         Err(_) => Err(Stop::File),

@@ -48,15 +48,7 @@ pub(crate) fn documents_of<'a>(
     for (index, source) in sources.iter().enumerate() {
         let source_index = u32::try_from(index).unwrap_or(u32::MAX);
         match items_of(&source.value) {
-            Some(items) => {
-                for (item, value) in items.iter().enumerate() {
-                    documents.push(ManifestObject {
-                        source: source_index,
-                        item: Some(item),
-                        value,
-                    })?;
-                }
-            }
+            Some(items) => push_items(&mut documents, source_index, items)?,
             None => documents.push(ManifestObject {
                 source: source_index,
                 item: None,
@@ -65,6 +57,22 @@ pub(crate) fn documents_of<'a>(
         }
     }
     Ok(documents)
+}
+
+// Adds each item of the list of that source.
+fn push_items<'a>(
+    documents: &mut Vec<ManifestObject<'a>>,
+    source: u32,
+    items: &'a Vec<Value>,
+) -> Result<(), Memory> {
+    for (index, value) in items.iter().enumerate() {
+        documents.push(ManifestObject {
+            source,
+            item: Some(index),
+            value,
+        })?;
+    }
+    Ok(())
 }
 
 // The items of a list of documents.

@@ -292,7 +292,12 @@ fn form_of(work: &mut Conversion, spot: &TemplateMetric, kind: &str) -> Option<F
     }
 }
 
-// The form that both conditions together need; without any, that of the provider's kind.
+const UNCONDITIONAL: &str =
+    "without a condition Argo takes each result as Successful; here NaN, an infinity, null, a \
+    text and an empty list are failures (Error)";
+
+// The form that both conditions together need; without any, that of the provider's kind, with a
+// note of what fails by it.
 fn form_of_conditions(
     work: &mut Conversion,
     spot: &TemplateMetric,
@@ -301,6 +306,7 @@ fn form_of_conditions(
     failure: &str,
 ) -> Option<Form> {
     if success.is_empty() && failure.is_empty() {
+        work.note(spot.place, &[UNCONDITIONAL]);
         return Some(unconditional_form(kind));
     }
     let none = Needs::none();

@@ -106,7 +106,8 @@ const EMPTY: &str = "\"\"";
 // What stands before the name that may be meant.
 const MEANT: &str = "; did you mean ";
 
-/// Warns of each member of an object that is not among these. A value that is no object has none.
+/// Warns of each member of an object that is not one of these. A value that is no object has no
+/// members.
 pub(crate) fn warn_of_others(
     work: &mut Conversion,
     place: ManifestPlace,
@@ -121,7 +122,7 @@ pub(crate) fn warn_of_others_of_step(work: &mut Conversion, place: ManifestPlace
     warn_of_each(work, place, step, &STEP, UNKNOWN);
 }
 
-// Warns in these words of each member that is not among these.
+// Warns in these words of each member that is not one of these.
 fn warn_of_each(
     work: &mut Conversion,
     place: ManifestPlace,
@@ -139,8 +140,8 @@ fn warn_of_each(
     }
 }
 
-// Warns of the member of that key, or counts it alone. Its name is looked for among the known ones
-// only if the warning is shown.
+// Warns of the member of that key, or only counts it. A known name that is like it is sought only
+// if the warning is shown.
 fn warn_of(
     work: &mut Conversion,
     place: ManifestPlace,

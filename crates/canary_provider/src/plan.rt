@@ -275,13 +275,14 @@ fn target_at<'a>(value: &Value<'a>, key: &str) -> Result<ProviderTarget<'a>, Pro
     }
 }
 
-// The whole number of seconds under that key, if there is one.
+// The whole number of seconds under that key, if there is one; 0 is as if absent, as in Argo.
 fn seconds_at(value: &Value<'_>, key: &str) -> Result<Option<u64>, ProviderRefusal> {
     match given_at(value, key) {
         None => Ok(None),
         Some(seconds) => match seconds.as_u64() {
-            Some(seconds) if seconds > 0 => Ok(Some(seconds)),
-            _ => Err(ProviderRefusal::Seconds),
+            Some(0) => Ok(None),
+            Some(seconds) => Ok(Some(seconds)),
+            None => Err(ProviderRefusal::Seconds),
         },
     }
 }

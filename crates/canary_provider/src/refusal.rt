@@ -19,7 +19,7 @@ pub enum ProviderRefusal {
     Address,
     /// No query, or one that is no text.
     Query,
-    /// A time that is no whole number of seconds, 1 or more.
+    /// A time that is no whole number of seconds, 0 or more.
     Seconds,
     /// Headers that are no list of objects with `key` and `value`, a key that is no name of a
     /// header, a value with a control, and a header that each message has already.
@@ -72,7 +72,7 @@ impl ProviderRefusal {
                 "expected http://HOST, http://HOST:PORT, or one with a path behind it"
             }
             ProviderRefusal::Query => "expected a query, a text",
-            ProviderRefusal::Seconds => "expected a whole number of seconds, 1 or more",
+            ProviderRefusal::Seconds => "expected a whole number of seconds, 0 or more",
             ProviderRefusal::Headers => "expected a list of objects with key and value",
             ProviderRefusal::HeaderName => "the key of a header is no name of a header",
             ProviderRefusal::HeaderValue =>

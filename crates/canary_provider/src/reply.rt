@@ -46,7 +46,17 @@ pub fn measured_of(
     match Value::from_slice(alloc, body, &mut scratch) {
         Ok(value) => told_of(alloc, says(alloc, answer, &value), body),
         Err(Error::OutOfMemory) => Err(Memory),
-        Err(_) => Ok(Err(text_of(alloc, ReplyFault::Has("no JSON"), body)?)),
+        Err(_) => Ok(Err(text_of(alloc, ReplyFault::Has(no_json(body)), body)?)),
+    }
+}
+
+// What a body is called that is no JSON: one that begins as gzip does was coded, though the message
+// asks for it as it is.
+fn no_json(body: &[u8]) -> &'static str {
+    if body.starts_with(b"\x1f\x8b") {
+        "compressed by gzip, and no JSON"
+    } else {
+        "no JSON"
     }
 }
 

@@ -101,7 +101,7 @@ impl YamlProblem {
             YamlProblem::Trailing => "more text after a value",
             YamlProblem::Empty => "the text has no document",
             YamlProblem::Second => "a second document: keep each in a file of its own",
-            YamlProblem::Json => "JSON, as { before it says, ends here: correct it",
+            YamlProblem::Json => "no JSON from here on, though the text begins with {: correct it",
         }
     }
 }

@@ -55,9 +55,9 @@ pub struct ProgressDisplay<'a, F: Write> {
 
 impl<'a, F: Write> ProgressDisplay<'a, F> {
     /// Shows how much of a file of so many bytes is judged, on `errors`, the standard error of the
-    /// process: as large a share of its bytes as is judged of its rows. Before that SQLite reads and
-    /// checks all of it, which takes a second for some 10 MB: `check` shows that, and is ended once
-    /// the judging begins.
+    /// process: as large a share of its bytes as is judged of its rows. Before that SQLite reads
+    /// and checks all of it, which takes a second for some 10 MB: `check` shows that, and is ended
+    /// once the judging begins.
     pub fn judging(
         rt: &'a HostRuntime,
         errors: &'a mut F,

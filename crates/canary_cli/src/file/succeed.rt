@@ -33,9 +33,9 @@ struct Names {
 /// the newest revision of each template, as its revision 1, and each service, done at its stable
 /// version, with the strategy that it has. It keeps no receipt, no run and no history. The rows of
 /// `old` are judged first, which is shown on standard error. It is not changed, and nobody else
-/// can open it until `new` has its name. The new file is made in a folder beside `new` that its owner
-/// alone may read, by requests of the caller `succeed` at the present moment, and has its name once
-/// it is whole and on the disk.
+/// can open it until `new` has its name. The new file is made in a folder beside `new` that its
+/// owner alone may read, by requests of the caller `succeed` at the present moment, and has its
+/// name once it is whole and on the disk.
 ///
 /// # Errors
 /// `File` if there is no file `old`, if `new` or `new`-wal is there already, or is a name that a
