@@ -155,14 +155,16 @@ def try_untold(program, folder):
 
 
 def try_full(program, folder):
-    """systemd is told also if the output is full."""
+    """systemd is told also if the output and the folder for temporary files are full."""
     row, place = "a desk whose output is full", Place(folder)
     with open("/dev/full", "wb") as full:
-        running = place.begin(program, *SERVE, stdout=full)
+        running = place.begin(program, *SERVE, stdout=full, TMPDIR="/nowhere",
+                              RUNTIME_DIRECTORY=os.path.join(place.folder, "tmp"))
     place.expect_ready(row)
     running.terminate()
     running.communicate(timeout=SECONDS)
-    expect(f"{row}: its end", running.returncode, -signal.SIGTERM)
+    expect(f"{row}: its end", (running.returncode, os.listdir(os.path.join(place.folder, "tmp"))),
+           (-signal.SIGTERM, []))
 
 
 def main():
