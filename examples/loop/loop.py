@@ -74,6 +74,8 @@ class Loop:
         self.folder = pathlib.Path(folder)
         self.port = dict(zip(LISTENING, free_ports(len(LISTENING))))
         self.running, self.shown = {}, collections.Counter()
+        # The path of a socket is short, and HAProxy's configuration takes no blank in it.
+        os.chdir(self.folder)
         (self.folder / "bin").mkdir()
         (self.folder / "bin" / "canary").symlink_to(program)
         self.variables = {**os.environ, "PATH": f"{self.folder}/bin:{os.environ['PATH']}",
@@ -134,7 +136,7 @@ class Loop:
 
     def write_files(self):
         text = (OPERATIONS / "follow.haproxy.cfg").read_text(encoding="utf-8")
-        for old, new in (("/run/haproxy/admin.sock", self.folder / "socket"),
+        for old, new in (("/run/haproxy/admin.sock", "unix@socket"),
                          ("bind :8081", f"bind {self.at('web')}"),
                          ("127.0.0.1:9101", self.at("v1")), ("127.0.0.1:9102", self.at("v2"))):
             text = text.replace(old, str(new))
@@ -184,7 +186,7 @@ class Loop:
         """The weights that HAProxy has."""
         with socket.socket(socket.AF_UNIX) as haproxy:
             haproxy.settimeout(5)
-            haproxy.connect(str(self.folder / "socket"))
+            haproxy.connect("socket")
             haproxy.sendall(b"show stat\n")
             text = b"".join(iter(lambda: haproxy.recv(65536), b"")).decode()
         rows = csv.DictReader(io.StringIO(text.lstrip("# ")))

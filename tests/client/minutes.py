@@ -1,14 +1,18 @@
-"""The five minutes of README.md, and the session by curl of docs/API.md, run as they stand there:
-parts of client.py."""
+"""The five minutes of README.md, the session by curl of docs/API.md, and the lines of
+docs/OPERATIONS.md that put other files in a desk's place, run as they stand there: parts of
+client.py."""
 import json
 import os
 import pathlib
 import re
+import shutil
 import signal
 import subprocess
 
 from conversation import without_progress
-from world import Wrong, environment, expect, free_port, running, shows, want
+from world import (
+    DONE, Wrong, add, environment, expect, free_port, install, running, shows, want,
+)
 
 ROOT = pathlib.Path(__file__).resolve().parents[2]
 FAILED = ('{"code":"ok","phases":["Failed"],"run":1,"service":"web","status":"Degraded","step":1,'
@@ -23,6 +27,9 @@ TRANSLATED = ["template success-rate", "  success-rate.e6f", "    success: resul
 # Waits for the line of a desk that was begun in the line before, and for a server on this port.
 WAIT = "until grep -q listening told; do sleep 0.02; done; echo listening"
 WAIT_FOR_PORT = "until (: < /dev/tcp/127.0.0.1/{}) 2> refused; do sleep 0.02; done"
+# What stands for systemd: the desk is stopped and started by the test.
+SYSTEMD = {"systemctl": "#!/bin/sh\n",
+           "systemd-run": '#!/bin/sh\nuntil [ "$1" = canary ]; do shift; done\nexec "$@"\n'}
 
 
 def code_of(document, heading):
@@ -131,3 +138,63 @@ def try_session_by_curl(world):
     expect("docs/API.md: the history", history_in(lines[5]), FIRST)
     expect("docs/API.md: the report again", lines[6:], [FAILED])
     return None
+
+
+def operate(desk, heading, copy="none.db"):
+    """Runs the lines of docs/OPERATIONS.md under this heading on the files of a desk that is
+    stopped."""
+    programs = desk.folder / "programs"
+    if not programs.exists():
+        programs.mkdir()
+        (programs / "canary").symlink_to(desk.world.program)
+        for name, text in SYSTEMD.items():
+            install(programs / name, text=text)
+    script = "\n".join(code_of("docs/OPERATIONS.md", heading))
+    for old, new in (("/var/lib/canary", desk.folder), ("/backup/desk-2026-11-24.db", copy)):
+        script = script.replace(old, str(new))
+    desk.world.run_words(["bash", "-c", script], desk.folder,
+                         variables={"PATH": f"{programs}:{os.environ['PATH']}"})
+
+
+def files_of(desk):
+    return {path.name: path.read_bytes() for path in desk.folder.glob("desk.db*")}
+
+
+def try_restore_lines(world):
+    """Those that restore a copy: the desk has what the copy has. If the copy or its log is not
+    there, the desk's files stay as they were."""
+    with world.desk("restore-lines") as desk:
+        add(desk)
+        expect("backup", world.run(["backup", "--db", "desk.db", "old.db"], desk.folder).status, 0)
+        expect("after the copy", desk.do("promote", "web").status, DONE)
+        desk.kill()
+        shutil.copy(desk.folder / "old.db", desk.folder / "alone.db")
+        before = files_of(desk)
+        for name in ("none.db", "alone.db"):
+            operate(desk, "Restore", name)
+            expect(f"{name}: the files are as they were", files_of(desk) == before, True)
+        operate(desk, "Restore", "old.db")
+        expect("all have their names", [*desk.folder.glob("new.db*")], [])
+        desk.start()
+        expect("the copy lacks it", desk.count("promote"), {})
+
+
+def try_new_file_lines(world):
+    """Those that give a desk a new file. While a release goes on, its files stay as they were."""
+    with world.desk("new-file-lines") as desk:
+        add(desk)
+        desk.kill()
+        before = files_of(desk)
+        operate(desk, "A new file")
+        expect("in progress: the files are as they were", files_of(desk) == before, True)
+        desk.start()
+        expect("an end", desk.do("promote-full", "web").status, DONE)
+        desk.kill()
+        operate(desk, "A new file")
+        expect("all have their names", [*desk.folder.glob("new.db*")], [])
+        desk.start()
+        stand = json.loads(desk.ask("get", "web").output)
+        expect("the new file", (stand["status"], stand["stable"]), ("Healthy", "v2"))
+        expect("it has no past", desk.count("promote full"), {})
+        found = world.run(["history", "--db", "until-2027.db", "web"], desk.folder)
+        expect("the old file has the past", "done v2" in found.output, True)

@@ -209,14 +209,15 @@ def try_unknown(world):
 
 def try_agent(world):
     """The agent of examples/operations: it settles what is pending, asks what is due, measures and
-    reports that, also if there was no desk meanwhile, if a measurement cannot be taken, or if the
-    name of a metric or a result begins with a dash."""
+    reports that, also if there was no desk meanwhile, if a measurement cannot be taken or is no
+    result, or if the name of a metric or a result begins with a dash."""
     with world.desk("agent") as desk:
         add_measured(desk, metric("m", "1s"), metric("n", "1s"), metric("-x", "1s"))
         (desk.folder / "bin").mkdir()
         (desk.folder / "bin" / "canary").symlink_to(world.program)
         install(desk.folder / "bin" / "measure",
-                text='#!/bin/sh\n[ "$1" = web ] && [ "$2" != n ] && echo -5\n')
+                text='#!/bin/sh\n[ "$2" != half ] || exec echo 0.5\n'
+                     '[ "$1" = web ] && [ "$2" != n ] && echo -5\n')
         variables = {"PATH": f"{desk.folder}/bin:{os.environ['PATH']}",
                      "CANARY_DESK": f"127.0.0.1:{desk.port}", "AGENT_FOLDER": str(desk.folder)}
 
@@ -243,6 +244,8 @@ def try_agent(world):
         add_measured(desk, metric("slow", "1h"), name="seldom")
         call("of another service", 0, recorded("Error", "seldom"), "seldom")
         call("nothing is due", 0, "", "seldom")
+        add_measured(desk, metric("half", "1h"), metric("slow", "1h"), name="halves")
+        call("no result before another metric", WORDS, recorded("Error", "halves"), "halves")
 
 
 def try_due(world):

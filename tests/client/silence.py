@@ -7,12 +7,13 @@ import pathlib
 import re
 import signal
 import subprocess
+import threading
 import time
 
 from reports import metric
 from world import (
-    DONE, REFUSED, WORDS, Caller, Wrong, add, environment, expect, process, rollout, running, want,
-    wait_until,
+    DONE, LOCAL, REFUSED, WORDS, Caller, Wrong, add, answering, ask, environment, expect,
+    process, rollout, running, want, wait_until,
 )
 
 HELD = 7
@@ -48,17 +49,40 @@ def variables(desk, **more):
     if not folder.exists():
         folder.mkdir()
         (folder / "canary").symlink_to(desk.world.program)
-    return environment(PATH=f"{folder}:{os.environ['PATH']}", CANARY_DESK=f"127.0.0.1:{desk.port}",
-                       **more)
+    return environment(**{"PATH": f"{folder}:{os.environ['PATH']}",
+                          "CANARY_DESK": f"127.0.0.1:{desk.port}", **more})
 
 
-def watchdog(desk, seconds, *services, **more):
+def watchdog(desk, seconds, *services, front=(), **more):
     """Runs the watchdog as cron does."""
     found = subprocess.run(
-        [OPERATIONS / "watchdog", str(seconds), *services], cwd=desk.folder, timeout=60,
-        env=variables(desk, CANARY_JOURNAL=str(desk.folder / "watchdog.journal"), **more),
-        stdin=subprocess.DEVNULL, capture_output=True)
+        [*front, OPERATIONS / "watchdog", str(seconds), *services], cwd=desk.folder, timeout=60,
+        env=variables(desk, WATCHDOG_FOLDER=str(desk.folder), **more), stdin=subprocess.DEVNULL,
+        capture_output=True)
     return found.returncode, found.stderr.decode()
+
+
+def kill_watchdog(desk, service):
+    """Kills a watchdog once it has sent an abort, of which no desk hears."""
+    come = threading.Event()
+
+    def answer(client):
+        message = client.recv(65536)
+        if b'{"abort":' not in message:
+            client.sendall(ask(desk.port, message))
+            return
+        come.set()
+        client.recv(1)
+
+    with answering(answer) as port, process(
+            [OPERATIONS / "watchdog", "1", service], cwd=desk.folder, start_new_session=True,
+            env=variables(desk, WATCHDOG_FOLDER=str(desk.folder), CANARY_DESK=f"127.0.0.1:{port}"),
+            stdin=subprocess.DEVNULL, stderr=subprocess.DEVNULL) as started:
+        started.is_of_group = True
+        try:
+            expect("an abort is sent", come.wait(60), True)
+        finally:
+            os.killpg(started.pid, signal.SIGKILL)
 
 
 def want_late_on_page(desk, measurement, name="web"):
@@ -135,6 +159,32 @@ def try_desk_away(world):
             raise Wrong(f"two pauses have not passed: {found}, before that {before}")
         want_late_on_page(desk, 1)
         expect("aborted", (watchdog(desk, 1, "web")[0], state(desk)["status"]), (DONE, "Degraded"))
+
+
+def try_pending_abort(world):
+    """An abort of the watchdog that no desk got is not sent as another service is late: the release
+    may be measured by then. Nor does the journal of one service hold up another one."""
+    with world.desk("pending-abort") as desk:
+        for name in ("web", "shop", "pay"):
+            add_unstopped(desk, 600, name, interval="1h")
+        wait_until("all are late", lambda: desk.ask(
+            "due", "--late", "1", "web", "shop", "pay").output.count("\n") == 3)
+        kill_watchdog(desk, "web")
+        expect("it is pending", desk.journal("web.journal").pending.key, "web-1")
+        expect("the agent", desk.do("report", "web", "1", "errors", "0").status, DONE)
+        # shop is late, and nobody hears it
+        closed = ("sh", "-c", 'exec "$@" 2>&-', "sh")
+        expect("shop is late", watchdog(desk, 1, "web", "shop", front=closed), (DONE, ""))
+        expect("who is aborted", desk.count("abort"), {"shop": 1})
+        expect("web goes on", state(desk)["status"], "Paused")
+        # web is late again: its first abort goes before the second one, which is refused then
+        expect("another attempt", desk.do("promote-full", "web").status, DONE)
+        expect("another release", desk.do("start", "web", "v3").status, DONE)
+        wait_until("web is late again",
+                   lambda: desk.ask("due", "--late", "1", "web").status == DONE)
+        (desk.folder / "pay.journal").mkdir()
+        expect("a journal that is none", watchdog(desk, 1, "pay", "web")[0], LOCAL)
+        expect("who is aborted then", desk.count("abort"), {"shop": 1, "web": 1})
 
 
 def try_late(world):

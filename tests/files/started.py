@@ -56,13 +56,13 @@ class Place:
             script.write(STAND_IN)
         os.chmod(path, 0o755)
 
-    def begin(self, *words, **environment):
+    def begin(self, *words, stdout=subprocess.PIPE, **environment):
         """The script with these words. Its process is to become the program's."""
         environment = {"PATH": os.path.join(self.folder, "bin"),
                        "TMPDIR": os.path.join(self.folder, "tmp"),
                        "NOTIFY_SOCKET": self.address, **environment}
         return subprocess.Popen([SCRIPT, *words], cwd=self.folder, env=environment,
-                                stdin=subprocess.DEVNULL, stdout=subprocess.PIPE,
+                                stdin=subprocess.DEVNULL, stdout=stdout,
                                 stderr=subprocess.PIPE)
 
     def listen(self):
@@ -154,10 +154,23 @@ def try_untold(program, folder):
     place.end(row, running)
 
 
+def try_full(program, folder):
+    """systemd is told also if the output and the folder for temporary files are full."""
+    row, place = "a desk whose output is full", Place(folder)
+    with open("/dev/full", "wb") as full:
+        running = place.begin(program, *SERVE, stdout=full, TMPDIR="/nowhere",
+                              RUNTIME_DIRECTORY=os.path.join(place.folder, "tmp"))
+    place.expect_ready(row)
+    running.terminate()
+    running.communicate(timeout=SECONDS)
+    expect(f"{row}: its end", (running.returncode, os.listdir(os.path.join(place.folder, "tmp"))),
+           (-signal.SIGTERM, []))
+
+
 def main():
     program, folder = os.path.realpath(sys.argv[1]), sys.argv[2]
     try:
-        for part in (try_late, try_desk, try_fault, try_untold):
+        for part in (try_late, try_desk, try_fault, try_untold, try_full):
             part(program, folder)
     except (Wrong, subprocess.TimeoutExpired) as fault:
         sys.exit(f"files: {fault}")

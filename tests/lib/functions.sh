@@ -46,6 +46,11 @@ run_python() {
     run_guarded env PYTHONPATH="$root/tests/lib" PYTHONDONTWRITEBYTECODE=1 python3 "$@" < /dev/null
 }
 
+# /dev/shm may be written to, and has room for $1 kilobytes; that of a container often has 65,536.
+has_room_in_memory() {
+    [ -w /dev/shm ] && [ "$(df --output=avail -k /dev/shm | tail -n 1)" -ge "$1" ]
+}
+
 # The hundredths of a second that the host of this machine took from the processors on which this
 # script may run, and all that they have counted (proc(5), /proc/stat).
 processor_times() {

@@ -301,9 +301,12 @@ def try_nginx(world):
     after the follower was killed."""
     with world.desk("nginx") as desk, nginx(desk.folder) as proxy:
         add(desk)
-        ops = Caller(desk, "ops")
+        ops, file = Caller(desk, "ops"), desk.folder / "web.conf"
+        with follower(desk.folder, variables(desk), *words_of(proxy)):
+            wait_until("it writes its file", file.exists, LONGEST)
+        os.truncate(file, 0)
         with follower(desk.folder, variables(desk), *words_of(proxy)) as (started, said):
-            wait_until("it writes its file", (desk.folder / "web.conf").exists, LONGEST)
+            wait_until("it writes an empty file anew", lambda: file.stat().st_size, LONGEST)
             proxy.start()
             want_answers("20%", proxy, 80, 20)
             desk.kill()
@@ -313,10 +316,9 @@ def try_nginx(world):
             ops.send({"promote": {"service": "web"}})
             wait_until("50% are loaded", lambda: "'v2': 50" in said(), LONGEST)
             want_answers("50%", proxy, 50, 50)
-            (desk.folder / "web.conf").write_text('split_clients "" $canary_web {\n* web_v1;\n}\n',
-                                                  encoding="utf-8")
-            wait_until("another program wrote its file", lambda: "50%" in (
-                desk.folder / "web.conf").read_text(encoding="utf-8"), LONGEST)
+            file.write_text('split_clients "" $canary_web {\n* web_v1;\n}\n', encoding="utf-8")
+            wait_until("another program wrote its file",
+                       lambda: "50%" in file.read_text(encoding="utf-8"), LONGEST)
             want_answers("50% again", proxy, 50, 50)
             watches = children_of(started)
         wait_until("canary watch ends", lambda: not any(map(is_alive, watches)), LONGEST)

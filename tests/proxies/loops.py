@@ -8,6 +8,10 @@ from parts import OPERATIONS
 from world import environment, expect, process
 
 
+# A name with a blank.
+KEPT = "what is kept"
+
+
 def run_loop(world, name, *words):
     """What the loop shows. It ends well, and leaves nothing but what it is told to keep."""
     folder = world.place(name)
@@ -22,17 +26,17 @@ def run_loop(world, name, *words):
             with contextlib.suppress(ProcessLookupError):
                 os.killpg(started.pid, signal.SIGKILL)
     expect(f"the loop: {shown}", started.returncode, 0)
-    expect("it leaves", [path.name for path in folder.iterdir()], ["kept"] * ("--keep" in words))
+    expect("it leaves", [path.name for path in folder.iterdir()], [KEPT] * ("--keep" in words))
     return folder, shown
 
 
 def try_loop(world):
     """A good version is promoted, and a bad one aborted."""
-    folder, shown = run_loop(world, "loop", "--keep", "kept")
+    folder, shown = run_loop(world, "loop", "--keep", KEPT)
     for line in ("done v2", "abort run 3", "v1 100 -> 80", "v3 20 -> 0",
-                 f"The page of the desk: {folder}/kept/desk.html"):
+                 f"The page of the desk: {folder}/{KEPT}/desk.html"):
         expect(f"the loop shows {line}: {shown}", line in shown, True)
-    page = (folder / "kept" / "desk.html").read_text(encoding="utf-8")
+    page = (folder / KEPT / "desk.html").read_text(encoding="utf-8")
     expect("the page has the release", "v3" in page and page.endswith("</html>\n"), True)
 
 

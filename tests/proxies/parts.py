@@ -45,7 +45,8 @@ def version(name):
         wbufsize = -1
 
         def do_GET(self):  # pylint: disable=invalid-name
-            self.send_response(200)
+            # as many servers, it takes no host with the `_` of an upstream's name
+            self.send_response(400 if "_" in self.headers.get("Host", "") else 200)
             self.send_header("Content-Length", str(len(name)))
             self.end_headers()
             self.wfile.write(name.encode())
