@@ -26,7 +26,7 @@ import strangers
 import unread
 import wishes
 import words
-from world import World, running
+from world import World, allow_descriptors, running
 
 # What needs a command that CHECK_WITHOUT may name.
 PARTS_WITH = {
@@ -96,6 +96,7 @@ def try_all(world, names, beside):
 
 def main():
     program, folder, is_whole, share, *wanted = sys.argv[1:]
+    allow_descriptors()
     world = World(os.path.realpath(program), folder, is_whole == "1", int(share))
     names = chosen(wanted)
     for number in (signal.SIGTERM, signal.SIGINT, signal.SIGHUP):

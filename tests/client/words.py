@@ -209,8 +209,10 @@ def try_commands(world):
 
 
 def read_terminal(terminal):
-    found = b""
-    while select.select([terminal], [], [], 30)[0]:
+    # Its descriptor may be above 1,023, which `select` does not take.
+    found, shown = b"", select.poll()
+    shown.register(terminal, select.POLLIN)
+    while shown.poll(30_000):
         try:
             piece = os.read(terminal, 65536)
         except OSError:

@@ -6,6 +6,7 @@ import http.client
 import json
 import os
 import pathlib
+import resource
 import shutil
 import socket
 import sqlite3
@@ -373,10 +374,20 @@ def answering(answer):
 
 # The sockets of free ports. The system gives such a port to no other part that asks for any port.
 HELD = []
+# How many descriptors a script may have open: each socket above takes one.
+DESCRIPTORS = 8192
+
+
+def allow_descriptors():
+    """Allows this process so many descriptors, or as many as the system grants it."""
+    allowed, most = resource.getrlimit(resource.RLIMIT_NOFILE)
+    wanted = DESCRIPTORS if most == resource.RLIM_INFINITY else min(DESCRIPTORS, most)
+    resource.setrlimit(resource.RLIMIT_NOFILE, (max(allowed, wanted), most))
 
 
 def free_port():
-    """A port on which nobody listens, until a desk of the caller's does."""
+    """A port on which nobody listens, until a desk of the caller's does. Its socket stays open, so
+    a script that asks for hundreds calls `allow_descriptors` first."""
     held = socket.socket()
     held.setsockopt(socket.SOL_SOCKET, socket.SO_REUSEADDR, 1)
     held.bind(("127.0.0.1", 0))
