@@ -6,7 +6,7 @@ import time
 from agents import (
     agent_of, ask, begin, desk_for, listed, measured, measured_beside, metric, of_web, provider,
     release, reply, template, want_once)
-from world import Wrong, expect
+from world import Late, expect
 
 SERVICES = 200
 # Seconds, and how many of them a measurement may be late.
@@ -54,8 +54,8 @@ def try_crowd(world):
         want_once("crowd", found)
         count = collections.Counter(each.service for each in found)
         if max(late) > MOST_LATE * world.slowness:
-            raise Wrong(f"late by {sorted(late)[-5:]} seconds")
+            raise Late(f"late by {sorted(late)[-5:]} seconds")
         wanted = 6 if world.is_whole else 2
         if min(count.values()) < wanted:
-            raise Wrong(f"only {min(count.values())} measurements of a service")
+            raise Late(f"only {min(count.values())} measurements of a service")
     return f"{len(found)} measurements, late by {max(late)} s at most, {took:.1f} s of a processor"

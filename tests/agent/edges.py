@@ -18,7 +18,7 @@ from agents import (
 from journal_rule import journal_of, line_of
 from world import (
     AHEAD, BROKEN, DONE, IN_USE, LOCAL, NO_FILE, NO_JOURNAL_FILE, OTHER_CALLER, PENDING,
-    REFUSED, WORDS, Ended, Wrong, answering, environment, expect, free_port, install,
+    REFUSED, WORDS, Ended, Late, Wrong, answering, environment, expect, free_port, install,
     process)
 from world import ask as ask_bytes
 
@@ -349,7 +349,7 @@ def want_touched(path, row):
 
     wait_until(f"{row}: touched", is_touched)
     if min(after - before for before, after in zip(moments, moments[1:])) > 1.5:
-        raise Wrong(f"{row}: touched at {moments}")
+        raise Late(f"{row}: touched at {moments}")
     expect(f"{row}: what it holds", path.read_text(encoding="utf-8"),
            "content" if row == "there" else "")
     if row == "new":

@@ -9,7 +9,7 @@ from agents import (
     reply, template, wait_until, want_once)
 from replies import want_plain
 from rows import ESCAPES, GREATEST, LESS, NAN
-from world import Wrong, expect
+from world import Late, Wrong, expect
 
 # What the agent says of a line that it does not take.
 INVALID_LINE = "a line of --values is no SERVICE METRIC VALUE of these files"
@@ -225,7 +225,7 @@ def try_hostile_lines(world):
         expect("what is asked", {each.result for each in found}, {"250000"})
         moments = [each.taken for each in found]
         if max(two - one for one, two in zip(moments, moments[1:])) > 4 * world.slowness:
-            raise Wrong(f"the other service was measured at {moments}")
+            raise Late(f"the other service was measured at {moments}")
         want_plain("its errors", agent.errors(), "\n")
         want_plain("its output", agent.output.read_text(encoding="utf-8"), "\n")
         if max(map(len, agent.errors().splitlines())) > 2000:

@@ -9,7 +9,7 @@ from agents import (
     agent_of, agent_words, desk_for, measured, measured_beside, metric, of_web, provider, reply,
     services_measured, template, wait_until, want_once)
 from rows import ANSWERS, FRAMES, STATUSES, VALUES, is_as_wanted, provider_of
-from world import MARKS, Wrong, environment, expect, free_port, process
+from world import MARKS, Late, Wrong, environment, expect, free_port, process
 
 GOOD = ("good-1", "good-2", "good-3")
 # A service whose provider is gone.
@@ -78,7 +78,7 @@ def want_in_time(name, found, until, patience):
     moments = [each.taken for each in found]
     for one, other in zip(moments, [*moments[1:], int(until)]):
         if other - one > patience:
-            raise Wrong(f"{name}: {other - one} seconds behind the measurement at {one}")
+            raise Late(f"{name}: {other - one} seconds after the measurement at {one}")
 
 
 def want_rows(world, name, rows):

@@ -8,7 +8,7 @@ from agents import (
     desk_for, measured, measured_beside, metric, of_prometheus, of_web, provider, reply, run_agent,
     template)
 from rows import silent
-from world import Wrong, expect, free_port
+from world import Wrong, expect, free_port, want_seconds
 
 # A constant of so many places: the label has one more, 16.
 FINE = "result >= 0.100000000000001"
@@ -181,8 +181,7 @@ def try_seconds(world):
             expect("failures", {each.service: each.failure[:7] for each in measured(desk, *rows)
                                 if each.service != "a-long"},
                    dict.fromkeys(("of-web", "of-prometheus", "of-interval"), "timeout"))
-            if took > 15:
-                raise Wrong(f"it took {took} seconds")
+            want_seconds("the agent", took, 0, 15)
 
 
 def try_refused_providers(world):

@@ -8,14 +8,14 @@ import threading
 import time
 
 from journal_rule import (
-    LAST, MOST_NEW, at_rest, is_in_doubt, is_new, journal_of, line_of, lines_in,
+    LAST, MOST_NEW, at_rest, is_in_doubt, is_new, journal_of, line_of,
 )
 from world import (
     AHEAD, BEHIND, BROKEN, CONTRADICTION, DONE, EMPTIED, ENDED, IN_USE, KEY_USED, LATE, LOCAL, LOST,
     MARKS, NOT_BEGUN, NO_FILE, NO_JOURNAL_FILE, OTHER_CALLER, PENDING, PENDING_SAID, PROMOTED,
     REFUSED, REUSED, SPENT, STARTED, TOOK_PLACE, UNREACHABLE, WORDS, Caller, Wrong, add, answering,
     ask, environment, expect, free_port, install, process, shown, shows, two_pauses, want,
-    want_all_said, want_delivered,
+    want_all_said, want_delivered, want_seconds,
 )
 
 NOBODY = 65534
@@ -412,8 +412,7 @@ def try_what_is_no_file(world):
                 begun = time.monotonic()
                 want(name, desk.do("promote", "web", journal=name), LOCAL,
                      said=desk.of_file(NO_FILE, name))
-                if time.monotonic() - begun > 30:
-                    raise Wrong(f"{name}: the client waits")
+                want_seconds(f"{name}: the client waits", time.monotonic() - begun, 0, 30)
         name = "a\x1b[2J\u202eb"
         (desk.folder / name).mkdir()
         want("a path with controls", desk.do("promote", "web", journal=name), LOCAL,

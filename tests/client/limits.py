@@ -9,10 +9,10 @@ from journals import records
 from replies import reply
 from reports import NOT_IN_TIME
 from sends import HEADER
-from strangers import JSON, serving, silent_after, soonest, timed
+from strangers import JSON, serving, silent_after
 from world import (
     DONE, FOREIGN, LOST, NO_DESK, PENDING, REFUSED, STARTED, UNREACHABLE, add, answering, ask,
-    environment, expect, free_port, process, shows, want, want_all_said,
+    environment, expect, free_port, process, shows, soonest, timed, want, want_all_said,
 )
 
 OK = shows("web", *STARTED)

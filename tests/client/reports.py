@@ -9,7 +9,7 @@ import time
 
 from world import (
     BEHIND, DONE, PENDING, PENDING_SAID, REFUSED, WORDS, Caller, Wrong, answering, ask,
-    environment, expect, free_port, install, process, rollout, want, want_delivered,
+    environment, expect, free_port, install, process, rollout, want, want_delivered, want_seconds,
 )
 
 AGENT = pathlib.Path(__file__).resolve().parents[2] / "examples" / "operations" / "report"
@@ -260,8 +260,7 @@ def try_due(world):
         begun = time.monotonic()
         want("none in time", desk.ask("due", "--wait", "--timeout", "2", "seldom"), PENDING,
              said=NOT_IN_TIME)
-        if not 2 <= time.monotonic() - begun < 20:
-            raise Wrong(f"due --timeout 2 took {time.monotonic() - begun} seconds")
+        want_seconds("due --timeout 2", time.monotonic() - begun, 2, 20)
         for words in (["plain"], ["--wait", "plain"]):
             want("no run", desk.ask("due", *words), REFUSED)
         for words in (["none"], ["--wait", "none"]):

@@ -11,7 +11,7 @@ from sends import HEADER, ROW_PENDING
 from words import on_terminal
 from world import (
     CONTRADICTION, DONE, FOREIGN, MARKS, NO_DESK, PENDING, STARTED, Wrong, add, answering,
-    environment, expect, free_port, running, shown, shows, want, want_all_said,
+    environment, expect, free_port, running, shown, shows, soonest, want, want_all_said,
 )
 
 ROW_UNREAD = ("the desk cannot read this row, so it will never be settled; nothing was sent after"
@@ -109,30 +109,6 @@ def try_rows_of_strangers(world):
                          (411, "length"), (413, "too-long")):
         with serving(reply(status, f'{{"code":"{code}"}}')) as port:
             want(code, send(port), CONTRADICTION, f'1 {status} {{"code":"{code}"}}\n', ROW_UNREAD)
-
-
-def timed(row, least, most, call):
-    """What came of a call that takes so many seconds."""
-    begun = time.monotonic()
-    found = call()
-    spent = time.monotonic() - begun
-    if not least <= spent <= most:
-        raise Wrong(f"{row}: {spent:.2f} seconds, in place of {least} to {most}")
-    return found
-
-
-def soonest(row, least, most, call):
-    """What came of a call that takes so many seconds where the machine is not busy: each takes as
-    long at least, and of five one is over in time."""
-    for _ in range(4):
-        begun = time.monotonic()
-        found = call()
-        spent = time.monotonic() - begun
-        if spent < least:
-            raise Wrong(f"{row}: {spent:.2f} seconds, in place of {least} at least")
-        if spent <= most:
-            return found
-    return timed(row, least, most, call)
 
 
 def silent_after(*pieces):

@@ -13,7 +13,7 @@ from reports import COMMAND, INVALID_NAME, add_measured, metric
 from world import (
     ADDED, CONTRADICTION, DONE, ENDED, KEY_USED, LOCAL, PENDING, PROMOTED, REFUSED, STARTED, WORDS,
     Caller, Wrong, add, answering, ask, environment, expect, free_port, process, running, shown,
-    two_pauses, wait_until, want, want_delivered,
+    two_pauses, wait_until, want, want_delivered, want_seconds,
 )
 
 ADDRESSES = pathlib.Path(__file__).with_name("addresses.c")
@@ -346,8 +346,7 @@ def try_signals(world):
                 begun = time.monotonic()
                 client.send_signal(number)
                 expect(number, client.wait(timeout=30), -number)
-                if time.monotonic() - begun > 15:
-                    raise Wrong(f"{number}: it took {time.monotonic() - begun} seconds")
+                want_seconds(number, time.monotonic() - begun, 0, 15)
         want("again", desk.do("promote", "web"), DONE, shown(PROMOTED))
         want_delivered("signals", desk)
 

@@ -59,6 +59,14 @@ class Wrong(Exception):
     """Something is not as the rules say."""
 
 
+class Late(Wrong):
+    """Something did not come in time, and nothing wrong came: a busy machine can be the cause."""
+
+
+class Unsafe(Wrong):
+    """Something is so as no delay explains it: it was lost, doubled or changed."""
+
+
 def expect(row, found, wanted):
     if found != wanted:
         raise Wrong(f"{row}: {found!r} in place of {wanted!r}")
@@ -209,7 +217,7 @@ class Desk:
         """The journal in the file of this name, by the rule."""
         found = journal_of((self.folder / name).read_bytes())
         if found is None:
-            raise Wrong(f"{name} is no journal: {(self.folder / name).read_bytes()[-200:]!r}")
+            raise Unsafe(f"{name} is no journal: {(self.folder / name).read_bytes()[-200:]!r}")
         return found
 
     def rows(self, statement, *values):
@@ -323,7 +331,8 @@ def want_delivered(row, desk, caller="ops", journal="ops.journal"):
     expect(f"{row}: pending", found.pending, None)
     kept = [(found.before + at, each.status, each.body)
             for at, each in enumerate(found.kept, 1)]
-    expect(f"{row}: replies", kept, desk.kept(caller)[found.before:])
+    if kept != (settled := desk.kept(caller)[found.before:]):
+        raise Unsafe(f"{row}: the journal has {kept!r}, and the desk {settled!r}")
     return len(kept)
 
 
@@ -395,9 +404,35 @@ def free_port():
     return held.getsockname()[1]
 
 
-def wait_until(row, is_so, seconds=60):
+def wait_until(row, is_so, seconds=60, pause=.01):
+    """Waits until this is so, and looks again after each pause."""
     until = time.monotonic() + seconds
     while not is_so():
         if time.monotonic() > until:
-            raise Wrong(f"{row}: it did not come in {seconds} seconds")
-        time.sleep(.01)
+            raise Late(f"{row}: it did not come in {seconds} seconds")
+        time.sleep(pause)
+
+
+def want_seconds(row, spent, least, most):
+    """It took so many seconds. If it took more, the machine may be the cause."""
+    if spent < least:
+        raise Wrong(f"{row}: {spent:.2f} seconds, in place of {least} at least")
+    if spent > most:
+        raise Late(f"{row}: {spent:.2f} seconds, in place of {most} at most")
+
+
+def timed(row, least, most, call):
+    """What came of a call that takes so many seconds."""
+    begun = time.monotonic()
+    found = call()
+    want_seconds(row, time.monotonic() - begun, least, most)
+    return found
+
+
+def soonest(row, least, most, call):
+    """What came of a call that takes so many seconds where the machine is not busy: each takes as
+    long at least, and of five one is over in time."""
+    for _ in range(4):
+        with contextlib.suppress(Late):
+            return timed(row, least, most, call)
+    return timed(row, least, most, call)

@@ -9,7 +9,7 @@ import time
 
 from parts import HAProxy, filled
 from world import (
-    ABORTED, ADDED, ENDED, PROMOTED, STARTED, Wrong, expect, free_port, shows, two_pauses,
+    ABORTED, ADDED, ENDED, PROMOTED, STARTED, Late, Wrong, expect, free_port, shows, two_pauses,
     wait_until,
 )
 
@@ -164,7 +164,7 @@ class Sender:
             while (found := self.ask(method, path, command))[0] in (502, 503, 504):
                 self.again += 1
                 if time.monotonic() > begun + 60:
-                    raise Wrong(f"{method} {path}: no desk answers")
+                    raise Late(f"{method} {path}: no desk answers")
                 time.sleep(.02)
             self.slowest = max(self.slowest, time.monotonic() - begun)
             if isinstance(wanted[1], dict):

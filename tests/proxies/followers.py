@@ -14,7 +14,7 @@ from parts import (
     want_shares,
 )
 from silence import variables
-from world import Caller, Wrong, add, expect, free_port, install, process, wait_until
+from world import Caller, Late, Wrong, add, expect, free_port, install, process, wait_until
 
 # How many seconds a change may take to come about: on a machine with much else to do, many.
 LONGEST = 40
@@ -76,8 +76,8 @@ def want_weights(row, proxy, first, second):
     wanted = {"v1": first, "v2": second}
     try:
         wait_until(row, lambda: proxy.weights() == wanted, LONGEST)
-    except Wrong as wrong:
-        raise Wrong(f"{row}: {proxy.weights()} in place of {wanted}") from wrong
+    except Late as late:
+        raise Late(f"{row}: {proxy.weights()} in place of {wanted}") from late
     want_shares(row, proxy.port, wanted, 2)
 
 
@@ -291,9 +291,9 @@ def want_answers(row, proxy, first, second):
     while True:
         try:
             return want_shares(row, proxy.port, wanted, 12, 300)
-        except Wrong:
+        except Wrong as wrong:
             if time.monotonic() > until:
-                raise
+                raise Late(str(wrong)) from wrong
 
 
 def try_nginx(world):

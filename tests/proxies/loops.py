@@ -1,11 +1,15 @@
 """The loop of examples/loop, as a whole and with each of its parts killed: parts of proxies.py."""
 import contextlib
 import os
+import re
 import signal
 import subprocess
 
 from parts import OPERATIONS
-from world import environment, expect, process
+from world import Late, Wrong, environment, expect, process
+
+# What the loop says of something that did not come in time.
+SAID_LATE = re.compile(r"not in \d+ seconds|does not end|is not seen in|still answer|timed out")
 
 
 def run_loop(world, name, *words):
@@ -21,7 +25,8 @@ def run_loop(world, name, *words):
         finally:
             with contextlib.suppress(ProcessLookupError):
                 os.killpg(started.pid, signal.SIGKILL)
-    expect(f"the loop: {shown}", started.returncode, 0)
+    if started.returncode != 0:
+        raise (Late if SAID_LATE.search(shown) else Wrong)(f"{started.returncode}: {shown}")
     expect("it leaves", [path.name for path in folder.iterdir()], ["kept"] * ("--keep" in words))
     return folder, shown
 
