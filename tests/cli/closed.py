@@ -13,6 +13,7 @@ import sqlite3
 import subprocess
 import tempfile
 
+from book_files import copy
 from conversation import STILL_AT_B, without_progress
 from files import FILE, HEADER, LINES, RELEASE, ROWS
 from story_words import B, command, expect, put
@@ -136,11 +137,9 @@ def masked(told):
 def rows_in(path):
     """All tables of a database and its log, and that SQLite finds both sound."""
     with tempfile.TemporaryDirectory() as folder:
-        copy = os.path.join(folder, "copy")
-        for suffix in ("", "-wal"):
-            if os.path.exists(path + suffix):
-                shutil.copyfile(path + suffix, copy + suffix)
-        with contextlib.closing(sqlite3.connect(copy)) as opened:
+        seen = os.path.join(folder, "copy")
+        copy(path, seen)
+        with contextlib.closing(sqlite3.connect(seen)) as opened:
             expect(path, opened.execute("PRAGMA integrity_check").fetchall(), [("ok",)])
             # a desk that runs has its moments from the clock
             return re.sub(r"\b17[6-9]\d{7}\b|\b1[89]\d{8}\b", lambda found: "NOW" if int(

@@ -7,9 +7,10 @@ import shutil
 import sqlite3
 import sys
 
+from book_files import copy, remove, size
 from disk_story import (
-    REFUSED, Desk, Well, begin_large, copy, fail, history, remove, size, tell_after, tell_failing,
-    tell_whole, told_by, went_on,
+    REFUSED, Desk, Well, begin_large, fail, history, tell_after, tell_failing, tell_whole, told_by,
+    went_on,
 )
 from failing import CALLS, calls_in, failing_alone, under_strace
 from log_copying import try_log_copying, try_log_copying_full, try_log_copying_power

@@ -6,9 +6,8 @@ import random
 import re
 import sys
 
-from disk_story import (
-    MESSAGES, Desk, Well, fail, remove, standing, tell_after, tell_whole,
-)
+from book_files import remove
+from disk_story import MESSAGES, Desk, Well, fail, standing, tell_after, tell_whole
 
 # A disk writes a sector of so many bytes whole, or not at all.
 SECTOR = 512

@@ -5,11 +5,11 @@ import json
 import math
 import os
 import re
-import shutil
 import subprocess
 import sys
 import tempfile
 
+from book_files import copy
 from story_words import (
     B, LINES, Wrong, answer, blocks, body, command, event, expanded, expect, get, message,
     put, query, replies, reply, wire,
@@ -381,11 +381,9 @@ def book_of(program, rows):
 
 def copied(program, file):
     """A copy of a book's file, with its log."""
-    copy = program.new_file()
-    for end in ("", "-wal"):
-        if os.path.exists(file + end):
-            shutil.copy(file + end, copy + end)
-    return copy
+    made = program.new_file()
+    copy(file, made)
+    return made
 
 
 def import_line(number, told):
