@@ -5,7 +5,6 @@ folder, or without a reader is reported as a closed one is."""
 import concurrent.futures
 import contextlib
 import fcntl
-import itertools
 import os
 import re
 import shutil
@@ -14,12 +13,12 @@ import subprocess
 import tempfile
 
 from book_files import copy
+from closing import SUBSETS, closing
 from conversation import STILL_AT_B, without_progress
 from files import FILE, HEADER, LINES, RELEASE, ROWS
 from story_words import B, command, expect, put
 
 FIRST_VERSION = os.path.join(os.path.dirname(os.path.realpath(__file__)), "../migrate/story.sql")
-SUBSETS = [closed for count in range(4) for closed in itertools.combinations(range(3), count)]
 # Outputs that are open, and take nothing.
 BAD_OUTPUTS = ("/dev/full", "a folder", "no reader")
 # How many programs run beside one another.
@@ -119,12 +118,6 @@ def output_of(kind, place):
         yield output
     finally:
         os.close(output)
-
-
-def closing(closed, words):
-    """The words that run a program with these streams closed."""
-    closes = " ".join(f"{number}>&-" for number in closed)
-    return ["sh", "-c", f'exec "$0" "$@" {closes}', *words]
 
 
 def masked(told):
