@@ -4,11 +4,10 @@ import json
 import os
 import pathlib
 import re
-import signal
 import subprocess
 
 from conversation import without_progress
-from world import Wrong, environment, expect, free_port, running, shows, want
+from world import Wrong, environment, expect, free_port, process_group, shows, want
 
 ROOT = pathlib.Path(__file__).resolve().parents[2]
 FAILED = ('{"code":"ok","phases":["Failed"],"run":1,"service":"web","status":"Degraded","step":1,'
@@ -56,20 +55,11 @@ def run_session(world, name, document, heading):
     place, port, provider = world.place(name), free_port(), free_port()
     (place / "canary-unproved").symlink_to(world.program)
     (place / "examples").symlink_to(ROOT / "examples")
-    session = subprocess.Popen(
-        ["bash", "-c", script_of(code_of(document, heading), port, provider)], cwd=place,
-        env=environment(CANARY_DESK=f"127.0.0.1:{port}"), stdin=subprocess.DEVNULL,
-        stdout=subprocess.PIPE, stderr=subprocess.PIPE, start_new_session=True)
-    session.is_of_group = True
-    running.add(session)
-    try:
+    with process_group(
+            ["bash", "-c", script_of(code_of(document, heading), port, provider)], cwd=place,
+            env=environment(CANARY_DESK=f"127.0.0.1:{port}"), stdin=subprocess.DEVNULL,
+            stdout=subprocess.PIPE, stderr=subprocess.PIPE) as session:
         output, errors = session.communicate(timeout=100)
-    finally:
-        try:
-            os.killpg(session.pid, signal.SIGKILL)
-        except ProcessLookupError:
-            pass
-        running.discard(session)
     return place, output.decode().splitlines(), without_progress(errors).decode()
 
 

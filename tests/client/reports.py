@@ -2,13 +2,13 @@
 import csv
 import os
 import pathlib
-import shutil
 import subprocess
 import threading
 import time
 
+from book_files import copy
 from world import (
-    BEHIND, DONE, PENDING, PENDING_SAID, REFUSED, WORDS, Caller, Wrong, answering, ask,
+    BEHIND, DONE, PENDING, PENDING_SAID, REFUSED, WORDS, Caller, Late, Wrong, answering, ask,
     environment, expect, free_port, install, process, rollout, want, want_delivered, want_seconds,
 )
 
@@ -62,8 +62,7 @@ def recorded(phase, service="web", run=1):
 
 def measured(desk, service="web"):
     """The metric, ordinal, result and failure of each measurement, by an export of a copy."""
-    for end in ("", "-wal"):
-        shutil.copy(desk.folder / f"desk.db{end}", desk.folder / f"exported.db{end}")
+    copy(desk.folder / "desk.db", desk.folder / "exported.db")
     found = desk.world.run(["export", "--db", "exported.db", "--caller", "a", service], desk.folder)
     expect("export", found.status, 0)
     rows = csv.DictReader(found.output.splitlines(keepends=True))
@@ -272,11 +271,13 @@ def try_due(world):
                  f"1 m {ordinal}\n")
             want(f"report {ordinal}", desk.do("report", "web", "1", "m", "5"), DONE,
                  recorded("Successful"))
-        too_early = desk.do("report", "web", "1", "m", "5")
-        taken = desk.rows("SELECT max(taken) FROM measurement WHERE metric = 0")[0][0]
-        if too_early.status == REFUSED:
-            expect("too early", too_early.output,
-                   f'{{"at":0,"code":"too-early","due":{taken + 3}}}\n')
+        too_early, ended = desk.do("report", "web", "1", "m", "5"), time.time()
+        (taken,), = desk.rows("SELECT taken FROM measurement WHERE service = 'web' AND metric = 0"
+                              " AND ordinal = 3")
+        if too_early.status == DONE and ended >= taken + 3:
+            raise Late("a report that is to be too early was asked too late")
+        expect("too early", (too_early.status, too_early.output),
+               (REFUSED, f'{{"at":0,"code":"too-early","due":{taken + 3}}}\n'))
         # the run ends while a call waits
         with_wait = ["due", "--wait", "seldom"]
         ending = threading.Timer(.5, lambda: setup.send({"promoteFull": {"service": "seldom"}}))

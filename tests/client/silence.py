@@ -11,8 +11,8 @@ import time
 
 from reports import metric
 from world import (
-    DONE, REFUSED, WORDS, Caller, Wrong, add, environment, expect, process, rollout, running, want,
-    wait_until,
+    DONE, REFUSED, WORDS, Caller, Wrong, add, environment, expect, process, process_group, rollout,
+    wait_until, want,
 )
 
 HELD = 7
@@ -254,14 +254,11 @@ def try_json_forever(world):
 def until_done(desk, words):
     """Somebody asks a command again and again until the desk does it."""
     line = f"until canary do --as other --journal other.journal {words}; do sleep 0.1; done"
-    asks = subprocess.Popen(["bash", "-c", line], cwd=desk.folder, env=variables(desk),
-                            stdin=subprocess.DEVNULL, stdout=subprocess.DEVNULL,
-                            stderr=subprocess.DEVNULL, start_new_session=True)
-    asks.is_of_group = True
-    running.add(asks)
-    yield
-    expect(words, asks.wait(60), DONE)
-    running.discard(asks)
+    with process_group(["bash", "-c", line], cwd=desk.folder, env=variables(desk),
+                       stdin=subprocess.DEVNULL, stdout=subprocess.DEVNULL,
+                       stderr=subprocess.DEVNULL) as asks:
+        yield
+        expect(words, asks.wait(60), DONE)
 
 
 def workflow():
@@ -279,18 +276,14 @@ def run_workflow(desk, key, version, seconds=60):
     statuses = []
     for command in workflow()[:-1]:
         command = command.replace("--timeout 3600", f"--timeout {seconds}")
-        job = subprocess.Popen(
-            ["bash", "--noprofile", "--norc", "-eo", "pipefail", "-c", command], cwd=desk.folder,
-            env=variables(desk, KEY=key, VERSION=version, CANARY_AS="deploy",
-                          CANARY_JOURNAL=str(desk.folder / "deploy.journal")),
-            stdin=subprocess.DEVNULL, stdout=subprocess.DEVNULL, stderr=subprocess.PIPE,
-            start_new_session=True)
-        job.is_of_group = True
-        running.add(job)
-        job.communicate(timeout=seconds + 60)
-        running.discard(job)
-        statuses.append(job.returncode)
-        if job.returncode != 0:
+        with process_group(
+                ["bash", "--noprofile", "--norc", "-eo", "pipefail", "-c", command],
+                cwd=desk.folder, stdin=subprocess.DEVNULL, stdout=subprocess.DEVNULL,
+                stderr=subprocess.DEVNULL, env=variables(
+                    desk, KEY=key, VERSION=version, CANARY_AS="deploy",
+                    CANARY_JOURNAL=str(desk.folder / "deploy.journal"))) as job:
+            statuses.append(job.wait(seconds + 60))
+        if statuses[-1] != 0:
             break
     return statuses
 
@@ -312,8 +305,8 @@ def try_workflow(world):
         expect("a person", desk.do("promote", "web").status, DONE)
         expect("again", run_workflow(desk, "1", "v2"), [DONE, DONE, DONE, DONE])
         expect("promoted by a person, and by the job", desk.count("promote"), {"web": 2})
-        lasted = desk.rows("SELECT moment FROM history WHERE service = 'web' AND line LIKE"
-                           " 'step 3 %' OR line LIKE 'step 4 %' ORDER BY place")
+        lasted = desk.rows("SELECT moment FROM history WHERE service = 'web' AND"
+                           " (line LIKE 'step 3 %' OR line LIKE 'step 4 %') ORDER BY place")
         expect("the timed pause", lasted[1][0] - lasted[0][0], 3)
         before = desk.rows("SELECT count(*) FROM history")
         expect("once more", run_workflow(desk, "1", "v2"), [DONE, DONE, DONE, DONE])
@@ -333,8 +326,8 @@ def try_dying(world):
         desk.kill()
         time.sleep(3)
         desk.start()
-        expect("an analysis step waits", (state(desk, "step")["status"], state(desk, "step")["open"]),
-               ("Progressing", [1]))
+        found = state(desk, "step")
+        expect("an analysis step waits", (found["status"], found["open"]), ("Progressing", [1]))
         expect("its measurement is late", desk.ask("due", "--late", "1", "step").status, DONE)
         expect("timed pauses have ended", state(desk, "timed")["status"], "Healthy")
         expect("a background without a measurement",

@@ -10,15 +10,15 @@ def remove(file):
     """Removes a file and its log, as far as they are there."""
     for end in ENDS:
         with contextlib.suppress(FileNotFoundError):
-            os.remove(file + end)
+            os.remove(f"{file}{end}")
 
 
 def copy(file, to):
     """Copies a file and its log, as far as they are there, in the place of those of that name."""
     remove(to)
     for end in ENDS:
-        if os.path.exists(file + end):
-            shutil.copyfile(file + end, to + end)
+        if os.path.exists(f"{file}{end}"):
+            shutil.copyfile(f"{file}{end}", f"{to}{end}")
 
 
 def size(file):

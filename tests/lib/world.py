@@ -8,6 +8,7 @@ import os
 import pathlib
 import resource
 import shutil
+import signal
 import socket
 import sqlite3
 import subprocess
@@ -81,6 +82,18 @@ def process(words, **options):
         yield started
     finally:
         end(started)
+
+
+@contextlib.contextmanager
+def process_group(words, **options):
+    """A process that ends with the block, and with it those that it began."""
+    with process(words, start_new_session=True, **options) as started:
+        started.is_of_group = True
+        try:
+            yield started
+        finally:
+            with contextlib.suppress(ProcessLookupError):
+                os.killpg(started.pid, signal.SIGKILL)
 
 
 def end(started):
