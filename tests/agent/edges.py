@@ -23,8 +23,8 @@ from world import (
 from world import ask as ask_bytes
 
 ONCE = ("--once",)
-NO_DEADLINE = ("the desk ignores it, and has no deadline: have a job look for late measurements, and "
-               "abort")
+NO_DEADLINE = ("the desk ignores it, and has no deadline: have a job look for late measurements,"
+               " and abort")
 NOBODY = 65534
 
 

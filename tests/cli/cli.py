@@ -1,7 +1,8 @@
 """Runs a program on command lines: cli.py PROGRAM FOLDER [PART..], where FOLDER is for files. The
 rows of tests/cli/lines say what each line of words comes to, those of tests/cli/cases among them.
 streams.py has the streams, closed.py those that are closed, files.py the measurement files,
-calls.py the calls that fail, and terminals.py the terminals. The comment at the top of tests/cli/run says what is tried."""
+calls.py the calls that fail, and terminals.py the terminals. The comment at the top of
+tests/cli/run says what is tried."""
 import fcntl
 import os
 import re
@@ -342,8 +343,8 @@ def try_terminals(program, folder):
 
 
 PARTS = (try_cases, try_mistakes, try_help, try_ends, try_faulty_streams, try_programs,
-         try_longest, try_warnings, try_serving, try_name, try_terminals, *STREAM_PARTS, *FILE_PARTS,
-         *CLOSED_PARTS, *CALL_PARTS, *CLOSED_CALL_PARTS)
+         try_longest, try_warnings, try_serving, try_name, try_terminals, *STREAM_PARTS,
+         *FILE_PARTS, *CLOSED_PARTS, *CALL_PARTS, *CLOSED_CALL_PARTS)
 
 
 def main():

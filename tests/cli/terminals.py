@@ -74,8 +74,8 @@ def counts(row, shown, line):
 
 
 def judged(row, shown):
-    """What is shown after the judging of the desk's file, of less than a megabyte: the line is drawn
-    behind the receipts of ops and of agent, and then behind each service, web and help."""
+    """What is shown after the judging of the desk's file, of less than a megabyte: the line is
+    drawn behind the receipts of ops and of agent, and then behind each service, web and help."""
     end = shown.find(ERASED) + len(ERASED)
     found = counts(row, shown[:end], rb"canary: (\d+) of 1 MB judged")
     expect(f"{row}: megabytes judged", found, [0, 0, 0, 0])
@@ -98,8 +98,8 @@ def try_judging(program, place):
 
 def try_pages(program, place):
     """The receipts of a caller with more than 512 are judged in pages, each counted once. What is
-    judged is shown as as large a share of the bytes of the file and its log as of its rows. The file
-    is a large one, so the line stands there before SQLite has read any of it."""
+    judged is shown as as large a share of the bytes of the file and its log as of its rows. The
+    file is a large one, so the line stands there before SQLite has read any of it."""
     sent = [put("ops", number, command("template errs m,interval=60"))
             for number in range(1, RECEIPTS + 1)]
     made = subprocess.run([program, "pipe", "--at", str(B), "--step", "1", "--db", "pages.db"],

@@ -244,6 +244,17 @@ def try_agent(world):
         call("nothing is due", 0, "", "seldom")
 
 
+def want_too_early(desk, ordinal, interval):
+    """The report after the one with this ordinal is refused, before so many seconds are over."""
+    found, ended = desk.do("report", "web", "1", "m", "5"), time.time()
+    (taken,), = desk.rows("SELECT taken FROM measurement WHERE service = 'web' AND metric = 0"
+                          " AND ordinal = ?", ordinal)
+    if found.status == DONE and ended >= taken + interval:
+        raise Late("a report that is to be too early came too late")
+    expect("too early", (found.status, found.output),
+           (REFUSED, f'{{"at":0,"code":"too-early","due":{taken + interval}}}\n'))
+
+
 def try_due(world):
     """What is due, and waiting for it: the report behind it is never too early."""
     with world.desk("due") as desk:
@@ -271,13 +282,7 @@ def try_due(world):
                  f"1 m {ordinal}\n")
             want(f"report {ordinal}", desk.do("report", "web", "1", "m", "5"), DONE,
                  recorded("Successful"))
-        too_early, ended = desk.do("report", "web", "1", "m", "5"), time.time()
-        (taken,), = desk.rows("SELECT taken FROM measurement WHERE service = 'web' AND metric = 0"
-                              " AND ordinal = 3")
-        if too_early.status == DONE and ended >= taken + 3:
-            raise Late("a report that is to be too early was asked too late")
-        expect("too early", (too_early.status, too_early.output),
-               (REFUSED, f'{{"at":0,"code":"too-early","due":{taken + 3}}}\n'))
+        want_too_early(desk, 3, 3)
         # the run ends while a call waits
         with_wait = ["due", "--wait", "seldom"]
         ending = threading.Timer(.5, lambda: setup.send({"promoteFull": {"service": "seldom"}}))

@@ -40,6 +40,10 @@ def try_variables(world):
                  "CANARY_JOURNAL": str(desk.folder / "none" / "wrong.journal")}
         words = {"CANARY_DESK": ["--desk", right["CANARY_DESK"]], "CANARY_AS": ["--as", "ops"],
                  "CANARY_JOURNAL": ["--journal", right["CANARY_JOURNAL"]]}
+
+        def tick(variables, *options):
+            return world.run(["do", *options, "tick", "web"], desk.folder, variables=variables)
+
         want("variables", world.run(["do", "promote", "web"], desk.folder, variables=right), DONE,
              shown(PROMOTED))
         given = [word for option in words.values() for word in option]
@@ -47,30 +51,38 @@ def try_variables(world):
              shown(PROMOTED, "one"))
         want("both", world.run(["do", *given, "promote", "two"], desk.folder, variables=wrong),
              DONE, shown(PROMOTED, "two"))
-        for name, said in (("CANARY_DESK", ADDRESS), ("CANARY_AS", BAD_CALLER),
-                           ("CANARY_JOURNAL", None)):
-            found = world.run(["do", "tick", "web"], desk.folder,
-                              variables={**right, name: wrong[name]})
-            expect(name, found.status, LOCAL if said is None else WORDS)
-            if said is not None:
-                want(name, found, WORDS, said=said)
-            want(f"{name} and its option",
-                 world.run(["do", *words[name], "tick", "web"], desk.folder,
-                           variables={**right, name: wrong[name]}), DONE, shown(PROMOTED))
+        for name, said in (("CANARY_DESK", ADDRESS), ("CANARY_AS", BAD_CALLER)):
+            want(name, tick({**right, name: wrong[name]}), WORDS, said=said)
+        nowhere = {**right, "CANARY_JOURNAL": wrong["CANARY_JOURNAL"]}
+        expect("no folder", tick(nowhere).status, LOCAL)
+        for name, option in words.items():
+            want(f"{name} and its option", tick({**right, name: wrong[name]}, *option), DONE,
+                 shown(PROMOTED))
         for name, said in (("CANARY_AS", NO_CALLER), ("CANARY_JOURNAL", NO_JOURNAL)):
             left = {other: value for other, value in right.items() if other != name}
-            want(f"no {name}", world.run(["do", "tick", "web"], desk.folder, variables=left), WORDS,
-                 said=said)
-        want("an empty journal", world.run(["do", "tick", "web"], desk.folder,
-                                           variables={**right, "CANARY_JOURNAL": ""}), WORDS,
-             said=NO_JOURNAL)
-        only_desk = {"CANARY_DESK": right["CANARY_DESK"]}
-        want("get", world.run(["get", "none"], desk.folder, variables=only_desk), REFUSED,
-             '{"code":"unknown-service"}\n')
-        want("watch", world.run(["watch", "--until", "Paused", "web"], desk.folder,
-                                variables=only_desk), DONE,
-             "web Paused, step 3, weight 50%, version v2, waits for a promotion\n")
-        want("due", world.run(["due", "web"], desk.folder, variables=only_desk), REFUSED)
+            want(f"no {name}", tick(left), WORDS, said=said)
+        want("an empty journal", tick({**right, "CANARY_JOURNAL": ""}), WORDS, said=NO_JOURNAL)
+        want_delivered("variables", desk)
+
+
+def try_variables_of_queries(world):
+    """A query needs the variable of the desk alone."""
+    with world.desk("variables-of-queries") as desk:
+        add(desk)
+
+        def ask(*words):
+            return world.run(words, desk.folder,
+                             variables={"CANARY_DESK": f"127.0.0.1:{desk.port}"})
+
+        want("get", ask("get", "none"), REFUSED, '{"code":"unknown-service"}\n')
+        want("watch", ask("watch", "--until", "Paused", "web"), DONE,
+             "web Paused, step 1, weight 20%, version v2, waits for a promotion\n")
+        want("due", ask("due", "web"), REFUSED)
+
+
+def try_invalid_options(world):
+    """Addresses that are none, of each command, and callers with invalid names."""
+    with world.desk("invalid-options") as desk:
         for name in ("nowhere", "", ":80", "127.0.0.1", "localhost:", "localhost:http",
                      "127.0.0.1:65536", "http://127.0.0.1:80", "no host:80", "a/b:80", "\u00f6:80"):
             for command in (["do", "--as", "ops", "--journal", "new", "tick", "web"],
@@ -79,7 +91,8 @@ def try_variables(world):
                 want(f"{command} at {name!r}", found, WORDS, said=ADDRESS)
         for name in ("", "Ops", "-ops", "ops-", "o" * 64, "o p", "\u00f6"):
             want(repr(name), desk.do("tick", "web", caller=name), WORDS, said=BAD_CALLER)
-        want_delivered("variables", desk)
+        expect("no journal", [each.name for each in desk.folder.glob("*") if
+                              each.suffix == ".journal" or each.name == "new"], [])
 
 
 def try_host_names(world):

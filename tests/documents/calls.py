@@ -1,7 +1,7 @@
 #!/usr/bin/env python3
-"""Checks what docs/DECISIONS.md says, under "Safe and total", of public calls: how many of each crate
-have a `requires`, and how many no clause at all. A public call is a `pub fn` of a crate that is no
-crate of tests.
+"""Checks what docs/DECISIONS.md says, under "Safe and total", of public calls: how many of each
+crate have a `requires`, and how many no clause at all. A public call is a `pub fn` of a crate that
+is no crate of tests.
 
     tests/documents/calls.py            checks the page
     tests/documents/calls.py --print    prints both lists, call by call

@@ -29,7 +29,8 @@ TEMPLATES, SIGNED = 100, 24
 STRANGERS = 40_000
 # Services with long histories, and the releases of each, of which each tells a line for each step.
 TOLD, PASSED = 80, 16
-# The room of these, of which services have three eighths, and receipts and histories an eighth each.
+# The room of these, of which services have three eighths, and receipts and histories an eighth
+# each.
 ROOM = 2 << 20
 SECONDS = 300
 ACCEPTED, CONFLICT = b"HTTP/1.1 200 ", b"HTTP/1.1 409 "

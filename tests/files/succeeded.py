@@ -104,8 +104,8 @@ def healthy(name):
 
 
 def seen(program, file):
-    """What the old file shows: histories, measurements, the page but for its moments, and its bytes.
-    Whoever opens it may give a log without frames another header."""
+    """What the old file shows: histories, measurements, the page but for its moments, and its
+    bytes. Whoever opens it may give a log without frames another header."""
     page = told([program, "page", "--db", file, "-"])
     expect(f"page of {file}", page[::2], (0, b""))
     asked = [told([program, *words, "--db", file, *more, name]) for name in STABLE

@@ -81,8 +81,10 @@ def try_reports(program, folder):
     sent = (
         (put("ops", 1, asked), reply(ok, b'{"code":"ok","template":"errs"}')),
         (put("ops", 4, asked), reply(ok, b'{"code":"ok","revision":2,"template":"errs"}')),
-        (put("agent", 5, command("report 1 m:5:240:!down")), answer("[web Paused 1 20 | 1 Error | Running]")),
-        (put("agent", 6, command("report 1 m:6:300:7")), answer("[web Paused 1 20 | 1 Successful | Running]")),
+        (put("agent", 5, command("report 1 m:5:240:!down")),
+         answer("[web Paused 1 20 | 1 Error | Running]")),
+        (put("agent", 6, command("report 1 m:6:300:7")),
+         answer("[web Paused 1 20 | 1 Successful | Running]")),
         (put("ops", 1, asked), reply(ok, b'{"code":"ok","template":"errs"}')),
         (put("ops", 5, command("promote")), answer("[web Healthy 2 100]")),
         (put("ops", 6, command("start v3")), answer("[web Paused 1 20]")),
@@ -255,8 +257,8 @@ def try_in_use(program, folder):
 
 
 def try_same_looks(program, folder):
-    """What `migrate` refuses before it writes, a dry run refuses too: a file with another hard link,
-    a rollback journal or something else of its name beside it. Both leave all as it was."""
+    """What `migrate` refuses before it writes, a dry run refuses too: a file with another hard
+    link, a rollback journal or something else of its name beside it. Both leave all as it was."""
     place = os.path.join(folder, "looks")
     os.mkdir(place)
     file = os.path.join(place, "looked")

@@ -1,5 +1,5 @@
-"""Draws the pages of some desks, and looks at them: pages.py PROGRAM FOLDER [CASE..]. The comment at
-the top of tests/page/run says what is tried."""
+"""Draws the pages of some desks, and looks at them: pages.py PROGRAM FOLDER [CASE..]. The comment
+at the top of tests/page/run says what is tried."""
 import contextlib
 import json
 import os
@@ -218,7 +218,8 @@ def try_counted(program, folder):
 
 
 def try_many(program, folder):
-    """The page of 200 services begins with an index: first the 40 that wait, as the page has them."""
+    """The page of 200 services begins with an index: first the 40 that wait, as the page has
+    them."""
     file = os.path.join(folder, "many.db")
     make_desk(program, file, "many", stories.many())
     page = run([program, "page", "--db", file, "-"], "many")

@@ -205,7 +205,8 @@ def lists():
     """Results that are lists, as a query of Prometheus returns them, by the places that conditions
     name: each has its own limits, and numbers on either side of a comparison."""
     desk = Desk()
-    desk.template("one", metric("rate", count=99, failureLimit=9, successCondition="result[0] >= 95"))
+    desk.template("one", metric("rate", count=99, failureLimit=9,
+                                successCondition="result[0] >= 95"))
     desk.template("two", metric("pair", count=99, failureLimit=9, inconclusiveLimit=9,
                                 successCondition="result[1] > 2 && result[0] < 5",
                                 failureCondition="9 <= result[0] || result[1] == -4"))

@@ -136,9 +136,10 @@ def look_at_case(name, text, values):
 
 
 def worked():
-    """A service of each status. At second 90 of the desk `web` has two open runs: of the background,
-    which wants its first measurement at 70; and of a step, since 40, with a metric that is
-    completed, two that people read alike, wanted at 40 and at 60, and one that is wanted later."""
+    """A service of each status. At second 90 of the desk `web` has two open runs: of the
+    background, which wants its first measurement at 70; and of a step, since 40, with a metric that
+    is completed, two that people read alike, wanted at 40 and at 60, and one that is wanted
+    later."""
     desk = stories.Desk()
     desk.template("rates", stories.metric("probe", count=1),
                   stories.metric("rate.e6", interval="10s", count=5),

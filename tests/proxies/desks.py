@@ -221,9 +221,9 @@ def kill_for_a_while(desk, senders, has_ended):
 
 
 def try_desks(world):
-    """Through HAProxy each request gets the reply that a desk of its group alone gives, by the rules
-    and by such a desk. While one desk is away, those of the other groups are answered, and none of
-    them is sent again."""
+    """Through HAProxy each request gets the reply that a desk of its group alone gives, by the
+    rules and by such a desk. While one desk is away, those of the other groups are answered, and
+    none of them is sent again."""
     count, is_over = 2500 if world.is_whole else 250, threading.Event()
     with four_desks(world) as (desks, port):
         senders = {name: Sender(Group(name, count), port) for name in GROUPS}

@@ -170,8 +170,8 @@ def try_follower_streams(world):
 EVIL = "\u001b[2J\u202e"
 STATE = "1 web {} {} 127.0.0.1 2 0 {} 1 1\n"
 TRUE = (STATE.format(1, "v1", 65) + STATE.format(2, "v2", 35)).encode()
-# What a socket that is not HAProxy's answers to each command, and what of it is said, in turn. None:
-# the follower hangs up.
+# What a socket that is not HAProxy's answers to each command, and what of it is said, in turn.
+# None: the follower hangs up.
 LIES = [
     (b"", "web has no server v1: nothing is changed"),
     (b"\xff\xfe", "UnicodeDecodeError"),
