@@ -2,17 +2,16 @@
 import json
 import os
 import pathlib
-import select
 import signal
 import subprocess
 import threading
 import time
-import tty
 
 from reports import COMMAND, INVALID_NAME, add_measured, metric
+from screen import new_terminal, read_terminal
 from world import (
     ADDED, CONTRADICTION, DONE, ENDED, KEY_USED, LOCAL, PENDING, PROMOTED, REFUSED, STARTED, WORDS,
-    Caller, Wrong, add, answering, ask, environment, expect, free_port, process, running, shown,
+    Caller, Wrong, add, answering, ask, environment, expect, free_port, process, shown,
     two_pauses, wait_until, want, want_delivered, want_seconds,
 )
 
@@ -221,33 +220,15 @@ def try_commands(world):
         want_delivered("commands", desk)
 
 
-def read_terminal(terminal):
-    # Its descriptor may be above 1,023, which `select` does not take.
-    found, shown = b"", select.poll()
-    shown.register(terminal, select.POLLIN)
-    while shown.poll(30_000):
-        try:
-            piece = os.read(terminal, 65536)
-        except OSError:
-            break
-        if not piece:
-            break
-        found += piece
-    return found.decode()
-
-
 def on_terminal(world, words, folder):
     """The status of a client, and what its output, a terminal, showed."""
-    shows, terminal = os.openpty()
-    tty.setraw(terminal)
-    client = subprocess.Popen([world.program, *words], cwd=folder, env=environment(),
-                              stdin=subprocess.DEVNULL, stdout=terminal, stderr=subprocess.DEVNULL)
-    running.add(client)
-    os.close(terminal)
-    found = read_terminal(shows)
-    os.close(shows)
-    running.discard(client)
-    return client.wait(timeout=60), found
+    shown_by, terminal = new_terminal()
+    with process([world.program, *words], cwd=folder, env=environment(), stdin=subprocess.DEVNULL,
+                 stdout=terminal, stderr=subprocess.DEVNULL) as client:
+        os.close(terminal)
+        found = read_terminal(shown_by, 30)
+        os.close(shown_by)
+        return client.wait(timeout=60), found.decode()
 
 
 def try_terminals(world):

@@ -10,8 +10,8 @@ from contextlib import closing
 
 HERE = os.path.dirname(os.path.realpath(__file__))
 TESTS = os.path.dirname(HERE)
-# Parts of other scripts: what a terminal shows, and what a disk holds after a power cut.
-sys.path += [os.path.join(TESTS, "cli"), os.path.join(TESTS, "disk")]
+# What a disk holds after a power cut.
+sys.path.append(os.path.join(TESTS, "disk"))
 
 from asking import (  # noqa: E402
     migrate, printed, refused, told, want, want_closed, want_histories, want_kept, want_migrated,
@@ -21,9 +21,9 @@ from first import (  # noqa: E402
     bytes_of, change, connect, contents, fail, in_order, make, make_first, migrated, remove,
     rows_of, schema_of, text_of,
 )
+from screen import ERASED, run_showing  # noqa: E402
 from stops import STRACE_PARTS, try_full_disk  # noqa: E402
 from story_words import B, answer, command, put, reply  # noqa: E402
-from terminals import ERASED, run_showing  # noqa: E402
 
 FILES = ("story", "stream", "reports")
 ADVICE = b": is a file of the first version; 'canary migrate' makes it a file of this version\n"
