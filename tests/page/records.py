@@ -433,22 +433,26 @@ def try_kills(program, folder):
     """`page` is killed on its way, again and again: each file is whole, and what is left beside
     them is their owner's alone, unless it is whole and was about to get its name."""
     file, place = os.path.join(folder, "thinned.db"), folder_in(folder, "killed")
-    words = [program, "page", "--db", file, "--json", place, os.path.join(folder, "killed.html")]
+    page = os.path.join(folder, "killed.html")
+    words = [program, "page", "--db", file, "--json", place, page]
     begun = time.monotonic()
     subprocess.run(words, timeout=LIMIT, check=True)
     takes = time.monotonic() - begun
-    names = sorted(os.listdir(place))
+    names, ends = sorted(os.listdir(place)), set()
     for part in range(1, 20):
         ended = subprocess.Popen(words)
         time.sleep(takes * part / 20)
         ended.send_signal(signal.SIGKILL)
-        ended.wait()
+        ends.add(ended.wait())
         for name in names:
             value_in(os.path.join(place, name))
+        with open(page, "rb") as shown:
+            want("a page whose program was killed is whole", shown.read()[-8:], b"</html>\n")
         for name in set(os.listdir(place)) - set(names):
             path = os.path.join(place, name)
             if stat.S_IMODE(os.stat(path).st_mode) != 0o600:
                 value_in(path)
+    want("kills on the way, and no other faults", ends - {0}, {-signal.SIGKILL})
 
 
 def try_watch(program, folder):
