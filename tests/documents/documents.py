@@ -11,7 +11,8 @@ is 1 if there are any.
 - the examples of the library crates are those of their callers (lib_examples.py)
 - names of crates and of code are there (names.py), and so are those of the tables "Where"
   (where.py), of docs/CHANGING.md (changing.py) and of the listener's page (listener.py)
-- the tables of crates have the contracts of the crates' pages (index.py)"""
+- the tables of crates have the contracts of the crates' pages (index.py)
+- the gate runs each script of tests/ (suites.py)"""
 import os
 import pathlib
 import re
@@ -23,6 +24,7 @@ import index
 import lib_examples
 import listener
 import names
+import suites
 import where
 from pages import Page
 
@@ -169,7 +171,7 @@ def faults_of(root):
     yield from faults_of_tests(root, files, pages)
     yield from faults_of_lines(root, pages)
     yield from names.faults_of(root, files, pages)
-    for checks in (changing, index, lib_examples, listener, where):
+    for checks in (changing, index, lib_examples, listener, suites, where):
         yield from checks.faults_of(root)
 
 
