@@ -11,6 +11,7 @@ import sys
 
 from asking import ask_refused
 from book_files import copy, remove
+from chosen import chosen
 from conversation import STILL_AT_B
 from measuring import read_refused, report_refused
 from serving import converse_with_desk
@@ -502,14 +503,10 @@ CASES = (try_lines, try_argo, try_stream, try_tables, try_file, try_opened, try_
 
 def main():
     program, folder, library, step, first, *wanted = sys.argv[1:]
-    unknown = set(wanted) - {case.__name__ for case in CASES}
-    if unknown:
-        sys.exit(f"refused: unknown case: {' '.join(sorted(unknown))}")
     trial = Trial(program, folder, library)
     try:
-        for case in CASES:
-            if not wanted or case.__name__ in wanted:
-                case(trial, Share(int(step), int(first)))
+        for case in chosen("refused", CASES, wanted):
+            case(trial, Share(int(step), int(first)))
     except (Wrong, subprocess.TimeoutExpired) as fault:
         sys.exit(f"refused: {fault}")
 

@@ -9,6 +9,7 @@ import sys
 from contextlib import closing
 
 from book_files import copy, remove, size
+from chosen import chosen, is_without
 from disk_story import (
     MESSAGES, REFUSED, Desk, Well, begin_large, fail, history, tell_after, tell_failing, tell_whole,
     told_by, went_on,
@@ -242,13 +243,8 @@ PARTS = (try_foreign_files, try_read_only, try_cut_files, try_full_disk, *STRACE
 
 def main():
     program, folder, step, first, *wanted = sys.argv[1:]
-    unknown = set(wanted) - {part.__name__ for part in PARTS}
-    if unknown:
-        fail(f"unknown part: {' '.join(sorted(unknown))}")
-    left_out = STRACE_PARTS if "strace" in os.environ.get("CHECK_WITHOUT", "").split() else ()
-    for part in PARTS:
-        if part in left_out or (wanted and part.__name__ not in wanted):
-            continue
+    left_out = STRACE_PARTS if is_without("strace") else ()
+    for part in chosen("disk", PARTS, wanted, left_out):
         if part in SHARED_PARTS:
             part(program, folder, int(step), int(first))
         else:

@@ -12,6 +12,7 @@ import sys
 import time
 from concurrent.futures import ThreadPoolExecutor
 
+from chosen import chosen
 from conversation import STILL_AT_B, reply_of, without_progress
 from story_words import Wrong, answer, command, expect, put
 
@@ -432,9 +433,7 @@ PARTS = (try_log_alone, try_begun, try_frames, try_kinds, try_replaced, try_back
 
 def main():
     program, folder, *wanted = sys.argv[1:]
-    for part in PARTS:
-        if wanted and part.__name__ not in wanted:
-            continue
+    for part in chosen("files", PARTS, wanted):
         try:
             part(program, folder)
         except (Wrong, subprocess.TimeoutExpired) as fault:

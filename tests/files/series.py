@@ -15,6 +15,7 @@ import threading
 import time
 from contextlib import contextmanager
 
+from chosen import chosen
 from places import (
     DONE, FILE_FAULT, SECONDS, folder_in, make_desk, make_killed_desk, pair, told, want_started,
     write)
@@ -476,9 +477,8 @@ def main():
     parts = AT_CALLS if words[0] == "--at-calls" else PARTS
     program, folder, *names = words[words[0] == "--at-calls":]
     try:
-        for part in parts:
-            if not names or part.__name__ in names:
-                part(os.path.realpath(program), folder)
+        for part in chosen("files", parts, names):
+            part(os.path.realpath(program), folder)
     except (Wrong, subprocess.TimeoutExpired) as fault:
         sys.exit(f"files: {fault}")
 

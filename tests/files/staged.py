@@ -7,6 +7,7 @@ import subprocess
 import sys
 import time
 
+from chosen import chosen
 from places import (
     DONE, FILE_FAULT, RANDOM, SECONDS, bytes_of, folder_in, make_desk, make_killed_desk, mode_of,
     pair, serving, told, want_names, want_started, write)
@@ -451,15 +452,16 @@ def try_making(program, folder):
         expect(f"{row}: the size of its pages", bytes_of(file)[16:18], b"\x02\x00")
 
 
+PARTS = (try_no_memory, try_replaced, try_making, try_mixed_pair, try_killed_backups,
+         try_log_begun_anew, try_failing_backups, try_killed_successions, try_failing_successions,
+         try_held, try_linked_log, try_page_in_turn, try_places, try_folder_taken)
+
+
 def main():
     program, folder, *names = sys.argv[1:]
     try:
-        for part in (try_no_memory, try_replaced, try_making, try_mixed_pair, try_killed_backups,
-                     try_log_begun_anew, try_failing_backups, try_killed_successions,
-                     try_failing_successions, try_held, try_linked_log, try_page_in_turn,
-                     try_places, try_folder_taken):
-            if not names or part.__name__ in names:
-                part(os.path.realpath(program), folder)
+        for part in chosen("files", PARTS, names):
+            part(os.path.realpath(program), folder)
     except (Wrong, subprocess.TimeoutExpired) as fault:
         sys.exit(f"files: {fault}")
 

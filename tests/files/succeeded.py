@@ -11,6 +11,7 @@ import tempfile
 import time
 from contextlib import closing
 
+from chosen import chosen
 from conversation import limits_writes, without_progress
 from places import (
     FILE_FAULT, bytes_of, folder_in, make_desk, mode_of, serving, told, want_names, write)
@@ -298,13 +299,14 @@ def try_full_disk(program, folder):
     expect("a disk with room", succeed(program, old, new), SUCCEEDED)
 
 
+PARTS = (try_grown, try_small, try_output, try_names, try_olds, try_in_use, try_full_disk)
+
+
 def main():
     program, folder, *names = sys.argv[1:]
     try:
-        for part in (try_grown, try_small, try_output, try_names, try_olds, try_in_use,
-                     try_full_disk):
-            if not names or part.__name__ in names:
-                part(os.path.realpath(program), folder)
+        for part in chosen("files", PARTS, names):
+            part(os.path.realpath(program), folder)
     except (Wrong, subprocess.TimeoutExpired) as fault:
         sys.exit(f"files: {fault}")
 

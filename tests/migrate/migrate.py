@@ -17,8 +17,9 @@ from asking import (  # noqa: E402
     migrate, printed, refused, told, want, want_closed, want_histories, want_kept, want_migrated,
     want_replies,
 )
+from chosen import chosen, is_without  # noqa: E402
 from first import (  # noqa: E402
-    bytes_of, change, connect, contents, fail, in_order, make, make_first, migrated, remove,
+    bytes_of, change, connect, contents, in_order, make, make_first, migrated, remove,
     rows_of, schema_of, text_of,
 )
 from screen import ERASED, run_showing  # noqa: E402
@@ -306,13 +307,9 @@ def main():
     parts = (try_reports, try_refusals, try_no_desk, try_in_use, try_same_looks, try_full_output,
              try_terminal, try_changed, try_files, try_full_disk, *STRACE_PARTS)
     program, folder, *wanted = sys.argv[1:]
-    unknown = set(wanted) - {part.__name__ for part in parts}
-    if unknown:
-        fail(f"unknown part: {' '.join(sorted(unknown))}")
-    left_out = STRACE_PARTS if "strace" in os.environ.get("CHECK_WITHOUT", "").split() else ()
-    for part in parts:
-        if part not in left_out and (not wanted or part.__name__ in wanted):
-            part(program, folder)
+    left_out = STRACE_PARTS if is_without("strace") else ()
+    for part in chosen("migrate", parts, wanted, left_out):
+        part(program, folder)
     print("migrate: files of the first schema become those of this one", file=sys.stderr)
 
 
