@@ -5,12 +5,11 @@ import re
 import signal
 import subprocess
 import sys
-import time
 
 from chosen import chosen
 from places import (
     DONE, FILE_FAULT, RANDOM, SECONDS, bytes_of, folder_in, make_desk, make_killed_desk, mode_of,
-    pair, serving, told, want_names, want_started, write)
+    pair, serving, told, wait_until, want_names, want_started, write)
 from story_words import Wrong, expect
 
 WRITING = ("pwrite64", "fsync", "fdatasync", "ftruncate")
@@ -31,14 +30,6 @@ def calls_in(log):
     """The calls of such a log with their words."""
     with open(log, encoding="utf-8") as told_calls:
         return re.findall(r"^\d+ +(\w+)\((.*)\) += (-?\w+)", told_calls.read(), re.MULTILINE)
-
-
-def wait_until(row, is_so):
-    end = time.monotonic() + SECONDS
-    while not is_so():
-        if time.monotonic() > end:
-            raise Wrong(f"{row}: not in {SECONDS} seconds")
-        time.sleep(0.01)
 
 
 def stopped_in(log):
@@ -442,6 +433,7 @@ def try_making(program, folder):
              "--db", file]
     expect("a desk that is made", told(traced(log, WRITING) + asked), (0, b"", b""))
     names = [name for name, _, _ in calls_in(log)]
+    expect("a call writes to the file that is made", "pwrite64" in names, True)
     for at, name in enumerate(names):
         row = f"a desk that is made, {name} {at + 1} fails"
         for left in (file, file + "-wal"):

@@ -7,8 +7,8 @@ ENDS = ("", "-wal")
 
 
 def remove(file):
-    """Removes a file and its log, as far as they are there."""
-    for end in ENDS:
+    """Removes a file, its log and what SQLite had in memory of it, as far as they are there."""
+    for end in (*ENDS, "-shm"):
         with contextlib.suppress(FileNotFoundError):
             os.remove(f"{file}{end}")
 

@@ -17,10 +17,11 @@ from asking import (  # noqa: E402
     migrate, printed, refused, told, want, want_closed, want_histories, want_kept, want_migrated,
     want_replies,
 )
+from book_files import remove  # noqa: E402
 from chosen import chosen, is_without  # noqa: E402
 from first import (  # noqa: E402
-    bytes_of, change, connect, contents, in_order, make, make_first, migrated, remove,
-    rows_of, schema_of, text_of,
+    bytes_of, change, connect, contents, in_order, make, make_first, migrated, rows_of, schema_of,
+    text_of,
 )
 from screen import ERASED, run_showing  # noqa: E402
 from stops import STRACE_PARTS, try_full_disk  # noqa: E402
