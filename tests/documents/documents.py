@@ -89,11 +89,10 @@ def faults_of_paths(root, name, codes, ends):
     """The paths in such texts, each with its line, that are not there. Each end of a path that is
     there is among the ends."""
     for number, code in codes:
-        for found in PATH.findall(code):
-            path = found.removeprefix("./").rstrip(".,")
-            for one in alternatives(path):
-                if not exists(root, one):
-                    yield name, number, f"there is no {one}"
+        paths = (found.removeprefix("./").rstrip(".,") for found in PATH.findall(code))
+        for one in (one for path in paths for one in alternatives(path)):
+            if not exists(root, one):
+                yield name, number, f"there is no {one}"
         for found in FILE.findall(code):
             is_known = found in ends or found in NOT_HERE or "*" in general(found)
             if not is_known and not PATH.match(found):
