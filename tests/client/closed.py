@@ -56,12 +56,12 @@ def try_closed_commands(world):
                     (("retry", name), REFUSED, '{"code":"not-aborted"}\n'),
                     (("service", manifest, "v1"), DONE,
                      shown(("Healthy", 1, 100), f"other-{name}"))):
-                asked = key_words(desk, name, *words)
-                for turn in ("the first", "the second"):
-                    row = f"{words}, {name}, {turn} time"
-                    ended = run_closed([world.program, *asked], desk.folder, closed)
-                    want_closed(row, closed, ended, reply, status=status)
-                want(f"{words}, {name}, all open", world.run(asked, desk.folder), status, reply)
+                asked = [world.program, *key_words(desk, name, *words)]
+                first, second = (run_closed(asked, desk.folder, closed) for _ in range(2))
+                want_closed(f"{words}, {name}, the first time", closed, first, reply, status=status)
+                want_closed(f"{words}, {name}, again", closed, second, reply, status=status)
+                want(f"{words}, {name}, all open", world.run_words(asked, desk.folder), status,
+                     reply)
             expect(f"{name}: the manifest", (desk.folder / manifest).read_bytes(), before)
             expect(f"{name}: settled", want_delivered(name, desk, name, f"{name}.journal"), 3)
             journals[name] = journal_bytes(desk, name)
@@ -82,6 +82,13 @@ def losing(desk, come):
     return answering(answer)
 
 
+def run_losing(desk, come, name, words, closed):
+    """Runs a command under a key so that every second reply is lost."""
+    with losing(desk, come) as port:
+        asked = key_words(desk, name, *words, port=port)
+        return run_closed([desk.world.program, *asked], desk.folder, closed)
+
+
 def try_closed_lost_replies(world):
     """Each reply is lost once, so there is something to say while the journal is open: a new one,
     and one in use. The command acts once, and the journal is whole."""
@@ -93,9 +100,7 @@ def try_closed_lost_replies(world):
             for words, reply, lost in ((("promote", name), PROMOTED, 2),
                                        (("tick", name), PROMOTED, 1)):
                 row, come = f"{words}, {name}", []
-                with losing(desk, come) as port:
-                    asked = key_words(desk, name, *words, port=port)
-                    ended = run_closed([world.program, *asked], desk.folder, closed)
+                ended = run_losing(desk, come, name, words, closed)
                 want_closed(row, closed, ended, shown(reply, name), [LOST] * lost)
                 expect(f"{row}: how often it was sent", len(come), 2 * lost)
                 want(f"{row}, all open", world.run(key_words(desk, name, *words), desk.folder),

@@ -1,6 +1,7 @@
 """The client and the desk killed at each call that they make, calls that fail, paths that are taken
 meanwhile, and power that goes, by strace: parts of client.py."""
 import contextlib
+import itertools
 import os
 import re
 import signal
@@ -175,18 +176,17 @@ def try_taken_path(world):
         add(desk)
         want("tick", desk.do("tick", "web"), DONE, shown(("Paused", 1, 20)))
         whole = (desk.folder / "ops.journal").read_bytes()
-        for name, before in (("old", whole), ("new", None)):
-            for kind, take in TAKES.items():
-                path = desk.folder / f"{name}-{kind}.journal"
-                if before:
-                    path.write_bytes(before)
+        for name, kind in itertools.product(("old", "new"), TAKES):
+            path = desk.folder / f"{name}-{kind}.journal"
+            if name == "old":
+                path.write_bytes(whole)
 
-                def taken(path=path, take=take):
-                    path.unlink(missing_ok=True)
-                    take(path)
-                words = desk.words("promote", "web", journal=path.name)
-                expect(path.name, run_stopped(world, desk, words, path, taken),
-                       (LOCAL, "", f"canary: {desk.of_file(NO_FILE, path.name)}\n"))
+            def taken(path=path, take=TAKES[kind]):
+                path.unlink(missing_ok=True)
+                take(path)
+            words = desk.words("promote", "web", journal=path.name)
+            expect(path.name, run_stopped(world, desk, words, path, taken),
+                   (LOCAL, "", f"canary: {desk.of_file(NO_FILE, path.name)}\n"))
         expect("promotions", desk.count("promote"), {})
 
 

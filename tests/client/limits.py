@@ -87,6 +87,16 @@ def try_spellings(world):
         expect("65 fields", (found.status, found.output), (PENDING, ""))
 
 
+def in_two_pieces(whole, first):
+    """A server whose reply comes in two pieces, of which the first has so many bytes."""
+    def answer(client):
+        client.recv(65536)
+        client.sendall(whole[:first])
+        time.sleep(.2)
+        client.sendall(whole[first:])
+    return answering(answer)
+
+
 def try_longest_heads(world):
     """A head of 16,384 bytes is one, and one of a byte more is no desk's, in whatever pieces it
     comes."""
@@ -97,17 +107,12 @@ def try_longest_heads(world):
         whole = reply(200, OK, f"{JSON}X: {'x' * (room + more)}\r\n")
         expect(more, whole.index(b"\r\n\r\n") + 4, 16_384 + more)
         for first in (len(whole), len(front), 16_384):
-            def answer(client, whole=whole, first=first):
-                client.recv(65536)
-                client.sendall(whole[:first])
-                time.sleep(.2)
-                client.sendall(whole[first:])
-            with answering(answer) as port:
+            with in_two_pieces(whole, first) as port:
                 found = world.run(["get", "--desk", f"127.0.0.1:{port}", "--tries", "2", "web"],
                                   place)
-                expect(f"{more} {first}", (found.status, found.output), (status, output))
-                if status == PENDING:
-                    want_all_said(f"{more} {first}", found, FOREIGN, NO_DESK)
+            expect(f"{more} {first}", (found.status, found.output), (status, output))
+            want_all_said(f"{more} {first}", found,
+                          *((FOREIGN, NO_DESK) if status == PENDING else ()))
 
 
 def try_longest_replies(world):

@@ -56,6 +56,20 @@ def counted(desk):
     return desk.rows("SELECT count(*), count(DISTINCT ordinal), max(ordinal) FROM measurement")[0]
 
 
+def kill_sending(words, desk, count, with_desk):
+    """Kills a client that has written so many lines, and before that the desk, if it is to be. How
+    it ended, and what it wrote."""
+    with process(words, cwd=desk.folder, env=environment(), stdin=subprocess.DEVNULL,
+                 stdout=subprocess.PIPE, stderr=subprocess.DEVNULL, pipesize=PIPE) as client:
+        found = b"".join(client.stdout.readline() for _ in range(count))
+        if with_desk:
+            desk.restart()
+            found += client.stdout.readline()
+        client.kill()
+        found += client.stdout.read()
+        return client.wait(), found
+
+
 def try_send(world):
     """A file of 300 rows; the client is killed again and again on its way, and the desk once. Each
     row is recorded once, and the file sent again has the same lines."""
@@ -66,16 +80,8 @@ def try_send(world):
         words = [world.program, "send", "--desk", f"127.0.0.1:{desk.port}", "--tries", "100",
                  "rows.csv"]
         for at in range(6):
-            with process(words, cwd=desk.folder, env=environment(), stdin=subprocess.DEVNULL,
-                         stdout=subprocess.PIPE, stderr=subprocess.DEVNULL,
-                         pipesize=PIPE) as client:
-                found = b"".join(client.stdout.readline() for _ in range(1 + 40 * at))
-                if at == 3:
-                    desk.restart()
-                    found += client.stdout.readline()
-                client.kill()
-                found += client.stdout.read()
-                kills += client.wait() < 0
+            status, found = kill_sending(words, desk, 1 + 40 * at, at == 3)
+            kills += status < 0
             if not whole.startswith(found.decode()):
                 raise Wrong(f"kill {at}: it wrote {found[-300:]!r}")
         expect("kills", kills, 6)

@@ -43,13 +43,12 @@ def try_variables_not_utf8(world):
             "agent": (["--once", "none.yaml"], (VARIABLES[0], VARIABLES[3])),
         }
         before = desk.kept()
-        for word, (words, names) in calls.items():
-            for name in names:
-                for value in (NOT_UTF8, right[name] + NOT_UTF8):
-                    found = world.run([word, *words], desk.folder,
-                                      variables={**right, name: value})
-                    want(f"{word}: {name}", found, WORDS, said=not_utf8(name))
-                    want_all_said(f"{word}: {name}", found, not_utf8(name))
+        rows = [(word, words, name, value) for word, (words, names) in calls.items()
+                for name in names for value in (NOT_UTF8, right[name] + NOT_UTF8)]
+        for word, words, name, value in rows:
+            found = world.run([word, *words], desk.folder, variables={**right, name: value})
+            want(f"{word}: {name}", found, WORDS, said=not_utf8(name))
+            want_all_said(f"{word}: {name}", found, not_utf8(name))
         expect("what is made", sorted(each.name for each in desk.folder.iterdir()
                                       if "journal" in each.name), [])
         expect("what is asked", desk.kept(), before)

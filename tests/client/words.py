@@ -179,14 +179,14 @@ def try_long_manifests(world):
             value = {"metadata": {"name": "t"}, "spec": {"metrics": [{"name": "m"}]}}
             value = {**(value if name == "t" else two_pauses()), "status": ""}
             room = 65_536 - len(around % json.dumps(value))
-            for length, status in ((room + 1, WORDS), (room + 7, WORDS), (room, DONE)):
-                desk.write(words[1], {**value, "status": "x" * length})
-                found = desk.do(*words)
-                expect(f"{words} of {length - room} bytes more", found.status, status)
-                if status == WORDS:
-                    want(words, found, WORDS, said=MANIFEST)
-                    expect("nothing is asked", desk.kept(), [] if name == "t" else [
-                        (1, 200, '{"code":"ok","revision":1,"template":"t"}')])
+            before = desk.kept()
+            for more in (1, 7):
+                desk.write(words[1], {**value, "status": "x" * (room + more)})
+                want(f"{words} of {more} bytes more", desk.do(*words), WORDS, said=MANIFEST)
+            expect("nothing is asked", desk.kept(), before)
+            desk.write(words[1], {**value, "status": "x" * room})
+            expect(f"{words} of as many bytes", desk.do(*words).status, DONE)
+            expect("it is asked", len(desk.kept()), len(before) + 1)
         want_delivered("long manifests", desk)
 
 
@@ -285,6 +285,13 @@ def ended_with(world, words, folder, output):
         return client.returncode, errors
 
 
+def unread_pipe():
+    """The end to which is written of a pipe that nobody reads."""
+    reader, output = os.pipe()
+    os.close(reader)
+    return output
+
+
 def try_closed_outputs(world):
     """An output that is closed or full: the command is done, its reply is in the journal, and with
     its key it is found."""
@@ -297,19 +304,14 @@ def try_closed_outputs(world):
             for words in (desk.words("promote", name, options=("--once", name)),
                           ["get", *at, name], ["watch", *at, "--until", "Paused", name],
                           ["send", *at, "rows.csv"]):
-                if name == "full":
-                    output = os.open("/dev/full", os.O_WRONLY)
-                else:
-                    reader, output = os.pipe()
-                    os.close(reader)
+                output = os.open("/dev/full", os.O_WRONLY) if name == "full" else unread_pipe()
                 found = ended_with(world, words, desk.folder, output)
                 os.close(output)
                 expect(f"{name}: {words}", found, (LOCAL, f"canary: {OUTPUT}\n"))
             want("the key", desk.do("promote", name, options=("--once", name)), DONE,
                  shown(PROMOTED, name))
         # nobody reads the errors
-        reader, output = os.pipe()
-        os.close(reader)
+        output = unread_pipe()
         with process([world.program, "get", "--desk", f"127.0.0.1:{free_port()}", "--tries", "2",
                       "web"], cwd=desk.folder, env=environment(), stdin=subprocess.DEVNULL,
                      stdout=subprocess.PIPE, stderr=output) as client:
@@ -319,28 +321,33 @@ def try_closed_outputs(world):
         want_delivered("outputs", desk)
 
 
+def want_ended_by(world, desk, number):
+    """A client that waits for a reply is ended by this signal."""
+    come = []
+
+    def stall(client):
+        come.append(client.recv(65536))
+        client.recv(1)
+
+    with answering(stall) as port, process(
+            [world.program, *desk.words("promote", "web", port=port, timeout=60)],
+            cwd=desk.folder, env=environment(), stdin=subprocess.DEVNULL,
+            stdout=subprocess.PIPE, stderr=subprocess.PIPE) as client:
+        while not come and client.poll() is None:
+            time.sleep(.01)
+        begun = time.monotonic()
+        client.send_signal(number)
+        expect(number, client.wait(timeout=30), -number)
+        want_seconds(number, time.monotonic() - begun, 0, 15)
+
+
 def try_signals(world):
     """A client that waits ends at once when it is told to, and the command is pending."""
     with world.desk("signals") as desk:
         add(desk)
         want("tick", desk.do("tick", "web"), DONE, shown(STARTED))
         for number in (signal.SIGTERM, signal.SIGINT, signal.SIGHUP):
-            come = []
-
-            def stall(client, come=come):
-                come.append(client.recv(65536))
-                client.recv(1)
-
-            with answering(stall) as port, process(
-                    [world.program, *desk.words("promote", "web", port=port, timeout=60)],
-                    cwd=desk.folder, env=environment(), stdin=subprocess.DEVNULL,
-                    stdout=subprocess.PIPE, stderr=subprocess.PIPE) as client:
-                while not come and client.poll() is None:
-                    time.sleep(.01)
-                begun = time.monotonic()
-                client.send_signal(number)
-                expect(number, client.wait(timeout=30), -number)
-                want_seconds(number, time.monotonic() - begun, 0, 15)
+            want_ended_by(world, desk, number)
         want("again", desk.do("promote", "web"), DONE, shown(PROMOTED))
         want_delivered("signals", desk)
 
