@@ -14,8 +14,8 @@ INTERVAL, MOST_LATE = 10, 2
 
 
 def lateness(desk, names, found, interval):
-    """By how many seconds each measurement was taken behind the moment at which it was due: the
-    first one as its run began, the others an interval behind the one before."""
+    """By how many seconds each measurement was taken after the moment at which it was due: the
+    first one as its run began, the others an interval after the one before."""
     late, last = [], {}
     for each in found:
         due = last[each.service] + interval if each.service in last \

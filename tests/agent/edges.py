@@ -556,8 +556,8 @@ def written_journal(desk, count, caller="agent-web"):
 
 @measuring
 def try_long_journal(world, server):
-    """A journal of 2,000 commands that are settled gets .old behind its name, in the place of an
-    earlier one, and a new one begins behind them; one of 1,998 goes on."""
+    """A journal of 2,000 commands that are settled gets .old after its name, in the place of an
+    earlier one, and a new one begins after them; one of 1,998 goes on."""
     for count in (1_998, 2_000):
         with desk_for(world, f"long-journal-{count}", *services(server.port, "web")) as desk:
             folder = desk.folder / "journals"

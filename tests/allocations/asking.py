@@ -66,7 +66,7 @@ def refuse_by_variables(trial, share):
         row, refuse_in(trial, row, lambda number: words, wanted, **given))
 
 
-# What a crash left behind the closed gate: a part of the next record.
+# What a crash left after the closed gate: a part of the next record.
 TORN = b'{"asked":{"bo'
 
 

@@ -133,7 +133,7 @@ def text_in_json(value):
 
 
 def part_of(value, key):
-    """The part of a value at a key or an index, or nothing; and how far behind it that stands."""
+    """The part of a value at a key or an index, or nothing; and how far after it that stands."""
     if isinstance(value, dict) and key in value:
         front = {before: value[before] for before in list(value)[:list(value).index(key)]}
         return value[key], len(text_in_json(front) + f'"{key}":') - (0 if front else 1)

@@ -34,7 +34,7 @@ def counts(row, shown, line):
 
 def judged(row, shown):
     """What is shown after the judging of the desk's file, of less than a megabyte: the line is
-    drawn behind the receipts of ops and of agent, and then behind each service, web and help."""
+    drawn after the receipts of ops and of agent, and then after each service, web and help."""
     end = shown.find(ERASED) + len(ERASED)
     found = counts(row, shown[:end], rb"canary: (\d+) of 1 MB judged")
     expect(f"{row}: megabytes judged", found, [0, 0, 0, 0])
@@ -103,7 +103,7 @@ def try_shares(program, place):
 
 
 def try_drawing(program, place):
-    """How many services of a page are drawn is shown, behind the judging of the desk's file."""
+    """How many services of a page are drawn is shown, after the judging of the desk's file."""
     words = ["page", "--db", "desk.db", "desk.html"]
     written, shown = run_showing(program, words, place)
     expect(words, written, b"")

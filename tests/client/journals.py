@@ -139,7 +139,7 @@ def try_cut_journal(world):
 
 
 def try_torn_journal(world):
-    """What a crash leaves behind the closed gate, at each byte of the next line: it does not count,
+    """What a crash leaves after the closed gate, at each byte of the next line: it does not count,
     and is cut off."""
     reader = Reader(world, "torn")
     rows = []
@@ -362,7 +362,7 @@ def try_other_files(world):
 
 def try_new_journals(world):
     """What a crash may leave of a new journal, and just that, is a new one: a closed gate, and at
-    most so many bytes behind it as the longest first line takes with what stands after it."""
+    most so many bytes after it as the longest first line takes with what stands after it."""
     reader = Reader(world, "new-journals")
     longest = {"begun": {"caller": "c" * 63, "settled": LAST}}
     expect("the longest first line", len(b"-" + line_of(longest).encode() + b"\n-"), MOST_NEW)

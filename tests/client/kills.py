@@ -297,7 +297,7 @@ class Disk:
             self.synced, self.changes = self.with_changes(self.changes), []
 
     def images(self):
-        """All of it, nothing of it, and each first part and each last part of a write alone."""
+        """All of it, nothing of it, and each beginning and each end of a write alone."""
         yield self.synced
         yield self.with_changes(self.changes)
         for at, (place, written) in enumerate(self.changes):
@@ -364,7 +364,7 @@ def power_cuts(desk, service, path, folder):
 
 
 def want_image(call, image, sent, printed):
-    """What a power cut may leave of the journal behind this call."""
+    """What a power cut may leave of the journal after this call."""
     found = journal_of(image)
     if found is None and (sent or not is_new(image)):
         raise Wrong(f"{call}: a power cut leaves {image!r}")

@@ -183,7 +183,7 @@ def try_default_times(world):
 
 
 def try_last_second(world):
-    """A whole call ends with its last second, and not with the one behind that."""
+    """A whole call ends with its last second, and not with the one after that."""
     with world.desk("last-second") as desk:
         add(desk)
         found = soonest("watch", 1.9, 2.8, lambda: desk.ask("watch", "--timeout", "2", "web"))

@@ -89,7 +89,7 @@ def try_five_minutes(world):
             STARTED, "1 success-rate.e6f 1"])
     expect("README.md: the agent", reported_in(lines[10]), measured(1))
     expect("README.md: the history", history_in(lines[11]), FIRST)
-    expect("README.md, behind the kill", lines[12:14], ["listening", STARTED])
+    expect("README.md, after the kill", lines[12:14], ["listening", STARTED])
     expect("README.md: the agent again", reported_in(lines[14]), measured(2))
     expect("README.md: the history", history_in(lines[15]), FIRST + SECOND)
     end = len(FIRST + SECOND)

@@ -94,7 +94,7 @@ def try_reports(world):
         other = Caller(desk, "other")
         other.send({"report": {"service": "web", "run": 1, "entries": [
             {"metric": "m", "ordinal": 6, "taken": int(time.time()), "result": 7}]}})
-        want("behind another", desk.do("report", "web", "1", "m", "8", **agent), DONE,
+        want("after another", desk.do("report", "web", "1", "m", "8", **agent), DONE,
              recorded("Successful"))
         expect("measurements", measured(desk), [
             ("m", 1, "5", ""), ("m", 2, "[1;2]", ""), ("m", 3, "", text), ("m", 4, "", "-5"),
@@ -109,7 +109,7 @@ def try_reports(world):
 
 def try_pending_report(world):
     """A report that is pending is sent again as it was, with its ordinal and its moment; another
-    one gets the ordinal behind it."""
+    one gets the ordinal after it."""
     with world.desk("pending-report") as desk:
         add_measured(desk, metric("m", "0s"))
 
@@ -130,7 +130,7 @@ def try_pending_report(world):
         desk.kill()
         want("no desk", desk.do("tick", "web", tries=1), PENDING, said=PENDING_SAID)
         desk.start()
-        want("behind", desk.do("report", "web", "1", "m", "6"), DONE, recorded("Successful"),
+        want("after it", desk.do("report", "web", "1", "m", "6"), DONE, recorded("Successful"),
              BEHIND)
         expect("two measurements", measured(desk), [("m", 1, "5", ""), ("m", 2, "6", "")])
         want_delivered("pending report", desk)
@@ -256,7 +256,7 @@ def want_too_early(desk, ordinal, interval):
 
 
 def try_due(world):
-    """What is due, and waiting for it: the report behind it is never too early."""
+    """What is due, and waiting for it: the report after it is never too early."""
     with world.desk("due") as desk:
         add_measured(desk, metric("m", "3s"), metric("slow", "1h"))
         add_measured(desk, metric("slow", "1h"), name="seldom")

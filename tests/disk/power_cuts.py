@@ -118,7 +118,7 @@ def trace_story(program, file, log):
 
 
 def settled_at(told, messages=MESSAGES, answered=0):
-    """How many messages may be settled when so many bytes of replies went out, behind those to the
+    """How many messages may be settled when so many bytes of replies went out, after those to the
     messages that were answered before: those that are answered, and the next one."""
     while answered < len(messages) and told >= len(messages[answered][1]):
         told -= len(messages[answered][1])

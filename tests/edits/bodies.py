@@ -27,7 +27,7 @@ def without_parameters(text):
 
 
 def after_parameters(text):
-    """The text behind the parameters with which it begins, if it does."""
+    """The text after the parameters with which it begins, if it does."""
     depth = 0
     for at, letter in enumerate(text if text.startswith("<") else ""):
         depth += (letter == "<") - (letter == ">")

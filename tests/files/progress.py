@@ -24,7 +24,7 @@ LARGE_LOG, LARGE = 17_900_000, ("MB judged", 18)
 # A file of more than 4 MB, which SQLite reads several times to check it: so many templates, each of
 # so many metrics with a condition of 1,010 bytes. A log makes it one of 22 MB.
 TEMPLATES, METRICS, CHECKED_LOG, CHECKED = 60, 30, 17_000_000, 22
-# The milliseconds before a line that is the first, or comes behind another one.
+# The milliseconds before a line that is the first, or comes after another one.
 BETWEEN = 1_000
 # The milliseconds from one reading of the clock to the next: rows are judged in 41 parts, and of a
 # measurement file the clock is read once for a megabyte.
@@ -136,7 +136,7 @@ class Case:
         return self
 
     def check(self, wanted, begin, calls=None):
-        """The lines on standard error, or these, count what is wanted, one behind the other, and no
+        """The lines on standard error, or these, count what is wanted, one after the other, and no
         two of them, nor the first one and the begin, are within a second."""
         parts, due = [], begin + BETWEEN
         if calls is None:

@@ -154,7 +154,7 @@ def try_wide_report(program, file):
 
 
 def lengthen(file):
-    """Writes measurements and lines of a history behind those of a run with one measurement, so
+    """Writes measurements and lines of a history after those of a run with one measurement, so
     that there are LONG of each."""
     opened = sqlite3.connect(file)
     with opened:

@@ -281,7 +281,7 @@ def crossed():
 
 
 def try_pages(program, folder, make_desk):
-    """Measurements at the end of a page of 256, and behind it; runs that lie across one another."""
+    """Measurements at the end of a page of 256, and after it; runs that lie across one another."""
     file = os.path.join(folder, "crossed.db")
     make_desk(program, file, "crossed", crossed())
     _, values = drawn(program, file, folder_in(folder, "crossed"))
@@ -317,7 +317,7 @@ def places_of_names(folder):
 
 def try_refused(program, folder):
     """A FIFO, a folder, a device and the desk's own file under the name of a file are refused, also
-    behind a link, and stay as they are. There is no page then."""
+    at the end of a link, and stay as they are. There is no page then."""
     file, fifo = os.path.join(folder, "told.db"), os.path.join(folder, "fifo")
     place, out, words = places_of_names(folder)
     os.mkdir(place)

@@ -39,7 +39,7 @@ def samples_of(text):
     ends with a newline, each family has its two comments and then all of its samples, none of which
     has a timestamp, and no series stands twice."""
     lines = text.decode("ascii").split("\n")
-    expect("what stands behind the last newline", lines.pop(), "")
+    expect("what stands after the last newline", lines.pop(), "")
     found, begun, place = {}, [], 0
     while place < len(lines):
         helped = re.fullmatch(r"# HELP ([a-z_]+) [^\\]+", lines[place])

@@ -271,7 +271,7 @@ class Streams:
         if head == "messages":
             self.release = self.release or [message(row) for row in rows]
             self.tell_messages(program, rows, [message(row) for row in rows])
-        elif match := re.fullmatch(r"each behind (\d+) of the release", head):
+        elif match := re.fullmatch(r"each after (\d+) of the release", head):
             for row in rows:
                 self.tell_messages(program, [row], [*self.release[:int(match[1])], message(row)])
         elif match := re.fullmatch(r"unanswered ([01])", head):
