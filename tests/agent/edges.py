@@ -100,7 +100,7 @@ def want_warned(desk, port):
 
 
 def want_words(desk):
-    """Words that are none."""
+    """Invalid words."""
     for words in (("--abort-late", "x"), ("--abort-late", "-1"), ("--none",), ("--as", "A b"),
                   ("--values",), ("--health",)):
         ended = run_agent(desk, options=words, timeout=20)

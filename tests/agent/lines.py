@@ -36,7 +36,7 @@ OF_JOBS = [
     ("more", "[1, 0]", None, "whole number"),
     ("null", "null", None, "null"),
 ]
-# Lines that are none, and lines of what is not here.
+# Invalid lines, and lines of what is not here.
 HOSTILE = [
     b"", b" ", b"one", b"one m", b"one m ", b"one m x", b"one m 0.5.5", b"one m [1", b"one m 1]",
     b"one m [1,,2]", b"one m [[1]]", b"one m 1 2", b"one m \xff\xfe", b"\xff m 1", b"one m \x00",
@@ -202,7 +202,7 @@ def try_input_of_a_file(world):
 
 
 def try_hostile_lines(world):
-    """Lines that are none, of services and metrics that are not here, and without an end: each is
+    """Invalid lines, lines of services and metrics that are not here, and without an end: each is
     said in plain text or ignored, the good ones among them count, others are measured in time, and
     no memory is taken for them."""
     with reading(world, "hostile-lines", SAID[:1], "-") as (desk, agent, write):

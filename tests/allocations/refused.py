@@ -113,7 +113,7 @@ def try_stream(trial, _):
 
 
 # Commands of each kind over a release in its second attempt, whose metrics, steps and entries have
-# all parts that they can have; a condition that is none; commands that come again; and bodies that
+# all parts that they can have; an invalid condition; commands that come again; and bodies that
 # are no commands, as `unreadable` or `unsupported`.
 WIDE = r"""ops 1 template t m,success=result>10,count=3,interval=60 n dryRun:n => [t 1]
 ops 2 template t m n,success=result>1,failure=result> => 422 bad-condition

@@ -240,7 +240,8 @@ def cannot_read(name):
 
 
 def try_unread(trial):
-    """A file that is none, or too long, ends the program; a text that is no manifest is found."""
+    """A file that cannot be read or is too long ends the program; a text without a manifest is a
+    finding."""
     place, faults = folder_in(trial, "unread"), Faults()
     os.mkdir(os.path.join(place, "folder"))
     os.symlink("nothing", os.path.join(place, "link"))

@@ -121,8 +121,8 @@ def output_of(kind, place):
 
 
 def masked(told):
-    """What does not depend on when it was told: moments of the clock are left out, and for how long
-    a measurement has been due."""
+    """What does not depend on when it was written: moments of the clock are left out, and for how
+    long a measurement has been due."""
     told = re.sub(rb"(late_seconds\{.*\}) \d+", rb"\1 LATE", told)
     return re.sub(rb"\d\d:\d\d:\d\d", b"TIME", re.sub(rb"\d{4}-\d\d-\d\dT", b"DAY ", told))
 

@@ -435,7 +435,7 @@ def try_restored_desk(world):
         for _ in range(2):
             want("the next one", desk.do("promote", "web", options=("--once", "q")), CONTRADICTION,
                  said=AHEAD)
-        # what the journal has as done is told from the journal
+        # what the journal has as done is answered from the journal
         want("the last one", desk.do("promote", "web", options=("--once", "p")), DONE,
              shown(PROMOTED))
         expect("nothing acted", desk.count("promote"), {})

@@ -110,7 +110,7 @@ def try_watch(world):
 
 
 def try_watch_ends(world):
-    """Each status that may be waited for, a time that is over, and statuses that are none."""
+    """Each status that may be waited for, a time that is over, and invalid statuses."""
     with world.desk("watch-ends") as desk:
         add(desk)
         setup = Caller(desk, "setup")

@@ -306,7 +306,7 @@ def add_analysed(desk, name, background, step):
 
 
 def try_due_of_two_runs(world):
-    """What is due of either of two open runs is told, whichever of them waits."""
+    """What is due of either of two open runs is reported, whichever of them waits."""
     with world.desk("due-of-two-runs") as desk:
         seldom = {**metric("seldom", "1h"), "count": 2}
         often = {**metric("often", "0s"), "count": 9}

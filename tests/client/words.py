@@ -80,7 +80,7 @@ def try_variables_of_queries(world):
 
 
 def try_invalid_options(world):
-    """Addresses that are none, of each command, and callers with invalid names."""
+    """Invalid addresses of each command, and callers with invalid names."""
     with world.desk("invalid-options") as desk:
         for name in ("nowhere", "", ":80", "127.0.0.1", "localhost:", "localhost:http",
                      "127.0.0.1:65536", "http://127.0.0.1:80", "no host:80", "a/b:80", "\u00f6:80"):
@@ -129,7 +129,7 @@ def try_two_addresses(world):
 
 
 def try_words(world):
-    """Words that are no command, manifests that no desk takes, and options that are none."""
+    """Words that are no command, manifests that no desk takes, and invalid options."""
     with world.desk("words") as desk:
         add(desk)
         desk.write("broken.json", "{")

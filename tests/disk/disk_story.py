@@ -45,7 +45,7 @@ def in_time(row, process):
 class Desk:
     """A program that answers messages over a file, one after another; in memory, if there is no
     file. The log, if there is one, is that of strace, which makes some of its calls fail. The
-    messages are those that it is told, with their replies."""
+    messages are those that it is sent, with their replies."""
 
     def __init__(self, program, file, row, most=None, front=(), log=None, messages=MESSAGES):
         words = [*front, program, "pipe", "--at", str(B), "--step", "0"]

@@ -68,7 +68,7 @@ def item_at(lines, at):
 
 def body_of(lines, at, indent):
     """The places of the lines that open and close the body of the function that begins at a place;
-    both are the last line of the head if there is none."""
+    both are the last line of the head if there is no body."""
     depth = 0
     for place in range(at, len(lines)):
         line = lines[place]

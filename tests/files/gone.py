@@ -1,4 +1,4 @@
-"""Files of a desk that are gone, or are none: gone.py PROGRAM FOLDER [PART..]. A log whose file is
+"""Files of a desk that are gone, or replaced: gone.py PROGRAM FOLDER [PART..]. A log whose file is
 missing or empty; FIFOs, devices, folders and sockets under the names of both; and a file that is
 moved, removed, replaced or linked while a desk serves it. No clause says what stands under a
 name."""

@@ -210,7 +210,7 @@ def is_asleep(process):
 
 
 def strangers_in(program, out, file):
-    """What is in a folder of copies and is none, by name or by what it is."""
+    """What is in a folder of copies and is no copy, by its name or by what it is."""
     for name in ("desk-1.db", "desk-20200101T000000Z.db.bak", "xdesk-20200101T000000Z.db",
                  "desk-20200101T00000AZ.db", "Desk-20200101T000000Z.db", "desk-20200101T000000.db",
                  "desk-20200101 000000Z.db", "desk-20200101T000000Z.db-wal-wal",

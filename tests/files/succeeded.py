@@ -285,7 +285,7 @@ def try_in_use(program, folder):
 
 
 def try_full_disk(program, folder):
-    """A disk that is full as the new file is written: there is none then, and nothing else."""
+    """A disk that is full as the new file is written: no file is left of it."""
     place = folder_in(folder, "full")
     old, new = os.path.join(place, "old.db"), os.path.join(place, "new.db")
     make_desk(program, old, 2)

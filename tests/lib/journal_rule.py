@@ -107,7 +107,7 @@ def is_surrogate(line):
 
 
 def journal_of(data):
-    """The journal that a file with these bytes is; none if it is none."""
+    """The journal that a file with these bytes is; None if it is no journal."""
     found = lines_in(data)
     if found is None or not found[0]:
         return None

@@ -325,8 +325,8 @@ def add(desk, *names):
 
 
 def want(row, ended, status, output="", said=None):
-    """The client ended with this status, this output, and this sentence as its last one; none if
-    that is none."""
+    """The client ended with this status and this output, and its last line is this sentence, or it
+    has no line."""
     last = ended.errors.splitlines()[-1] if ended.errors else None
     wanted = None if said is None else f"canary: {said}"
     expect(row, (ended.status, ended.output, last), (status, output, wanted))

@@ -365,7 +365,7 @@ def try_replaced(program, folder):
 
 
 def try_folders(program, folder):
-    """A folder that is not there, or is none: nothing is drawn. A link to one is one."""
+    """A folder that is not there, or no folder: nothing is drawn. A link to one is one."""
     file, out = os.path.join(folder, "told.db"), os.path.join(folder, "folders.html")
     for place in (os.path.join(folder, "no-folder"), file, "", "/dev/null"):
         want(f"--json {place!r}", tried(program, "--db", file, f"--json={place}", out), REFUSED)

@@ -39,7 +39,7 @@ HOSTILE = [*NO_LINES, *(line(version=name) for name in NO_VERSIONS),
 
 
 def want_all_said(said, lines=None):
-    """Each of these lines, which are none, came twice, and is said each time."""
+    """Each of these invalid lines came twice, and is reported each time."""
     wanted = 2 * len(lines or HOSTILE)
 
     def count():

@@ -71,7 +71,7 @@ class Program:
         return ran.stderr.decode()
 
     def warnings(self, words):
-        """What the program tells on standard error where it ends with status 0."""
+        """What the program writes to standard error if it ends with status 0."""
         ran = subprocess.run([self.path, *words], capture_output=True, timeout=60)
         if ran.returncode:
             raise Wrong(f"{words}: status {ran.returncode}: {ran.stderr.decode()}")
