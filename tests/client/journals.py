@@ -1,4 +1,5 @@
 """The journal's file: cut short, changed, locked, lost, not to be written: parts of client.py."""
+import concurrent.futures
 import fcntl
 import os
 import shutil
@@ -252,28 +253,27 @@ def try_two_clients(world):
         expect("acted", (desk.count("promote"), desk.count("abort")), ({"web": 1}, {}))
 
 
+def promote_once(desk, name):
+    """Promotes a service under a key. Its name, if another client has the journal."""
+    ended = desk.do("promote", name, options=("--once", name))
+    if ended.status == DONE:
+        expect(name, ended.output, shown(PROMOTED, name))
+        return None
+    want(name, ended, LOCAL, said=desk.of_file(IN_USE))
+    return name
+
+
 def try_many_clients(world):
     """Eight clients at once with one journal: each goes on until its command is done."""
     with world.desk("many") as desk:
         names = [f"s{at}" for at in range(8)]
         add(desk, *names)
-        refused = 0
-        left = dict.fromkeys(names)
-        while left:
-            for name in left:
-                left[name] = subprocess.Popen(
-                    [world.program, *desk.words("promote", name, options=("--once", name))],
-                    cwd=desk.folder, env=environment(), stdin=subprocess.DEVNULL,
-                    stdout=subprocess.PIPE, stderr=subprocess.PIPE)
-            for name, client in [*left.items()]:
-                output, errors = client.communicate(timeout=60)
-                if client.returncode == DONE:
-                    expect(name, output.decode(), shown(PROMOTED, name))
-                    del left[name]
-                else:
-                    refused += 1
-                    expect(name, (client.returncode, output, errors.decode()),
-                           (LOCAL, b"", f"canary: {desk.of_file(IN_USE)}\n"))
+        refused, left = 0, names
+        with concurrent.futures.ThreadPoolExecutor(len(names)) as pool:
+            while left:
+                left = [name for name in pool.map(lambda name: promote_once(desk, name), left)
+                        if name]
+                refused += len(left)
         want_delivered("many clients", desk)
         expect("promotions", desk.count("promote"), dict.fromkeys(names, 1))
     return f"{refused} found it open"
