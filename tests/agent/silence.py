@@ -268,8 +268,8 @@ def try_stopped_agent(world):
         with desk_for(world, "stopped", *made) as desk:
             options = ("--abort-late", "3")
             with agent_of(desk, options=options) as agent:
-                for name in values:
-                    wait_measured(desk, 1, name[1:])
+                wait_measured(desk, 1, "good")
+                wait_measured(desk, 1, "bad")
                 agent.signal(signal.SIGSTOP)
                 time.sleep(6)
                 agent.signal(signal.SIGCONT)

@@ -316,6 +316,15 @@ def try_silence(program, folder):
         fail(f"silence: {ended}")
 
 
+def moment_of_page(out):
+    """The moment that a page shows, which is whole and loads itself anew each second."""
+    with open(out, "rb") as read:
+        page = read.read()
+    if b'<meta http-equiv="refresh" content="1">' not in page:
+        fail("watch: the page does not load itself anew")
+    return look(page, "watch").first("header", "top").first("time").text()
+
+
 def try_watch(program, folder):
     """A page that is drawn again and again, while a desk serves the file, is always whole."""
     file, out = os.path.join(folder, "states.db"), os.path.join(folder, "watched.html")
@@ -328,12 +337,7 @@ def try_watch(program, folder):
         end = time.monotonic() + LIMIT
         while len(drawn) < 3 and time.monotonic() < end:
             if os.path.exists(out):
-                with open(out, "rb") as read:
-                    page = read.read()
-                root = look(page, "watch")
-                drawn.add(root.first("header", "top").first("time").text())
-                if b'<meta http-equiv="refresh" content="1">' not in page:
-                    fail("watch: the page does not load itself anew")
+                drawn.add(moment_of_page(out))
         if len(drawn) < 3:
             fail("watch: the page is not drawn again")
         if watch.poll() is not None or desk.poll() is not None:

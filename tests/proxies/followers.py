@@ -203,16 +203,18 @@ def lying(path):
         server.bind(str(path))
         server.listen()
 
+        def answer(client, now):
+            told = LIES[now][0] if now < len(LIES) else TRUE
+            try:
+                with client:
+                    lie(client, told, lambda: turn[0] != now)
+            except OSError:
+                hung_up.append(told)
+
         def serve():
             with contextlib.suppress(OSError):
                 while True:
-                    client, now = server.accept()[0], turn[0]
-                    answer = LIES[now][0] if now < len(LIES) else TRUE
-                    try:
-                        with client:
-                            lie(client, answer, lambda now=now: turn[0] != now)
-                    except OSError:
-                        hung_up.append(answer)
+                    answer(server.accept()[0], turn[0])
 
         threading.Thread(target=serve, daemon=True).start()
         try:
