@@ -14,6 +14,7 @@ import stories
 import textfile
 from conversation import without_progress
 from outline import Broken, outline, tree_of
+from world import MARKS
 
 HERE = os.path.dirname(os.path.abspath(__file__))
 LIMIT = 300
@@ -159,14 +160,12 @@ def parts_of(out):
     return [found for found in os.listdir(folder) if found.startswith(name + ".")]
 
 
-# Controls (C0, DEL, C1), the ends of lines and paragraphs, and what turns the direction of a text
-# (UAX #9).
-MARKS = "[\x00-\x1f\x7f-\x9f\u061c\u200e\u200f\u2028-\u202e\u2066-\u2069]"
+MARK = re.compile(f"[{re.escape(''.join(map(chr, MARKS)))}]")
 
 
 def shown_text(text):
     """The text of a failure as a page shows it: a mark is \\u and four hexadecimal digits."""
-    return re.sub(MARKS, lambda mark: f"\\u{ord(mark[0]):04x}", text)
+    return MARK.sub(lambda mark: f"\\u{ord(mark[0]):04x}", text)
 
 
 def try_breaking(program, folder):
@@ -179,7 +178,7 @@ def try_breaking(program, folder):
     told = [title.split(": ", 1)[1] for title in titles]
     if told != wanted:
         fail(f"breaking: points say {told}, in place of {wanted}")
-    if re.search(MARKS, page.decode().replace("\n", "")):
+    if MARK.search(page.decode().replace("\n", "")):
         fail("breaking: a mark in the page")
 
 
