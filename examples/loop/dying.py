@@ -7,7 +7,6 @@ import dataclasses
 import http.client
 import json
 import os
-import pathlib
 import signal
 import sqlite3
 import subprocess
@@ -16,7 +15,7 @@ import time
 
 from claims import expect, want_row
 from journal_rule import journal_of
-from loop import OPERATIONS, Loop, Wrong, listens, play, shares_of, wait_until
+from loop import Loop, Wrong, listens, play, shares_of, wait_until
 
 # The row of docs/OPERATIONS.md for each part.
 ROWS = {

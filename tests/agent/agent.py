@@ -21,7 +21,8 @@ import runs
 import silence
 import streams
 import web
-from world import World, Wrong, running, slowness
+from turns import LATE, PASSED, WRONG, Watch, end_by_signals, is_for_time, parts_of
+from world import Late, World, running, slowness
 
 # The parts that are left out without these tools.
 PARTS_WITH = {"prometheus": ("try_releases", "try_kills"), "strace": ("try_health_race",),
@@ -35,14 +36,8 @@ LONGEST = 180
 BESIDE = 12
 # How many times as long a part may take on a machine that is busy.
 MOST_SLOW = 4
-
-
-def parts_of(*modules):
-    """The parts of these modules, by their names."""
-    return {name: part for module in modules for name, part in vars(module).items()
-            if name.startswith("try_") and part.__module__ == module.__name__}
-
-
+# The exit status of a part's process, by what came of the part.
+STATUSES = {PASSED: 0, WRONG: 1, LATE: 2}
 # A part has all that was read so far.
 CONTEXT = multiprocessing.get_context("fork")
 # The parts that run, by their names.
@@ -55,7 +50,18 @@ PARTS = parts_of(silence, real, crowd, replies, edits, lines, runs, web, edges, 
 def give_up(*_):
     """Ends a part that takes too long; again, if what it waits for goes on waiting."""
     signal.alarm(20)
-    raise Wrong("the part took too long")
+    raise Late("the part took too long")
+
+
+def came_of(name, world):
+    """What came of a part, and what is said of it."""
+    watch, begun = Watch(), time.monotonic()
+    try:
+        return PASSED, PARTS[name](world) or "passed"
+    except Exception as fault:  # pylint: disable=broad-except
+        signal.alarm(0)
+        came = LATE if is_for_time(fault, watch.has_seen_stop(begun)) else WRONG
+        return came, f"FAILED ({came})\n{traceback.format_exc()}"
 
 
 def try_part(name, world):
@@ -64,21 +70,18 @@ def try_part(name, world):
     signal.signal(signal.SIGALRM, give_up)
     signal.alarm(LONGEST * (5 if world.is_whole else 1) * world.slowness)
     begun = time.monotonic()
-    try:
-        told, status = PARTS[name](world) or "passed", 0
-    except Exception:  # pylint: disable=broad-except
-        told, status = f"FAILED\n{traceback.format_exc()}", 1
+    came, told = came_of(name, world)
     signal.alarm(0)
     for process in [*running]:
         process.kill()
     seconds = time.monotonic() - begun
     print(f"agent: {name}: {told} ({seconds:.1f} s)", file=sys.stderr, flush=True)
-    os._exit(status)
+    os._exit(STATUSES[came])
 
 
 def try_all(world, names, most):
-    """Tries parts, each in a process of its own, so many at a time, and has those that failed."""
-    waiting, failed = [*names], []
+    """Tries parts, each in a process of its own, so many at a time. The exit status of each."""
+    waiting, statuses = [*names], {}
     while waiting or parts:
         while waiting and len(parts) < most:
             name = waiting.pop(0)
@@ -88,8 +91,8 @@ def try_all(world, names, most):
         for name, part in [*parts.items()]:
             if part.exitcode is not None:
                 del parts[name]
-                failed += [] if part.exitcode == 0 else [name]
-    return failed
+                statuses[name] = part.exitcode
+    return statuses
 
 
 def end_all(*_):
@@ -122,19 +125,20 @@ def main():
     left_out = [name for tool in os.environ.get("CHECK_WITHOUT", "").split()
                 for name in PARTS_WITH.get(tool, ())]
     names = [name for name in PARTS if name in (words.parts or PARTS) and name not in left_out]
-    for number in (signal.SIGTERM, signal.SIGINT, signal.SIGHUP):
-        signal.signal(number, end_all)
+    end_by_signals(end_all)
     print(f"agent: --seed {words.seed}", file=sys.stderr)
-    failed = try_all(world, names, BESIDE)
-    if failed:
-        # A machine that is busy may be too slow for many parts at a time. So what failed is tried
+    statuses = try_all(world, names, BESIDE)
+    late = [name for name in names if statuses[name] == STATUSES[LATE]]
+    if late:
+        # A machine that is busy may be too slow for many parts at a time. So what was late is tried
         # once more, alone, in a folder of its own, with the time that such a machine takes.
         again = os.path.join(words.folder, "again")
         os.mkdir(again)
         world = World(world.program, again, words.all, words.seed, slowness(MOST_SLOW))
-        print(f"agent: again, with {world.slowness} times the seconds: {' '.join(failed)}",
+        print(f"agent: again, with {world.slowness} times the seconds: {' '.join(late)}",
               file=sys.stderr, flush=True)
-        failed = try_all(world, failed, 1)
+        statuses |= try_all(world, late, 1)
+    failed = [name for name in names if statuses[name] != 0]
     if failed:
         sys.exit(f"agent: --seed {words.seed} repeats it: {' '.join(failed)}")
     print(f"agent: {len(names)} parts passed", file=sys.stderr)

@@ -12,19 +12,15 @@ import time
 
 from journal_rule import journal_of
 from world import (
-    Caller, Wrong, answering, end, environment, expect, rollout, running)
+    Caller, Unsafe, Wrong, answering, end, environment, expect, rollout, running)
+from world import wait_until as look_until
 
 # A measurement in the desk's table: what was reported is a result or a failure.
 Measured = collections.namedtuple("Measured", "service run metric ordinal taken result failure")
 
 
-def wait_until(row, is_so, seconds=60):
-    """Waits until this is so, which may take some time to look at."""
-    until = time.monotonic() + seconds
-    while not is_so():
-        if time.monotonic() > until:
-            raise Wrong(f"{row}: it did not come in {seconds} seconds")
-        time.sleep(.1)
+# To look at a desk's tables takes some time.
+wait_until = functools.partial(look_until, pause=.1)
 
 
 def want_rest(row, count, seconds=2):
@@ -176,9 +172,9 @@ def want_once(row, found):
     for each in found:
         numbers[each.service, each.run, each.metric].append((each.ordinal, each.taken))
     for key, known in numbers.items():
-        expect(f"{row}: {key}", [ordinal for ordinal, _ in known], [*range(1, len(known) + 1)])
-        moments = [taken for _, taken in known]
-        expect(f"{row}: moments of {key}", moments, sorted(set(moments)))
+        ordinals, moments = [ordinal for ordinal, _ in known], [taken for _, taken in known]
+        if ordinals != [*range(1, len(known) + 1)] or moments != sorted(set(moments)):
+            raise Unsafe(f"{row}: {key}: ordinals {ordinals}, taken at {moments}")
 
 
 # ---- agents

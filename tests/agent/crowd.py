@@ -6,7 +6,7 @@ import time
 from agents import (
     agent_of, ask, begin, desk_for, listed, measured, measured_beside, metric, of_web, provider,
     release, reply, template, want_once)
-from world import Wrong, expect
+from world import Late, expect
 
 SERVICES = 200
 # Seconds, and how many of them a measurement may be late.
@@ -14,8 +14,8 @@ INTERVAL, MOST_LATE = 10, 2
 
 
 def lateness(desk, names, found, interval):
-    """By how many seconds each measurement was taken behind the moment at which it was due: the
-    first one as its run began, the others an interval behind the one before."""
+    """By how many seconds each measurement was taken after the moment at which it was due: the
+    first one as its run began, the others an interval after the one before."""
     late, last = [], {}
     for each in found:
         due = last[each.service] + interval if each.service in last \
@@ -54,8 +54,8 @@ def try_crowd(world):
         want_once("crowd", found)
         count = collections.Counter(each.service for each in found)
         if max(late) > MOST_LATE * world.slowness:
-            raise Wrong(f"late by {sorted(late)[-5:]} seconds")
+            raise Late(f"late by {sorted(late)[-5:]} seconds")
         wanted = 6 if world.is_whole else 2
         if min(count.values()) < wanted:
-            raise Wrong(f"only {min(count.values())} measurements of a service")
+            raise Late(f"only {min(count.values())} measurements of a service")
     return f"{len(found)} measurements, late by {max(late)} s at most, {took:.1f} s of a processor"

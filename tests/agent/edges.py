@@ -18,13 +18,13 @@ from agents import (
 from journal_rule import journal_of, line_of
 from world import (
     AHEAD, BROKEN, DONE, IN_USE, LOCAL, NO_FILE, NO_JOURNAL_FILE, OTHER_CALLER, PENDING,
-    REFUSED, WORDS, Ended, Wrong, answering, environment, expect, free_port, install,
+    REFUSED, WORDS, Ended, Late, Wrong, answering, environment, expect, free_port, install,
     process)
 from world import ask as ask_bytes
 
 ONCE = ("--once",)
-NO_DEADLINE = ("the desk ignores it, and has no deadline: have a job look for late measurements, and "
-               "abort")
+NO_DEADLINE = ("the desk ignores it, and has no deadline: have a job look for late measurements,"
+               " and abort")
 NOBODY = 65534
 
 
@@ -100,7 +100,7 @@ def want_warned(desk, port):
 
 
 def want_words(desk):
-    """Words that are none."""
+    """Invalid words."""
     for words in (("--abort-late", "x"), ("--abort-late", "-1"), ("--none",), ("--as", "A b"),
                   ("--values",), ("--health",)):
         ended = run_agent(desk, options=words, timeout=20)
@@ -349,7 +349,7 @@ def want_touched(path, row):
 
     wait_until(f"{row}: touched", is_touched)
     if min(after - before for before, after in zip(moments, moments[1:])) > 1.5:
-        raise Wrong(f"{row}: touched at {moments}")
+        raise Late(f"{row}: touched at {moments}")
     expect(f"{row}: what it holds", path.read_text(encoding="utf-8"),
            "content" if row == "there" else "")
     if row == "new":
@@ -556,8 +556,8 @@ def written_journal(desk, count, caller="agent-web"):
 
 @measuring
 def try_long_journal(world, server):
-    """A journal of 2,000 commands that are settled gets .old behind its name, in the place of an
-    earlier one, and a new one begins behind them; one of 1,998 goes on."""
+    """A journal of 2,000 commands that are settled gets .old after its name, in the place of an
+    earlier one, and a new one begins after them; one of 1,998 goes on."""
     for count in (1_998, 2_000):
         with desk_for(world, f"long-journal-{count}", *services(server.port, "web")) as desk:
             folder = desk.folder / "journals"

@@ -97,21 +97,20 @@ def try_two_of_a_name(world):
 def try_within_a_second(world):
     """A file is written in its place, as long as it was, within the second of its last change: it
     is read again."""
-    with provider(lambda *_: reply("0.25")) as server:
-        web = measured_beside("web", "of")
-        with desk_for(world, "within-a-second", template_of(server.port), web) as desk:
-            path = desk.folder / "manifests.json"
-            second = int(time.time()) * 1_000_000_000
-            os.utime(path, ns=(second, second))
-            with agent_of(desk) as agent:
-                wait_more(desk, "p.e6")
-                text = path.read_text(encoding="utf-8").replace("/old", "/new")
-                with open(path, "r+", encoding="utf-8") as file:
-                    file.write(text)
-                    file.flush()
-                    os.utime(file.fileno(), ns=(second, second + 1))
-                wait_until("the new query", lambda: "/new" in server.targets()
-                           or agent.must_run())
+    web = measured_beside("web", "of")
+    with provider(lambda *_: reply("0.25")) as server, desk_for(
+            world, "within-a-second", template_of(server.port), web) as desk:
+        path = desk.folder / "manifests.json"
+        second = int(time.time()) * 1_000_000_000
+        os.utime(path, ns=(second, second))
+        with agent_of(desk) as agent:
+            wait_more(desk, "p.e6")
+            text = path.read_text(encoding="utf-8").replace("/old", "/new")
+            with open(path, "r+", encoding="utf-8") as file:
+                file.write(text)
+                file.flush()
+                os.utime(file.fileno(), ns=(second, second + 1))
+            wait_until("the new query", lambda: "/new" in server.targets() or agent.must_run())
 
 
 def try_asked_before(world):
@@ -137,6 +136,17 @@ def try_asked_before(world):
             expect("results", {each.result for each in measured(desk)}, {"250000", "500000"})
 
 
+def put_invalid(desk, agent, row, value):
+    """The file becomes this: the agent goes on measuring by the last good one, and names the
+    file."""
+    count = agent.errors().count("manifests.json")
+    put(desk, value)
+    wait_more(desk, "p.e6", 3)
+    said = agent.errors().count("manifests.json") - count
+    if said > 2 or (said < 1 and row in ("no JSON", "arithmetic")):
+        raise Wrong(f"{row}: said {said} times: {agent.errors()!r}")
+
+
 def try_invalid(world):
     """A file becomes no JSON, something that is not translated, empty, gone or a folder: the last
     good one stays, and standard error names the file, once for each change. Once it is repaired, a
@@ -151,12 +161,7 @@ def try_invalid(world):
             wait_more(desk, "p.e6")
             for at, (row, value) in enumerate(bad.items()):
                 expect(f"{row}: used again before", agent.errors().count(USED_AGAIN), at)
-                count = agent.errors().count("manifests.json")
-                put(desk, value)
-                wait_more(desk, "p.e6", 3)
-                said = agent.errors().count("manifests.json") - count
-                if said > 2 or (said < 1 and row in ("no JSON", "arithmetic")):
-                    raise Wrong(f"{row}: said {said} times: {agent.errors()!r}")
+                put_invalid(desk, agent, row, value)
                 put(desk, good)
                 want_used_again(agent, row, at + 1)
                 wait_more(desk, "p.e6", 1)
@@ -266,31 +271,30 @@ def plant(path, row):
 def try_names(world):
     """A file of manifests whose name is not UTF-8: at the beginning its line and status 2; once the
     agent runs, the line comes once, and what was measured goes on."""
-    made = [template_of(1, names=("p",)), measured_beside("web", "of")]
-    with provider(lambda *_: reply("0.25")) as server:
-        made[0] = template_of(server.port, names=("p",))
-        with desk_for(world, "names", *made) as desk:
-            folder = desk.folder / "manifests"
-            folder.mkdir()
-            (folder / "a.json").symlink_to(desk.folder / "manifests.json")
-            other, strange = (os.fsencode(folder) + name
-                              for name in (b"/\xff.txt", b"/b\xff\x1b\xc3\xa9.yaml"))
-            with open(other, "wb"), agent_of(desk, "manifests") as agent:
-                wait_more(desk, "p.e6", 1)
-                expect("another ending", but_late(agent.errors()), "")
-                with open(strange, "wb"):
-                    wait_more(desk, "p.e6", 4)
-                line = "manifests/b\\xff\\x1b\\xc3\\xa9.yaml: the name of this file is not UTF-8"
-                expect("said", agent.errors().count(line), 1)
-                want_plain("names", agent.errors(), "\n")
-                ended = run_agent(desk, "manifests", options=("--once",), journals="other")
-                expect(f"from the beginning: {ended.errors}", (ended.status, line in ended.errors),
-                       (WORDS, True))
-                os.unlink(strange)
-                want_used_again(agent, "no such name", 1)
-                wait_more(desk, "p.e6", 3)
-                expect("said once", agent.errors().count("UTF-8"), 1)
-            want_each_name(desk, folder)
+    with provider(lambda *_: reply("0.25")) as server, desk_for(
+            world, "names", template_of(server.port, names=("p",)),
+            measured_beside("web", "of")) as desk:
+        folder = desk.folder / "manifests"
+        folder.mkdir()
+        (folder / "a.json").symlink_to(desk.folder / "manifests.json")
+        other, strange = (os.fsencode(folder) + name
+                          for name in (b"/\xff.txt", b"/b\xff\x1b\xc3\xa9.yaml"))
+        with open(other, "wb"), agent_of(desk, "manifests") as agent:
+            wait_more(desk, "p.e6", 1)
+            expect("another ending", but_late(agent.errors()), "")
+            with open(strange, "wb"):
+                wait_more(desk, "p.e6", 4)
+            line = "manifests/b\\xff\\x1b\\xc3\\xa9.yaml: the name of this file is not UTF-8"
+            expect("said", agent.errors().count(line), 1)
+            want_plain("names", agent.errors(), "\n")
+            ended = run_agent(desk, "manifests", options=("--once",), journals="other")
+            expect(f"from the beginning: {ended.errors}", (ended.status, line in ended.errors),
+                   (WORDS, True))
+            os.unlink(strange)
+            want_used_again(agent, "no such name", 1)
+            wait_more(desk, "p.e6", 3)
+            expect("said once", agent.errors().count("UTF-8"), 1)
+        want_each_name(desk, folder)
 
 
 def want_each_name(desk, folder):

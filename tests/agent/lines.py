@@ -9,7 +9,7 @@ from agents import (
     reply, template, wait_until, want_once)
 from replies import want_plain
 from rows import ESCAPES, GREATEST, LESS, NAN
-from world import Wrong, expect
+from world import Late, Wrong, expect
 
 # What the agent says of a line that it does not take.
 INVALID_LINE = "a line of --values is no SERVICE METRIC VALUE of these files"
@@ -36,7 +36,7 @@ OF_JOBS = [
     ("more", "[1, 0]", None, "whole number"),
     ("null", "null", None, "null"),
 ]
-# Lines that are none, and lines of what is not here.
+# Invalid lines, and lines of what is not here.
 HOSTILE = [
     b"", b" ", b"one", b"one m", b"one m ", b"one m x", b"one m 0.5.5", b"one m [1", b"one m 1]",
     b"one m [1,,2]", b"one m [[1]]", b"one m 1 2", b"one m \xff\xfe", b"\xff m 1", b"one m \x00",
@@ -202,7 +202,7 @@ def try_input_of_a_file(world):
 
 
 def try_hostile_lines(world):
-    """Lines that are none, of services and metrics that are not here, and without an end: each is
+    """Invalid lines, lines of services and metrics that are not here, and without an end: each is
     said in plain text or ignored, the good ones among them count, others are measured in time, and
     no memory is taken for them."""
     with reading(world, "hostile-lines", SAID[:1], "-") as (desk, agent, write):
@@ -218,14 +218,14 @@ def try_hostile_lines(world):
         for _ in range(300):
             write(b"".join(line + b"\n" for line in HOSTILE[:20]))
         write(b"one m 0.5\r\n")
-        wait_until("behind many", lambda: write(b"one m.e6 0.5\n") or time.sleep(.3)
+        wait_until("after many", lambda: write(b"one m.e6 0.5\n") or time.sleep(.3)
                    or "500000" in reported_of(desk, "one"))
         expect("nothing else is reported", set(reported_of(desk, "one")), {"250000", "500000"})
         found = measured(desk, "asked")
         expect("what is asked", {each.result for each in found}, {"250000"})
         moments = [each.taken for each in found]
         if max(two - one for one, two in zip(moments, moments[1:])) > 4 * world.slowness:
-            raise Wrong(f"the other service was measured at {moments}")
+            raise Late(f"the other service was measured at {moments}")
         want_plain("its errors", agent.errors(), "\n")
         want_plain("its output", agent.output.read_text(encoding="utf-8"), "\n")
         if max(map(len, agent.errors().splitlines())) > 2000:

@@ -296,28 +296,32 @@ def try_unresolved_once(world):
                 agent.kill()
 
 
+def want_hindered(row, desk, agent, status, results):
+    """An agent that has no descriptor, for a moment if it is to end well, ends with this status,
+    and these results were measured."""
+    agent.wait_said("EMFILE")
+    if status == DONE:
+        agent.release()
+    wait_until("the end", agent.has_ended)
+    expect(f"{row}: {agent.errors()}", agent.process.returncode, status)
+    expect(f"{row}: measured", [each.result for each in measured(desk)], results)
+    want_said(row, agent, "EMFILE")
+
+
 def try_hindered_once(world):
     """With --once: the connection is tried again until the time of the measurement is over. Then
     nothing is reported, and the status is 5; if it works in time, all is reported, of two metrics
     each."""
     library = library_of(world)
     with provider(lambda *_: reply("0.25")) as server:
-        for row, status in (("until-its-end", LOCAL), ("for-a-moment", DONE)):
-            made = services(server.port, "m", "n", interval="6s")
-            with desk_for(world, f"once-{row}", *made) as desk:
-                agent = Hindered(desk, library, errno.EMFILE, server.port, options=("--once",))
-                agent.wait_said("EMFILE")
-                if status == DONE:
-                    agent.release()
-                wait_until("the end", agent.has_ended)
-                expect(f"{row}: {agent.errors()}", agent.process.returncode, status)
-                found = measured(desk)
-                expect(f"{row}: measured", [each.result for each in found],
-                       [] if status == LOCAL else ["250000"] * 2)
-                if status == LOCAL:
-                    expect(f"{row}: nothing is pending",
-                           journals_of(desk)["agent-web"].pending, None)
-                want_said(row, agent, "EMFILE")
+        made = services(server.port, "m", "n", interval="6s")
+        with desk_for(world, "once-until-its-end", *made) as desk:
+            agent = Hindered(desk, library, errno.EMFILE, server.port, options=("--once",))
+            want_hindered("until its end", desk, agent, LOCAL, [])
+            expect("nothing is pending", journals_of(desk)["agent-web"].pending, None)
+        with desk_for(world, "once-for-a-moment", *made) as desk:
+            agent = Hindered(desk, library, errno.EMFILE, server.port, options=("--once",))
+            want_hindered("for a moment", desk, agent, DONE, ["250000"] * 2)
 
 
 def free_descriptors(process, count):

@@ -5,7 +5,7 @@ import time
 from agents import desk_for, wait_until
 from edges import plant_journal, services
 from machine import Hindered, library_of
-from world import Wrong, answering
+from world import Late, Wrong, answering
 
 # How many times as fast the clock of an agent is.
 FASTER = 40
@@ -27,7 +27,7 @@ def try_pauses(world):
         pauses = [after - before for before, after in zip(moments, moments[1:])]
         # the agent may wake a second after its time, and two pauses be longer on a busy machine
         if sorted(pauses[:TRIES - 1])[-3] > 30 / FASTER + 1 + world.slowness:
-            raise Wrong(f"it tried again after {pauses} seconds")
+            raise Late(f"it tried again after {pauses} seconds")
 
 
 def try_said_again(world):

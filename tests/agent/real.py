@@ -7,7 +7,7 @@ from agents import (
     Agent, agent_of, desk_for, history, journals_of, listed, measured, metric, of_prometheus,
     release, reported, rollout, run_agent, template, wait_status, want_once, want_reported)
 from toy import QUERY, prometheus, toy
-from world import Wrong, expect
+from world import Unsafe, Wrong, expect
 
 # The share of the errors of a good and of a bad version; and the least share of the others that is
 # taken.
@@ -131,8 +131,8 @@ def want_after_kills(desk, names):
     found = measured(desk, *names)
     want_once("kills", found)
     for journal in journals_of(desk).values():
-        lost = set(reported(journal)[0]) - set(found)
-        expect("reported and lost", lost, set())
+        if lost := set(reported(journal)[0]) - set(found):
+            raise Unsafe(f"reported and lost: {lost}")
     for name in names:
         share = GOOD if name.startswith("good") else BAD
         want_shares(name, [each for each in found if each.service == name and each.result], share)
@@ -141,11 +141,15 @@ def want_after_kills(desk, names):
 def want_shown(agent, found):
     """Each measurement that an output says was recorded is there; a kill may cut a line."""
     known = {(each.service, each.run, each.metric, each.ordinal, each.taken) for each in found}
+    shown = 0
     for line in agent.output.read_text(encoding="utf-8").splitlines():
         try:
             told = json.loads(line)
         except ValueError:
             continue
         key = tuple(told.get(name) for name in ("service", "run", "metric", "ordinal", "taken"))
+        shown += "phase" in told
         if "phase" in told and key not in known:
-            raise Wrong(f"shown and lost: {told}")
+            raise Unsafe(f"shown and lost: {told}")
+    if shown == 0:
+        raise Wrong(f"no line of {len(found)} measurements")

@@ -1,15 +1,14 @@
 """Replies of providers, good and hostile, and what comes of them: parts of agent.py."""
 import os
-import select
 import subprocess
 import time
-import tty
 
 from agents import (
     agent_of, agent_words, desk_for, measured, measured_beside, metric, of_web, provider, reply,
     services_measured, template, wait_until, want_once)
 from rows import ANSWERS, FRAMES, STATUSES, VALUES, is_as_wanted, provider_of
-from world import MARKS, Wrong, environment, expect, free_port, process
+from screen import new_terminal, read_terminal
+from world import MARKS, Late, Wrong, environment, expect, free_port, process
 
 GOOD = ("good-1", "good-2", "good-3")
 # A service whose provider is gone.
@@ -78,7 +77,7 @@ def want_in_time(name, found, until, patience):
     moments = [each.taken for each in found]
     for one, other in zip(moments, [*moments[1:], int(until)]):
         if other - one > patience:
-            raise Wrong(f"{name}: {other - one} seconds behind the measurement at {one}")
+            raise Late(f"{name}: {other - one} seconds after the measurement at {one}")
 
 
 def want_rows(world, name, rows):
@@ -141,18 +140,12 @@ def want_said(agent, found, most):
 
 def run_on_terminal(desk, *words, seconds=60):
     """The status of an agent on a terminal, and what it shows."""
-    shown, terminal = os.openpty()
-    tty.setraw(terminal)
+    shown, terminal = new_terminal()
     with process([desk.world.program, *agent_words(desk, options=words)], cwd=desk.folder,
                  stdin=subprocess.DEVNULL, stdout=terminal, stderr=terminal,
                  env=environment()) as agent:
         os.close(terminal)
-        found, until = b"", time.monotonic() + seconds
-        while select.select([shown], [], [], max(0, until - time.monotonic()))[0]:
-            try:
-                found += os.read(shown, 65536)
-            except OSError:
-                break
+        found = read_terminal(shown, seconds)
         os.close(shown)
         return agent.wait(10), found.decode()
 

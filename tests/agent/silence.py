@@ -11,7 +11,7 @@ from agents import (
 from machine import Hindered, library_of
 from replies import run_on_terminal
 from rows import silent
-from world import REFUSED, Wrong, answering, expect
+from world import REFUSED, Late, Wrong, answering, expect
 from world import ask as ask_bytes
 
 # Of a kind that no agent asks; another program is to measure it, and does not.
@@ -48,7 +48,7 @@ def try_silent_provider(world):
             wait_measured(desk, 6, "other")
             moments = [each.taken for each in measured(desk, "other")]
             if max(two - one for one, two in zip(moments, moments[1:])) > 3 * world.slowness:
-                raise Wrong(f"the other service was measured at {moments}")
+                raise Late(f"the other service was measured at {moments}")
     return "5 failures, then an abort"
 
 
@@ -71,7 +71,7 @@ def try_slow_metric(world):
             moments = [each.taken for each in found if each.metric == "quick.e6"]
             gaps = [two - one for one, two in zip(moments, moments[1:])]
             if len(gaps) < 5 or max(gaps) > 5:
-                raise Wrong(f"the quick one was measured at {moments}")
+                raise Late(f"the quick one was measured at {moments}")
             want_once("slow metric", found)
 
 
@@ -268,8 +268,8 @@ def try_stopped_agent(world):
         with desk_for(world, "stopped", *made) as desk:
             options = ("--abort-late", "3")
             with agent_of(desk, options=options) as agent:
-                for name in values:
-                    wait_measured(desk, 1, name[1:])
+                wait_measured(desk, 1, "good")
+                wait_measured(desk, 1, "bad")
                 agent.signal(signal.SIGSTOP)
                 time.sleep(6)
                 agent.signal(signal.SIGCONT)

@@ -10,22 +10,16 @@ from agents import (
     agent_of, agent_words, begin, beside, desk_for, journals_of, listed, measured,
     measured_beside, metric, of_web, provider, reply, run_agent, template, wait_until,
     want_once, want_reported)
+from closing import SUBSETS, run_closed
 from edges import ONCE, services
 from replies import run_on_terminal
-from world import DONE, LOCAL, Ended, Wrong, environment, expect, process
-
-SUBSETS = [closed for count in range(4) for closed in itertools.combinations(range(3), count)]
+from world import DONE, LOCAL, Wrong, environment, expect, process
 
 
-def run_closed(desk, closed, *files, **more):
+def run_agent_closed(desk, closed, *files, **more):
     """Runs an agent with these streams closed, and has what came of it."""
-    closes = " ".join(f"{number}>&-" for number in closed)
-    words = ["sh", "-c", f'exec "$0" "$@" {closes}', desk.world.program,
-             *agent_words(desk, *files, **more)]
-    with process(words, cwd=desk.folder, env=environment(), stdin=subprocess.DEVNULL,
-                 stdout=subprocess.PIPE, stderr=subprocess.PIPE) as agent:
-        output, errors = agent.communicate(timeout=60)
-        return Ended(agent.returncode, output.decode(), errors.decode())
+    words = [desk.world.program, *agent_words(desk, *files, **more)]
+    return run_closed(words, desk.folder, closed)
 
 
 def try_closed(world):
@@ -44,7 +38,7 @@ def want_closed(world, port, closed):
         desk.write("more.json", listed(*services(port, "web", "unknown", interval="3s")))
         before = (desk.folder / "more.json").read_bytes()
         for turn in (1, 2):
-            ended = run_closed(desk, closed, "more.json", options=ONCE)
+            ended = run_agent_closed(desk, closed, "more.json", options=ONCE)
             expect(f"{row}: {ended}", ended.status, LOCAL if 1 in closed else 1)
             expect(f"{row}: said", "unknown: there is no such service" in ended.errors
                    or 1 in closed, 2 not in closed or 1 in closed)
@@ -60,7 +54,7 @@ def want_closed(world, port, closed):
 def want_values_closed(desk, closed, row):
     """--values - with a closed input ends no agent, and reads no journal."""
     if 0 in closed and 1 not in closed:
-        ended = run_closed(desk, closed, options=(*ONCE, "--values", "-"))
+        ended = run_agent_closed(desk, closed, options=(*ONCE, "--values", "-"))
         expect(f"{row}: --values -: {ended}", ended.status, DONE)
         expect(f"{row}: measured", len(measured(desk)), 3)
 

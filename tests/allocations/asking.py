@@ -66,7 +66,7 @@ def refuse_by_variables(trial, share):
         row, refuse_in(trial, row, lambda number: words, wanted, **given))
 
 
-# What a crash left behind the closed gate: a part of the next record.
+# What a crash left after the closed gate: a part of the next record.
 TORN = b'{"asked":{"bo'
 
 
@@ -82,8 +82,8 @@ def begin_with(file, left):
 
 def refuse_in_calls(trial, share, address):
     """Allocations of a call are refused that reads a journal; and each one of a call that reads one
-    with a torn rest, and of one that begins a journal, by a caller of its own. The file is as before
-    each time: with a record more for each allocation no call would ever ask for fewer."""
+    with a torn rest, and of one that begins a journal, by a caller of its own. The file is as
+    before each time: with a record more for each allocation no call would ever ask for fewer."""
     with open(trial.file, "rb") as file:
         whole = file.read()
     each = share.each_from(1)

@@ -60,9 +60,10 @@ def read_refused(trial, share):
 
     def refuse(number):
         found = trial.run(words, number)
-        if found != away and found not in OUT_OF_MEMORY:
+        asked = trial.asked()
+        if found != away and (number > asked or found not in OUT_OF_MEMORY):
             raise Wrong(f"agent: when allocation {number} is refused: {found}")
-        return trial.asked()
+        return asked
 
     share.refuse_each("agent", refuse)
 

@@ -6,16 +6,20 @@ asking.py the client, and measuring.py the agent."""
 import os
 import re
 import shutil
-import struct
 import subprocess
 import sys
 
 from asking import ask_refused
-from conversation import STILL_AT_B, reply_of, without_progress
+from book_files import copy, remove
+from chosen import chosen
+from conversation import STILL_AT_B
 from measuring import read_refused, report_refused
 from serving import converse_with_desk
 from story_tables import expect_tables
 from story_words import B, Wrong, answer, command, expect, get, messages_of_story, put, query
+from trials import (
+    EACH, OUT_OF_MEMORY, Share, Trial, expect_refused, expect_told, is_cut_short, read, try_line,
+)
 
 ROOT = os.path.join(os.path.dirname(os.path.realpath(__file__)), "../..")
 # Parts of another script: files of the first version, and what they become.
@@ -28,8 +32,6 @@ WAITS_FOR_NOBODY = (
     b"spec.strategy.canary.steps: no step after weight 20 waits for anybody: a version reaches "
     b"100 % even if nothing is measured: put an analysis step, or pause: {}, before setWeight 40")
 MISTAKE = b"error: unexpected argument '-5' found"
-OUT_OF_MEMORY = b"canary: memory"
-NO_MEMORY = answer("503 no-memory")
 QUERIES = [get(query(asked)) for asked in ("service web", "history web", "run web 1")]
 
 # A release of web that waits at a pause, and a measurement file of its run.
@@ -72,118 +74,6 @@ RUN  SERVICE  ANALYSIS    TEMPLATES  METRIC  PHASE    COUNTED  PASSES  DUE
 """
 
 
-class Trial:
-    """A program, the library that refuses one of its allocations, and the names of its files."""
-
-    def __init__(self, program, folder, library):
-        self.program, self.library, self.counted = program, library, library + ".counted"
-        self.file, self.begun = os.path.join(folder, "book"), os.path.join(folder, "begun")
-        self.rows, self.copy = os.path.join(folder, "rows"), os.path.join(folder, "copy")
-
-    def refusing(self, number):
-        """The environment of a process whose allocation of that number is refused."""
-        return {**os.environ, "LD_PRELOAD": self.library, "REFUSED": str(number),
-                "COUNTED": self.counted, "TMPDIR": os.path.dirname(self.file)}
-
-    def asked(self):
-        """How many allocations the last such process asked for."""
-        with open(self.counted, "rb") as told:
-            return struct.unpack("L", told.read())[0]
-
-    def run(self, words, number=0, **variables):
-        """What a command line comes to, with these variables besides: its exit status, the output,
-        and the first line of standard error."""
-        done = subprocess.run([self.program, *words], capture_output=True, timeout=60,
-                              stdin=subprocess.DEVNULL, env={**self.refusing(number), **variables})
-        return done.returncode, done.stdout, without_progress(done.stderr).split(b"\n")[0]
-
-    def converse(self, words, messages, number=0):
-        """Tells messages one after another, of which one may be answered 503 and is sent again. The
-        replies, as far as they come, and how the program ends."""
-        process = subprocess.Popen(
-            [self.program, *words], stdin=subprocess.PIPE, stdout=subprocess.PIPE,
-            stderr=subprocess.PIPE, env=self.refusing(number))
-        replies, may_be_refused = [], number > 0
-        for message in messages:
-            found = reply_of(process, message)
-            if found == NO_MEMORY and may_be_refused:
-                may_be_refused = False
-                found = reply_of(process, message)
-            if found == b"":
-                break
-            replies.append(found)
-        output, errors = process.communicate(timeout=60)
-        return replies, (process.returncode, output, errors.split(b"\n")[0])
-
-
-class Share:
-    """Which allocations are refused: each STEP-th from the FIRST on."""
-
-    def __init__(self, step, first):
-        self.step, self.first = step, first
-
-    def each_from(self, first):
-        """Each one from this on."""
-        return Share(1, first)
-
-    def first_of(self, asked):
-        """The first one, where a run asks for so many: it may ask for fewer than FIRST."""
-        return self.first if asked == 0 else 1 + (self.first - 1) % asked
-
-    def refuse_each(self, row, refuse):
-        """Refuses them in turn, until a run asks for fewer."""
-        tried, number = 0, self.first_of(refuse(self.first))
-        while refuse(number) >= number:
-            tried += 1
-            number += self.step
-        if tried == 0:
-            raise Wrong(f"{row}: the program asks for no memory that could be refused")
-        print(f"refused: {row}: {tried} allocations", file=sys.stderr)
-
-
-EACH = Share(1, 1)
-
-
-def read(file):
-    with open(file, "rb") as found:
-        return found.read()
-
-
-def remove(file):
-    for name in (file, file + "-wal"):
-        if os.path.exists(name):
-            os.remove(name)
-
-
-def copy(file, to):
-    remove(to)
-    for suffix in ("", "-wal"):
-        if os.path.exists(file + suffix):
-            shutil.copyfile(file + suffix, to + suffix)
-
-
-def is_cut_short(found, wanted):
-    """Whether memory ran out after the first lines of what a command line has to write."""
-    status, output, told = found
-    is_part = wanted.startswith(output) and (output == b"" or output.endswith(b"\n"))
-    return is_part and (status, told) == (1, OUT_OF_MEMORY)
-
-
-def try_line(trial, row, words, wanted, share=EACH, on_file=False):
-    """A command line does as it must, or memory runs out on the way; and one on a file does as it
-    must after that, with nothing refused."""
-    def refuse(number):
-        found = trial.run(words, number)
-        asked = trial.asked()
-        if not is_cut_short(found, wanted[1]):
-            expect(f"{row}: when allocation {number} is refused", found, wanted)
-        if on_file:
-            expect(f"{row}: after a refusal of allocation {number}", trial.run(words), wanted)
-        return asked
-
-    share.refuse_each(row, refuse)
-
-
 def try_lines(trial, _):
     """Command lines without a desk's file."""
     with open(os.path.join(ROOT, "tests/cli/cases/help.stdout"), "rb") as shown:
@@ -197,12 +87,6 @@ def try_lines(trial, _):
              (0, b"ok\n", b"canary: warning: " + WAITS_FOR_NOBODY))
     try_line(trial, "check --strict", ["check", "--strict", warned],
              (1, WAITS_FOR_NOBODY + b"\n", b""))
-
-
-def expect_told(row, found, wanted):
-    """A conversation goes as it has to, or ends for memory before its first reply."""
-    if found != ([], (1, b"", OUT_OF_MEMORY)):
-        expect(row, found, (wanted, (0, b"", b"")))
 
 
 def with_queries(trial):
@@ -221,14 +105,15 @@ def try_stream(trial, _):
 
     def refuse(number):
         found = trial.converse(STILL_AT_B, asked, number)
-        expect_told(f"stream: when allocation {number} is refused", found, wanted)
-        return trial.asked()
+        is_refused = number <= (count := trial.asked())
+        expect_told(f"stream: when allocation {number} is refused", found, wanted, is_refused)
+        return count
 
     EACH.refuse_each("a stream", refuse)
 
 
 # Commands of each kind over a release in its second attempt, whose metrics, steps and entries have
-# all parts that they can have; a condition that is none; commands that come again; and bodies that
+# all parts that they can have; an invalid condition; commands that come again; and bodies that
 # are no commands, as `unreadable` or `unsupported`.
 WIDE = r"""ops 1 template t m,success=result>10,count=3,interval=60 n dryRun:n => [t 1]
 ops 2 template t m n,success=result>1,failure=result> => 422 bad-condition
@@ -278,8 +163,9 @@ def try_tables(trial, _):
 
         def refuse(number, row=row, words=words, asked=asked, wanted=wanted):
             found = trial.converse(words, asked, number)
-            expect_told(f"{row}: when allocation {number} is refused", found, wanted)
-            return trial.asked()
+            is_refused = number <= (count := trial.asked())
+            expect_told(f"{row}: when allocation {number} is refused", found, wanted, is_refused)
+            return count
 
         EACH.refuse_each(row, refuse)
 
@@ -296,7 +182,7 @@ def try_over_file(trial, share, row, prepare):
         found = trial.converse(words, requests, number)
         asked = trial.asked()
         refused = f"{row}: when allocation {number} is refused"
-        expect_told(refused, found, wanted)
+        expect_told(refused, found, wanted, number <= asked)
         if found[0]:
             expect_tables(refused, trial.file)
         after = f"{row}: after a refusal of allocation {number}"
@@ -413,7 +299,7 @@ def try_page(trial, share):
         found = drawn(number)
         asked = trial.asked()
         is_part = whole[1].startswith(found[1]) and (found[0], found[2]) == (1, OUT_OF_MEMORY)
-        if found != whole and not is_part:
+        if found != whole and not (is_part and number <= asked):
             raise Wrong(f"a page: when allocation {number} is refused: {found!r}")
         return asked
 
@@ -442,7 +328,7 @@ def try_backup(trial, share):
             expect("backup: its log", len(read(trial.copy + "-wal")),
                    len(read(trial.begun + "-wal")))
         else:
-            expect(f"backup: when allocation {number} is refused", found, (1, b"", OUT_OF_MEMORY))
+            expect_refused(f"backup: when allocation {number} is refused", found, number <= asked)
             left = [name for name in sorted(os.listdir(folder)) if not name.endswith(".counted")]
             expect("backup: what is left", left,
                    [name for name in before if not name.endswith(".counted")])
@@ -472,8 +358,7 @@ def try_succeed(trial, share):
             expect("succeed: a new file", (shown[0], b"\nweb   Healthy  2/2" in shown[1]),
                    (0, True))
         else:
-            expect(f"succeed: when allocation {number} is refused", found,
-                   (1, b"", OUT_OF_MEMORY))
+            expect_refused(f"succeed: when allocation {number} is refused", found, number <= asked)
             expect("succeed: what is left", left(), before)
         expect("succeed: the old file", read(trial.file), old)
         return asked
@@ -495,7 +380,7 @@ def try_migrate(trial, share):
         row = f"migrate: when allocation {number} is refused"
         is_old = contents(trial.file) == old
         if is_old or found != (0, b"migrated\n", b""):
-            expect(row, found, (1, b"", OUT_OF_MEMORY))
+            expect_refused(row, found, number <= asked)
         again = (0, b"migrated\n" if is_old else b"current\n", b"")
         expect(f"{row}: again, with nothing refused", trial.run(words), again)
         expect(f"{row}: its rows", in_order(rows_of(trial.file)), migrated(old[1]))
@@ -522,7 +407,7 @@ def try_page_of_served(trial, share):
             expect("page: its end", read(trial.copy)[-8:], b"</html>\n")
             os.remove(trial.copy)
         else:
-            expect(f"page: when allocation {number} is refused", found, (1, b"", OUT_OF_MEMORY))
+            expect_refused(f"page: when allocation {number} is refused", found, number <= asked)
         expect("page: what is left", left(), before)
         return asked
 
@@ -535,8 +420,8 @@ def try_page_of_served(trial, share):
             desk.kill()
 
 
-# Manifests of Argo's: arguments of two kinds, a dry run, a decimal and a job. They become a template,
-# a service and a plan.
+# Manifests of Argo's: arguments of two kinds, a dry run, a decimal and a job. They become a
+# template, a service and a plan.
 ARGO = """{"kind":"List","items":[{"kind":"AnalysisTemplate","metadata":{"name":"t"},"spec":{
 "args":[{"name":"limit","value":"0.5"},{"name":"hash","valueFrom":{"podTemplateHashValue":
 "Latest"}}],"dryRun":[{"metricName":"m"}],"metrics":[{"name":"m","interval":"1m","count":2,
@@ -584,7 +469,7 @@ def try_argo(trial, share):
         row = f"argo: when allocation {number} is refused"
         found = trial.run(words, number)
         asked = trial.asked()
-        if not is_cut_short(found, ARGO_SHOWN):
+        if number > asked or not is_cut_short(found, ARGO_SHOWN):
             expect(row, found, (0, ARGO_SHOWN, b""))
             expect(f"{row}: its files", files_in(made), whole)
         for name, text in files_in(made).items():
@@ -618,14 +503,10 @@ CASES = (try_lines, try_argo, try_stream, try_tables, try_file, try_opened, try_
 
 def main():
     program, folder, library, step, first, *wanted = sys.argv[1:]
-    unknown = set(wanted) - {case.__name__ for case in CASES}
-    if unknown:
-        sys.exit(f"refused: unknown case: {' '.join(sorted(unknown))}")
     trial = Trial(program, folder, library)
     try:
-        for case in CASES:
-            if not wanted or case.__name__ in wanted:
-                case(trial, Share(int(step), int(first)))
+        for case in chosen("refused", CASES, wanted):
+            case(trial, Share(int(step), int(first)))
     except (Wrong, subprocess.TimeoutExpired) as fault:
         sys.exit(f"refused: {fault}")
 

@@ -15,17 +15,13 @@ import outputs
 import pairs
 import told
 from asked import Trial, Wrong
+from turns import parts_of
 
 STRACE_PARTS = ("try_empty_name",)
 MODULES = (examples, told, attempts, members, outputs, inputs, hostile, pairs)
 
 
-def parts_of(module):
-    return {name: part for name, part in vars(module).items()
-            if name.startswith("try_") and part.__module__ == module.__name__}
-
-
-PARTS = {name: part for module in MODULES for name, part in parts_of(module).items()}
+PARTS = parts_of(*MODULES)
 
 
 def try_part(name, trial):

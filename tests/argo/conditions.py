@@ -9,7 +9,7 @@ import re
 from fractions import Fraction
 
 NAN, INFINITE, MINUS_INFINITE, NULL = "NaN", "+Inf", "-Inf", "null"
-# The greatest number that is reported of a decimal, and what is reported of what is none.
+# The greatest number that is reported of a decimal, and what is reported in place of no number.
 MOST = 9_223_372_036_854_775_803
 NUMBERS = {NAN: -2 ** 63, MINUS_INFINITE: -2 ** 63 + 1, NULL: -2 ** 63 + 2, INFINITE: 2 ** 63 - 1}
 # What is reported beside decimals, by the letter of a label.

@@ -1,5 +1,5 @@
 """Changed and hostile manifests: each is answered within a second of a quiet machine's processor,
-at status 0 or 1, by lines that are whole."""
+at status 0 or 1, by lines that are whole, and never in silence."""
 import json
 import os
 import random
@@ -10,6 +10,7 @@ from inputs import JOB, listed
 
 CHANGED, WITHIN = 400, 1.0
 MOST = 2 ** 20
+NO_JSON, TOO_DEEP = "ends here: correct it", "nested more than 127 deep"
 FINDING = re.compile(r"-:[1-9][0-9]*:[1-9][0-9]*: \S.*|    .*|and [1-9][0-9]* more")
 # What is put into an example, or takes the place of a part of it.
 PIECES = [b"\n", b"\n\n", b"---\n", b": ", b"- ", b"  ", b"{", b"}", b"[", b"]", b'"', b"'", b"|\n",
@@ -41,7 +42,7 @@ def changed(rng, text):
 
 
 def want_answered(trial, row, text):
-    """The status; and each line of what is found has its place."""
+    """The status, the seconds, and the lines; each line of what is found has its place."""
     done, seconds = timed(trial.program, ["argo", "-"], text)
     for _ in range(2 if seconds > WITHIN else 0):
         again = timed(trial.program, ["argo", "-"], text)[1] / slowness()
@@ -51,12 +52,13 @@ def want_answered(trial, row, text):
     if seconds > WITHIN:
         raise Wrong(f"{row}: {seconds:.2f} seconds of a processor")
     expect(f"{row}: its input is read", b"cannot read" in done.errors, len(text) > 16 * MOST)
-    if done.status and done.output:
-        lines = done.output.decode().split("\n")
-        expect(f"{row}: whole lines", lines.pop(), "")
-        odd = [line for line in lines if not FINDING.fullmatch(line)]
-        expect(f"{row}: lines without a place", odd[:3], [])
-    return done.status, seconds
+    if not done.output + done.errors:
+        raise Wrong(f"{row}: status {done.status}, and not a word")
+    lines = done.output.decode().split("\n")
+    expect(f"{row}: whole lines", lines.pop(), "")
+    odd = [line for line in lines if done.status and not FINDING.fullmatch(line)]
+    expect(f"{row}: lines without a place", odd[:3], [])
+    return done.status, seconds, lines
 
 
 def try_changed(trial):
@@ -69,6 +71,7 @@ def try_changed(trial):
         with faults:
             statuses.append(want_answered(trial, repr(text)[:20000], text)[0])
     faults.end()
+    expect("some are translated, and some are not", set(statuses), {0, 1})
     return f"{CHANGED} changed examples, {statuses.count(0)} of them translated"
 
 
@@ -109,6 +112,8 @@ def nested(levels):
 TEXTS = {
     "127 deep": lambda: nested(127),
     "128 deep": lambda: nested(128),
+    "127 deep in YAML": lambda: "# YAML\n" + nested(127),
+    "128 deep in YAML": lambda: "# YAML\n" + nested(128),
     "a million brackets": lambda: filled("["),
     "a million bytes of a name": lambda: listed(analysis(filled("n", end="n" * 200), [])),
     "a million bytes of a condition": lambda: of_condition(filled("x", "result > 1 || ", "")),
@@ -181,6 +186,11 @@ TEXTS = {
 }
 
 
+# Of those that nest deep, what keeps them from being read.
+UNREAD = {"127 deep": [], "128 deep": [NO_JSON], "127 deep in YAML": [],
+          "128 deep in YAML": [TOO_DEEP], "a million brackets": [TOO_DEEP]}
+
+
 def json_lines():
     """Templates that fill a file in YAML, with a metric each that is refused."""
     return "".join(f"---\nkind: AnalysisTemplate\nmetadata:\n  name: t{at}\nspec:\n  metrics:\n"
@@ -194,7 +204,11 @@ def try_hostile(trial):
     for row, make in TEXTS.items():
         with faults:
             text = make().encode()
-            _, seconds = want_answered(trial, f"{row}, {len(text)} bytes", text)
+            status, seconds, lines = want_answered(trial, f"{row}, {len(text)} bytes", text)
             slowest = max(slowest, (seconds, row))
+            if row in UNREAD:
+                why = [why for why in (NO_JSON, TOO_DEEP) if why in "\n".join(lines)]
+                expect(f"{row}: what keeps it from being read", why, UNREAD[row])
+                expect(f"{row}: its status", status >= bool(why), True)
     faults.end()
     return f"{len(TEXTS)} manifests, the slowest in {slowest[0]:.2f} seconds: {slowest[1]}"

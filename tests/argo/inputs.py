@@ -1,16 +1,13 @@
 """What `canary argo` reads, and streams that fail."""
-import itertools
 import json
 import os
 
 from asked import Faults, expect, folder_in, read, run, timed, write
+from closing import SUBSETS, closing
 from outputs import EXAMPLE, JOB, example, want_files
 from wanted import TAKEN
+from world import MARKS
 
-CLOSED = [closed for count in range(1, 4) for closed in itertools.combinations(range(3), count)]
-# C0, DEL, C1, the marks of direction (UAX #9), the separators of lines and paragraphs.
-MARKS = [*range(0x20), *range(0x7f, 0xa0), 0x61c, 0x200e, 0x200f, *range(0x2028, 0x202f),
-         *range(0x2066, 0x206a)]
 NOTHING = "no Rollout is here, and no AnalysisTemplate whose arguments have values"
 MOST_FILE, MOST_YAML = 16 * 2 ** 20, 2 ** 20
 
@@ -61,8 +58,7 @@ def split(text):
 
 
 def try_documents(trial):
-    """The documents of a file in files of their own, in any order, between markers, and as items
-    of a List."""
+    """The documents of a file in files of their own, in any order, and between markers."""
     place, faults = folder_in(trial, "documents"), Faults()
     for file in TAKEN:
         parts = split(read(example(trial, file)).decode())
@@ -95,50 +91,58 @@ def rollout(name, *templates):
             "spec": {"strategy": {"canary": {"steps": steps}}}}
 
 
+SECRET = {"kind": "Secret", "metadata": {"name": "token"}, "data": {"token": "c2VjcmV0"}}
+IGNORED = "Secret token: ignored; only AnalysisTemplates and Rollouts are converted"
+# A list, the status, the findings and the notes.
+LISTS = (
+    ("a List", listed(JOB, rollout("web", "smoke")), 0, [], []),
+    ("no List", json.dumps(JOB), 0, [], []),
+    ("a Secret", listed(SECRET, JOB), 0, [], [IGNORED]),
+    ("a Secret alone", listed(SECRET), 1, [NOTHING], [IGNORED]),
+    ("an empty List", listed(), 1, [NOTHING], []),
+    ("a List in a List", listed(JOB, {"kind": "List", "items": []}), 1,
+     ["List: expected items, which are no Lists"], []),
+    ("no kind", json.dumps({"metadata": {"name": "web"}}), 1,
+     ["expected AnalysisTemplate, Rollout or List"], []),
+    ("a template twice", listed(JOB, JOB), 1,
+     ["AnalysisTemplate smoke is there already: leave one of the two out"], []),
+    ("a template of the cluster", listed({**JOB, "kind": "ClusterAnalysisTemplate"}), 1,
+     ["ClusterAnalysisTemplate: write an AnalysisTemplate"], []),
+    ("a template that is nowhere", listed(JOB, rollout("web", "smoke", "load")), 1,
+     ["AnalysisTemplate load is in none of the files"], []),
+)
+
+
+def places_in_lists():
+    """Rollouts in a List, each with the path, the line and the column of what is found in it."""
+    scaled = rollout("web", "smoke")
+    scaled["spec"]["strategy"]["canary"]["steps"].append({"setCanaryScale": {"replicas": 2}})
+    path = "items[1].spec.strategy.canary.steps"
+    return (("what is translated", rollout("web", "smoke", "load"),
+             (f"{path}[0].analysis.templates[1].templateName", 39, 39)),
+            ("what is checked", scaled, (f"{path}[1].setCanaryScale", 42, 35)))
+
+
 def try_lists(trial):
-    """A List is its items; what is no manifest of Argo's is left out with a note."""
-    faults = Faults()
-    secret = {"kind": "Secret", "metadata": {"name": "token"}, "data": {"token": "c2VjcmV0"}}
-    rows = (
-        ("a List", listed(JOB, rollout("web", "smoke")), 0, [], []),
-        ("no List", json.dumps(JOB), 0, [], []),
-        ("a Secret", listed(secret, JOB), 0, [],
-         ["Secret token: ignored; only AnalysisTemplates and Rollouts are converted"]),
-        ("a Secret alone", listed(secret), 1, [NOTHING],
-         ["Secret token: ignored; only AnalysisTemplates and Rollouts are converted"]),
-        ("an empty List", listed(), 1, [NOTHING], []),
-        ("a List in a List", listed(JOB, {"kind": "List", "items": []}), 1,
-         ["List: expected items, which are no Lists"], []),
-        ("no kind", json.dumps({"metadata": {"name": "web"}}), 1,
-         ["expected AnalysisTemplate, Rollout or List"], []),
-        ("a template twice", listed(JOB, JOB), 1,
-         ["AnalysisTemplate smoke is there already: leave one of the two out"], []),
-        ("a template of the cluster", listed({**JOB, "kind": "ClusterAnalysisTemplate"}), 1,
-         ["ClusterAnalysisTemplate: write an AnalysisTemplate"], []),
-        ("a template that is nowhere", listed(JOB, rollout("web", "smoke", "load")), 1,
-         ["AnalysisTemplate load is in none of the files"], []),
-    )
-    for row, text, status, findings, notes in rows:
+    """A List is its items; a manifest of another kind is ignored, with a note."""
+    faults, places = Faults(), places_in_lists()
+    for row, text, status, findings, notes in LISTS:
         with faults:
             ended, found = in_json(trial, ["-"], text.encode())
             expect(row, (ended, texts_of(found), texts_of(found, "notes")),
                    (status, findings, notes))
+            expect(f"{row}: the templates", [it["metadata"]["name"] for it in found["templates"]],
+                   [] if findings else ["smoke"])
             if findings:
                 expect(f"{row}: what is made", made_of(found),
                        {"plan": [], "services": [], "templates": []})
-    load = rollout("web", "smoke", "load")
-    scaled = rollout("web", "smoke")
-    scaled["spec"]["strategy"]["canary"]["steps"].append({"setCanaryScale": {"replicas": 2}})
-    path = "items[1].spec.strategy.canary.steps"
-    for row, manifest, wanted in (
-            ("what is translated", load, (f"{path}[0].analysis.templates[1].templateName", 39, 39)),
-            ("what is checked", scaled, (f"{path}[1].setCanaryScale", 42, 35))):
+    for row, manifest, wanted in places:
         with faults:
             _, found = in_json(trial, ["-"], listed(JOB, manifest).encode())
             expect(f"the place in a List, of {row}", [
                 (it["path"], it["line"], it["column"]) for it in found["findings"]], [wanted])
     faults.end()
-    return f"{len(rows) + 2} lists"
+    return f"{len(LISTS) + len(places)} lists"
 
 
 def try_many_findings(trial):
@@ -236,7 +240,8 @@ def cannot_read(name):
 
 
 def try_unread(trial):
-    """A file that is none, or too long, ends the program; a text that is no manifest is found."""
+    """A file that cannot be read or is too long ends the program; a text without a manifest is a
+    finding."""
     place, faults = folder_in(trial, "unread"), Faults()
     os.mkdir(os.path.join(place, "folder"))
     os.symlink("nothing", os.path.join(place, "link"))
@@ -282,38 +287,35 @@ def try_long(trial):
 
 # ---- streams
 
-def closing(closed, words):
-    closes = " ".join(f"{number}>&-" for number in closed)
-    return ["-c", f'exec "$0" "$@" {closes}', *words]
+def want_closed(trial, file, closed, folder):
+    """With these streams closed `argo` writes its files, unless its input is one of them; it shows
+    what it can on the others, and reports what it cannot show."""
+    program, *words = closing(closed, [trial.program, "argo", "--out", folder, file])
+    with open(example(trial), "rb") as stdin:
+        done = run(program, words, stdin=stdin)
+    row = f"argo {os.path.basename(file)}, closed {closed}"
+    is_unread = 0 in closed and file == "-"
+    wanted = 1 if is_unread or 1 in closed else 0
+    expect(row, done.status, wanted)
+    if is_unread:
+        expect(f"{row}: files", os.path.lexists(folder), False)
+    else:
+        want_files(trial, TAKEN[EXAMPLE], folder)
+    expect(f"{row}: output", done.output.decode(), "" if wanted else TAKEN[EXAMPLE].text())
+    if 2 not in closed:
+        last = done.errors.decode().splitlines()[-1]
+        expect(f"{row}: the last line of errors", last[:13], {
+            0: "canary: warni", 1: "canary: file" if is_unread else "canary: write"}[wanted])
 
 
 def try_closed(trial):
     """Each set of the three streams closed, and outputs that take nothing: what is written is
     whole, and no file takes the place of a stream."""
     place, faults = folder_in(trial, "closed"), Faults()
-    for at, closed in enumerate(CLOSED):
-        for name in (example(trial), "-"):
-            folder = os.path.join(place, f"{at}{len(name)}")
-            words = [trial.program, "argo", "--out", folder, name]
+    for at, closed in enumerate(SUBSETS[1:]):
+        for file in (example(trial), "-"):
             with faults:
-                with open(example(trial), "rb") as stdin:
-                    done = run("sh", closing(closed, words), stdin=stdin)
-                row = f"argo {name[-1:]}, closed {closed}"
-                is_unread = 0 in closed and name == "-"
-                wanted = 1 if is_unread or 1 in closed else 0
-                expect(row, done.status, wanted)
-                if is_unread:
-                    expect(f"{row}: files", os.path.lexists(folder), False)
-                else:
-                    want_files(trial, TAKEN[EXAMPLE], folder)
-                if 1 not in closed:
-                    text = TAKEN[EXAMPLE].text() if wanted == 0 else ""
-                    expect(f"{row}: output", done.output.decode(), text)
-                if 2 not in closed:
-                    last = done.errors.decode().splitlines()[-1]
-                    expect(f"{row}: the last line of errors", last[:13], {
-                        0: "canary: warni", 1: "canary: file" if is_unread else "canary: write",
-                    }[wanted])
+                want_closed(trial, file, closed, os.path.join(place, f"{at}{len(file)}"))
     for row, output in (("/dev/full", "/dev/full"), ("a folder", place)):
         with faults:
             opened = os.open(output, os.O_RDONLY if row == "a folder" else os.O_WRONLY)
@@ -326,7 +328,7 @@ def try_closed(trial):
         expect("errors to /dev/full", (done.status, done.output.decode()),
                (0, TAKEN[EXAMPLE].text()))
     faults.end()
-    return f"{2 * len(CLOSED) + 3} sets of streams"
+    return f"{2 * len(SUBSETS[1:]) + 3} sets of streams"
 
 
 # ---- control characters

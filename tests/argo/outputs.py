@@ -1,4 +1,5 @@
 """What `canary argo --out` writes, and what may stand in the place of it."""
+import itertools
 import json
 import os
 import shutil
@@ -122,21 +123,19 @@ def state_of(place):
 def try_replaced(trial):
     """A file or a link at a name is replaced whole, and no link is followed."""
     place, faults = os.path.join(trial.folder, "replaced"), Faults()
-    for kind, plant in REPLACED.items():
-        for name in NAMES:
-            ready(place)
-            plant(os.path.join(place, "out", name))
-            with faults:
-                done = written(trial, EXAMPLE, "out", cwd=place)
-                expect(f"{kind} at {name}", done.status, 0)
-                expect(f"{kind} at {name}: a link", os.path.islink(
-                    os.path.join(place, "out", name)), False)
-                expect(f"{kind} at {name}: the victim", read(os.path.join(place, "victim")),
-                       b"kept")
-                expect(f"{kind} at {name}: what is there", sorted(os.listdir(place)),
-                       ["other", "out", "victim"])
-                if kind != "a file that nobody may write":
-                    want_files(trial, TAKEN[EXAMPLE], os.path.join(place, "out"))
+    for kind, name in itertools.product(REPLACED, NAMES):
+        ready(place)
+        REPLACED[kind](os.path.join(place, "out", name))
+        with faults:
+            done = written(trial, EXAMPLE, "out", cwd=place)
+            expect(f"{kind} at {name}", done.status, 0)
+            expect(f"{kind} at {name}: a link", os.path.islink(
+                os.path.join(place, "out", name)), False)
+            expect(f"{kind} at {name}: the victim", read(os.path.join(place, "victim")), b"kept")
+            expect(f"{kind} at {name}: what is there", sorted(os.listdir(place)),
+                   ["other", "out", "victim"])
+            if kind != "a file that nobody may write":
+                want_files(trial, TAKEN[EXAMPLE], os.path.join(place, "out"))
     faults.end()
     return f"{len(REPLACED) * len(NAMES)} files and links replaced"
 

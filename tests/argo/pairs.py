@@ -116,13 +116,14 @@ class Lot:
         """The pairs of which the desk says something else than that meaning; and how often each
         phase is meant."""
         found, counts = [], collections.Counter()
-        for at, metrics in enumerate(self.metrics):
-            for place, metric in enumerate(metrics):
-                for ordinal, value in enumerate(metric.values):
-                    wanted = meaning.phase(metric.trees, metric.form, value)
-                    counts[wanted] += 1
-                    if phases[at][ordinal][place] != wanted:
-                        found.append((metric, value, phases[at][ordinal][place], wanted))
+        pairs = ((metric, value, phases[at][ordinal][place])
+                 for at, metrics in enumerate(self.metrics) for place, metric in enumerate(metrics)
+                 for ordinal, value in enumerate(metric.values))
+        for metric, value, phase in pairs:
+            wanted = meaning.phase(metric.trees, metric.form, value)
+            counts[wanted] += 1
+            if phase != wanted:
+                found.append((metric, value, phase, wanted))
         return found, counts
 
 

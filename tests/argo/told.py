@@ -1,4 +1,5 @@
-"""Tables of conditions and of manifests, told to the program in files: what becomes of each row."""
+"""Tables of conditions and of manifests, which the program reads from files: what becomes of each
+row."""
 import json
 import os
 import re
@@ -8,7 +9,7 @@ from wanted import NAN, template
 
 HERE = os.path.dirname(os.path.realpath(__file__))
 CONDITION, METRIC = '"successCondition": ', '"metrics": ['
-# The most findings that are told.
+# The most findings that are shown.
 MOST = 100
 NOTHING = {"plan": [], "services": [], "templates": []}
 
@@ -19,7 +20,7 @@ def table(name):
 
 
 def told(trial, words, place):
-    """What is made of some files, and what is found in them, in JSON; the status tells which."""
+    """What is made of some files, and what is found in them, in JSON; the status says which."""
     done = run(trial.program, ["argo", "--json", *words], cwd=place)
     found = json.loads(done.output)
     expect(f"argo --json {' '.join(words[:3])}: status and errors", (done.status, done.errors),
@@ -133,7 +134,7 @@ def text_in_json(value):
 
 
 def part_of(value, key):
-    """The part of a value at a key or an index, or nothing; and how far behind it that stands."""
+    """The part of a value at a key or an index, or nothing; and how far after it that stands."""
     if isinstance(value, dict) and key in value:
         front = {before: value[before] for before in list(value)[:list(value).index(key)]}
         return value[key], len(text_in_json(front) + f'"{key}":') - (0 if front else 1)
@@ -170,7 +171,7 @@ def line_for(kind, it):
 
 
 def shown(found, more):
-    """All that is told of some documents, a line for each."""
+    """All that is reported of some documents, a line for each."""
     counts = {"findings": "findings", "notes": "notes", "templates": "templates",
               "services": "services", "plan": "planned"}
     lines = [", ".join(f"{len(found[key])} {word}" for key, word in counts.items())
@@ -194,7 +195,7 @@ def is_shown(text, wanted):
 
 
 def counted(trial, names, place):
-    """How many findings are counted, and not told, as text has it."""
+    """How many findings are counted, and not shown, as text has it."""
     last = run(trial.program, ["argo", *names], cwd=place).output.decode().splitlines()[-1]
     return last.removeprefix("and ").removesuffix(" more") if last.endswith(" more") else "0"
 

@@ -18,6 +18,7 @@ import time
 import terminals
 from building import try_building
 from calls import CALL_PARTS
+from chosen import chosen, is_without
 from closed import CLOSED_CALL_PARTS, CLOSED_PARTS
 from conversation import AT_B, limits_writes, without_progress
 from files import FILE_PARTS
@@ -350,18 +351,11 @@ PARTS = (try_cases, try_mistakes, try_help, try_ends, try_faulty_streams, try_pr
 
 def main():
     program, folder, *wanted = sys.argv[1:]
-    unknown = set(wanted) - {part.__name__ for part in PARTS}
-    if unknown:
-        sys.exit(f"cli: unknown part: {' '.join(sorted(unknown))}")
-    program = os.path.realpath(program)
-    is_without = "strace" in os.environ.get("CHECK_WITHOUT", "").split()
-    left_out = (*CALL_PARTS, *CLOSED_CALL_PARTS) if is_without else ()
+    left_out = (*CALL_PARTS, *CLOSED_CALL_PARTS) if is_without("strace") else ()
     rows = wrong = 0
-    for part in PARTS:
-        if part in left_out or (wanted and part.__name__ not in wanted):
-            continue
+    for part in chosen("cli", PARTS, wanted, left_out):
         try:
-            rows += part(program, folder)
+            rows += part(os.path.realpath(program), folder)
         except (Wrong, subprocess.TimeoutExpired) as fault:
             print(f"cli: {part.__name__}: {fault}", file=sys.stderr)
             wrong += 1

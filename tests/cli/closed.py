@@ -5,7 +5,6 @@ folder, or without a reader is reported as a closed one is."""
 import concurrent.futures
 import contextlib
 import fcntl
-import itertools
 import os
 import re
 import shutil
@@ -13,12 +12,13 @@ import sqlite3
 import subprocess
 import tempfile
 
+from book_files import copy
+from closing import SUBSETS, closing
 from conversation import STILL_AT_B, without_progress
 from files import FILE, HEADER, LINES, RELEASE, ROWS
 from story_words import B, command, expect, put
 
 FIRST_VERSION = os.path.join(os.path.dirname(os.path.realpath(__file__)), "../migrate/story.sql")
-SUBSETS = [closed for count in range(4) for closed in itertools.combinations(range(3), count)]
 # Outputs that are open, and take nothing.
 BAD_OUTPUTS = ("/dev/full", "a folder", "no reader")
 # How many programs run beside one another.
@@ -120,15 +120,9 @@ def output_of(kind, place):
         os.close(output)
 
 
-def closing(closed, words):
-    """The words that run a program with these streams closed."""
-    closes = " ".join(f"{number}>&-" for number in closed)
-    return ["sh", "-c", f'exec "$0" "$@" {closes}', *words]
-
-
 def masked(told):
-    """What does not depend on when it was told: moments of the clock are left out, and for how long
-    a measurement has been due."""
+    """What does not depend on when it was written: moments of the clock are left out, and for how
+    long a measurement has been due."""
     told = re.sub(rb"(late_seconds\{.*\}) \d+", rb"\1 LATE", told)
     return re.sub(rb"\d\d:\d\d:\d\d", b"TIME", re.sub(rb"\d{4}-\d\d-\d\dT", b"DAY ", told))
 
@@ -136,11 +130,9 @@ def masked(told):
 def rows_in(path):
     """All tables of a database and its log, and that SQLite finds both sound."""
     with tempfile.TemporaryDirectory() as folder:
-        copy = os.path.join(folder, "copy")
-        for suffix in ("", "-wal"):
-            if os.path.exists(path + suffix):
-                shutil.copyfile(path + suffix, copy + suffix)
-        with contextlib.closing(sqlite3.connect(copy)) as opened:
+        seen = os.path.join(folder, "copy")
+        copy(path, seen)
+        with contextlib.closing(sqlite3.connect(seen)) as opened:
             expect(path, opened.execute("PRAGMA integrity_check").fetchall(), [("ok",)])
             # a desk that runs has its moments from the clock
             return re.sub(r"\b17[6-9]\d{7}\b|\b1[89]\d{8}\b", lambda found: "NOW" if int(

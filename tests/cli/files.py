@@ -1,9 +1,9 @@
 """Measurement files of a program whose input breaks, or whose output is full: parts of cli.py, each
 of which returns how many rows it had."""
 import os
-import shutil
 import subprocess
 
+from book_files import copy
 from conversation import limits_writes, without_progress
 from story_words import B, Wrong, answer, command, expect, put
 from streams import FAR, connection, joined, read_some, reset
@@ -33,6 +33,12 @@ def line(number, phase):
 LINES = [line(at + 1, phase) for at, (_, phase) in enumerate(ROWS)]
 
 
+def copy_to(book, other):
+    """A copy of a desk's file under another name."""
+    copy(book, other)
+    return other
+
+
 def begun(program, folder):
     """A desk's file with the release."""
     book = os.path.join(folder, "begun")
@@ -43,15 +49,6 @@ def begun(program, folder):
                           input=stream, capture_output=True, timeout=60)
     expect("the release", (done.returncode, done.stdout, done.stderr), (0, want, b""))
     return book
-
-
-def copied(book, to):
-    for suffix in ("", "-wal"):
-        if os.path.exists(to + suffix):
-            os.remove(to + suffix)
-        if os.path.exists(book + suffix):
-            shutil.copyfile(book + suffix, to + suffix)
-    return to
 
 
 def want_imported(program, book, row):
@@ -95,7 +92,7 @@ def try_failing_imports(program, folder):
     and none that did not is answered."""
     book, other = begun(program, folder), os.path.join(folder, "importing")
     for count in range(len(FILE)):
-        import_until_reset(program, copied(book, other), count)
+        import_until_reset(program, copy_to(book, other), count)
     return len(FILE)
 
 
@@ -120,7 +117,7 @@ def try_full_outputs(program, folder):
     counts = [*range(0, len(lines), 23), len(lines) - 1]
     for most in counts:
         row = f"an import with an output of {most} bytes"
-        copied(book, other)
+        copy_to(book, other)
         found = written_to_full(program, ["import", "--db", other, "-"], output, most, FILE)
         expect(row, found, (lines[:most], 1, b"canary: write\n"))
         want_imported(program, other, row)

@@ -3,17 +3,14 @@ which returns how many rows it had."""
 import contextlib
 import os
 import re
-import select
 import sqlite3
 import subprocess
-import time
-import tty
 from concurrent.futures import ThreadPoolExecutor
 
 from conversation import without_progress
+from screen import ERASED, begin_on_terminal, read_terminal, run_showing
 from story_words import B, Wrong, command, expect, put
 
-ERASED = b"\r\x1b[K"
 CLEARED = b"\x1b[H\x1b[2J"
 # The rows of a desk whose one caller adds so many revisions: their receipts, of which so many are
 # judged at once.
@@ -22,44 +19,6 @@ RECEIPTS, PAGE = 530, 256
 LOG, MEGABYTE = 99_000_000, 1_000_000
 HEADER = b"caller,number,service,run,metric,ordinal,taken,result,failure\n"
 MADE = b"canary: made new.db, since there was no such file\n"
-
-
-def begin_on_terminal(program, words, place, stream, **streams):
-    """A process whose stream of this name is a terminal, and the descriptor that shows it."""
-    shown, terminal = os.openpty()
-    tty.setraw(terminal)
-    running = subprocess.Popen([program, *words], cwd=place, **{**streams, stream: terminal})
-    os.close(terminal)
-    return running, shown
-
-
-def read_terminal(shown, seconds, is_enough=lambda found: False):
-    """What the terminal showed until it is enough, or nobody writes to it any more."""
-    found, end = b"", time.monotonic() + seconds
-    while not is_enough(found) and select.select([shown], [], [], end - time.monotonic())[0]:
-        try:
-            some = os.read(shown, 65536)
-        except OSError:
-            break
-        if not some:
-            break
-        found += some
-    return found
-
-
-def run_showing(program, words, place, text=b"", status=0):
-    """What the words wrote, and what they showed on their error stream, a terminal."""
-    with open(os.path.join(place, "input"), "wb") as written:
-        written.write(text)
-    with open(os.path.join(place, "input"), "rb") as stdin, \
-            open(os.path.join(place, "output"), "w+b") as stdout:
-        running, shown = begin_on_terminal(program, words, place, "stderr", stdin=stdin,
-                                           stdout=stdout)
-        found = read_terminal(shown, 60)
-        os.close(shown)
-        expect(f"{words}: its status", running.wait(timeout=60), status)
-        stdout.seek(0)
-        return stdout.read(), found
 
 
 def counts(row, shown, line):
@@ -74,8 +33,8 @@ def counts(row, shown, line):
 
 
 def judged(row, shown):
-    """What is shown after the judging of the desk's file, of less than a megabyte: the line is drawn
-    behind the receipts of ops and of agent, and then behind each service, web and help."""
+    """What is shown after the judging of the desk's file, of less than a megabyte: the line is
+    drawn after the receipts of ops and of agent, and then after each service, web and help."""
     end = shown.find(ERASED) + len(ERASED)
     found = counts(row, shown[:end], rb"canary: (\d+) of 1 MB judged")
     expect(f"{row}: megabytes judged", found, [0, 0, 0, 0])
@@ -98,8 +57,8 @@ def try_judging(program, place):
 
 def try_pages(program, place):
     """The receipts of a caller with more than 512 are judged in pages, each counted once. What is
-    judged is shown as as large a share of the bytes of the file and its log as of its rows. The file
-    is a large one, so the line stands there before SQLite has read any of it."""
+    judged is shown as as large a share of the bytes of the file and its log as of its rows. The
+    file is a large one, so the line stands there before SQLite has read any of it."""
     sent = [put("ops", number, command("template errs m,interval=60"))
             for number in range(1, RECEIPTS + 1)]
     made = subprocess.run([program, "pipe", "--at", str(B), "--step", "1", "--db", "pages.db"],
@@ -144,7 +103,7 @@ def try_shares(program, place):
 
 
 def try_drawing(program, place):
-    """How many services of a page are drawn is shown, behind the judging of the desk's file."""
+    """How many services of a page are drawn is shown, after the judging of the desk's file."""
     words = ["page", "--db", "desk.db", "desk.html"]
     written, shown = run_showing(program, words, place)
     expect(words, written, b"")
@@ -198,8 +157,11 @@ def try_growing(program, place):
         file.write(b"x" * 2_200_000 + b"\n")
     with ThreadPoolExecutor(1) as reading:
         told = reading.submit(running.stdout.read)
-        found += read_terminal(shown, 60)
-        running.kill()
+        try:
+            found += read_terminal(shown, 60)
+            expect(f"{words}: its status", running.wait(timeout=60), 0)
+        finally:
+            running.kill()
         expect(f"{words}: its rows", told.result().count(b' 400 {"code":"unreadable"}\n'), 10_001)
     os.close(shown)
     lines = re.findall(rb"\rcanary: ([^\r]*)", judged(words, found))
@@ -208,49 +170,54 @@ def try_growing(program, place):
     return 1
 
 
+UNKNOWN, MISSING = b"canary: unknown-service\n", b"canary: file\n"
+ABOUT = b": a file is missing, cannot be read or written, is too long, or exists already\n"
+NEW = ["--db", "new.db"]
+# Programs on a file that is not there: the status, what a terminal shows, and what another stream
+# has.
+ON_NO_FILE = (
+    (["import", *NEW, "no-rows.csv"], 0, MADE + b"\rcanary: 0 of 0 MB read" + ERASED, b""),
+    (["history", *NEW, "web"], 1, MADE + UNKNOWN, UNKNOWN),
+    (["export", *NEW, "--caller", "agent", "web"], 1, MADE + UNKNOWN, UNKNOWN),
+    (["pipe", "--at", "0", "--step", "0", *NEW], 0, b"", b""),
+    (["status", *NEW], 1, MISSING + b"new.db" + ABOUT, MISSING),
+    (["page", *NEW, "out.html"], 1, MISSING + b"new.db, out.html" + ABOUT, MISSING),
+    (["backup", *NEW, "copy.db"], 1, MISSING + b"new.db, copy.db" + ABOUT, MISSING),
+)
+
+
+def want_made(row, place, before, is_made):
+    """A desk's file was made and its log may be, or nothing. What was made is removed."""
+    made = set(os.listdir(place)) - before
+    for name in made:
+        os.remove(os.path.join(place, name))
+    expect(f"{row}: what is made", made - {f"{NEW[1]}-wal"} if is_made else made,
+           {NEW[1]} if is_made else set())
+
+
 def try_missing(program, place):
-    """A name under which there is no file. `import`, `history` and `export` make the file, and say
-    so on a terminal alone; `pipe` makes it and says nothing; `status`, `page` and `backup` make
+    """A name under which there is no file. `import`, `history` and `export` make the file, and
+    report it on a terminal alone; `pipe` makes it and is silent; `status`, `page` and `backup` make
     nothing. A new desk has no rows, and nothing is shown of them."""
-    new = ["--db", "new.db"]
-    unknown, missing = b"canary: unknown-service\n", b"canary: file\n"
-    about = b": a file is missing, cannot be read or written, is too long, or exists already\n"
-    nothing_read = b"\rcanary: 0 of 0 MB read" + ERASED
     open(os.path.join(place, "no-rows.csv"), "wb").close()
-    rows = (
-        (["import", *new, "no-rows.csv"], 0, MADE + nothing_read, b""),
-        (["history", *new, "web"], 1, MADE + unknown, unknown),
-        (["export", *new, "--caller", "agent", "web"], 1, MADE + unknown, unknown),
-        (["pipe", "--at", "0", "--step", "0", *new], 0, b"", b""),
-        (["status", *new], 1, missing + b"new.db" + about, missing),
-        (["page", *new, "out.html"], 1, missing + b"new.db, out.html" + about, missing),
-        (["backup", *new, "copy.db"], 1, missing + b"new.db, copy.db" + about, missing),
-    )
     before = {*os.listdir(place), "input", "output"}
-    for words, status, on_terminal, elsewhere in rows:
-        written, shown = run_showing(program, words, place, status=status)
-        expect(f"{words}, on a terminal", (written, shown), (b"", on_terminal))
-        made = set(os.listdir(place)) - before
-        if elsewhere == missing:
-            expect(f"{words}: what is made", made, set())
-        else:
-            expect(f"{words}: what is made", made - {"new.db-wal"}, {"new.db"})
-        for name in made:
-            os.remove(os.path.join(place, name))
+    for words, status, on_terminal, elsewhere in ON_NO_FILE:
+        found = run_showing(program, words, place, status=status)
+        expect(f"{words}, on a terminal", found, (b"", on_terminal))
+        want_made(words, place, before, elsewhere != MISSING)
         done = subprocess.run([program, *words], cwd=place, stdin=subprocess.DEVNULL, timeout=60,
                               capture_output=True)
         expect(f"{words}, on no terminal",
                (done.returncode, done.stdout, without_progress(done.stderr)),
                (status, b"", elsewhere))
-        for name in set(os.listdir(place)) - before:
-            os.remove(os.path.join(place, name))
+        want_made(words, place, before, elsewhere != MISSING)
     words = ["history", "--db", "n\x1b[2Jw.db", "web"]
-    written, shown = run_showing(program, words, place, status=1)
-    expect(f"{words}, on a terminal", (written, shown),
-           (b"", MADE.replace(b"new", b"n\\u001b[2Jw") + unknown))
+    found = run_showing(program, words, place, status=1)
+    expect(f"{words}, on a terminal", found,
+           (b"", MADE.replace(b"new", b"n\\u001b[2Jw") + UNKNOWN))
     for name in set(os.listdir(place)) - before:
         os.remove(os.path.join(place, name))
-    return len(rows) + 1
+    return len(ON_NO_FILE) + 1
 
 
 def try_faults(program, place):

@@ -1,5 +1,5 @@
 /* Addresses of names that no machine has, for a program that is begun with this library in
-   LD_PRELOAD: `six-first` has ::1 and then 127.0.0.1, `four-first` these two the other way round. */
+   LD_PRELOAD: `six-first` has ::1 and then 127.0.0.1, `four-first` has 127.0.0.1 first. */
 #define _GNU_SOURCE
 #include <dlfcn.h>
 #include <netdb.h>
@@ -10,7 +10,8 @@ typedef int look_up(const char *, const char *, const struct addrinfo *, struct 
 int getaddrinfo(const char *name, const char *port, const struct addrinfo *hints,
                 struct addrinfo **found) {
     look_up *real = (look_up *)dlsym(RTLD_NEXT, "getaddrinfo");
-    int six = name && strcmp(name, "six-first") == 0, four = name && strcmp(name, "four-first") == 0;
+    int six = name && strcmp(name, "six-first") == 0;
+    int four = name && strcmp(name, "four-first") == 0;
     if (!six && !four)
         return real(name, port, hints, found);
     int failed = real(six ? "::1" : "127.0.0.1", port, hints, found);

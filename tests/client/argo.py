@@ -30,8 +30,8 @@ spec:
 FOUND = ("canary: other.yaml:11:23: spec.metrics[0].successCondition: arithmetic: do it in the "
          "query (filled in: isNaN(result[0]) || result[0] + 1 <= 0.5)")
 FILES = ("latency.yaml", "rollouts.yaml")
-NO_DEADLINE = ("the desk ignores it, and has no deadline: have a job look for late measurements, and "
-               "abort")
+NO_DEADLINE = ("the desk ignores it, and has no deadline: have a job look for late measurements,"
+               " and abort")
 NAN = -9223372036854775808
 
 

@@ -80,8 +80,10 @@ def serve(port, client, roll, die):
 
 def begin(function, *words):
     def run():
-        function(*words)
-        under_way.discard(threading.current_thread())
+        try:
+            function(*words)
+        finally:
+            under_way.discard(threading.current_thread())
 
     thread = threading.Thread(target=run, daemon=True)
     under_way.add(thread)

@@ -5,15 +5,14 @@ import socket
 import subprocess
 import threading
 
+from closing import SUBSETS, closing, run_closed
 from reports import add_measured, metric
 from words import OUTPUT, ended_with
 from world import (
-    DONE, LOCAL, LOST, NO_DESK, PENDING, PROMOTED, REFUSED, UNREACHABLE, Ended, Wrong, add,
-    answering, ask, environment, expect, free_port, process, rollout, running, shown, want,
-    want_all_said, want_delivered,
+    DONE, LOCAL, LOST, NO_DESK, PENDING, PROMOTED, REFUSED, UNREACHABLE, Wrong, add, answering,
+    ask, expect, free_port, rollout, running, shown, want, want_all_said, want_delivered,
 )
 
-SUBSETS = [closed for count in range(4) for closed in itertools.combinations(range(3), count)]
 HEADER = "caller,number,service,run,metric,ordinal,taken,result,failure\n"
 # What `send` counts of a file of two rows.
 COUNTED = "rows recorded: 2, repeated: 0, refused: 0"
@@ -21,17 +20,6 @@ COUNTED = "rows recorded: 2, repeated: 0, refused: 0"
 
 def name_of(closed):
     return f"closed-{''.join(map(str, closed))}" if closed else "all-open"
-
-
-def run_closed(world, words, folder, closed, source=None):
-    """Runs the program with these streams closed, and has what came of it."""
-    closes = " ".join(f"{number}>&-" for number in closed)
-    with open(folder / source if source else "/dev/null", "rb") as stdin, process(
-            ["sh", "-c", f'exec "$0" "$@" {closes}', world.program, *words], cwd=folder,
-            stdin=stdin, stdout=subprocess.PIPE, stderr=subprocess.PIPE,
-            env=environment()) as client:
-        output, errors = client.communicate(timeout=60)
-        return Ended(client.returncode, output.decode(), errors.decode())
 
 
 def want_closed(row, closed, ended, output, said=(), status=DONE):
@@ -68,12 +56,12 @@ def try_closed_commands(world):
                     (("retry", name), REFUSED, '{"code":"not-aborted"}\n'),
                     (("service", manifest, "v1"), DONE,
                      shown(("Healthy", 1, 100), f"other-{name}"))):
-                asked = key_words(desk, name, *words)
-                for turn in ("the first", "the second"):
-                    row = f"{words}, {name}, {turn} time"
-                    ended = run_closed(world, asked, desk.folder, closed)
-                    want_closed(row, closed, ended, reply, status=status)
-                want(f"{words}, {name}, all open", world.run(asked, desk.folder), status, reply)
+                asked = [world.program, *key_words(desk, name, *words)]
+                first, second = (run_closed(asked, desk.folder, closed) for _ in range(2))
+                want_closed(f"{words}, {name}, the first time", closed, first, reply, status=status)
+                want_closed(f"{words}, {name}, again", closed, second, reply, status=status)
+                want(f"{words}, {name}, all open", world.run_words(asked, desk.folder), status,
+                     reply)
             expect(f"{name}: the manifest", (desk.folder / manifest).read_bytes(), before)
             expect(f"{name}: settled", want_delivered(name, desk, name, f"{name}.journal"), 3)
             journals[name] = journal_bytes(desk, name)
@@ -94,6 +82,13 @@ def losing(desk, come):
     return answering(answer)
 
 
+def run_losing(desk, come, name, words, closed):
+    """Runs a command under a key so that every second reply is lost."""
+    with losing(desk, come) as port:
+        asked = key_words(desk, name, *words, port=port)
+        return run_closed([desk.world.program, *asked], desk.folder, closed)
+
+
 def try_closed_lost_replies(world):
     """Each reply is lost once, so there is something to say while the journal is open: a new one,
     and one in use. The command acts once, and the journal is whole."""
@@ -105,9 +100,7 @@ def try_closed_lost_replies(world):
             for words, reply, lost in ((("promote", name), PROMOTED, 2),
                                        (("tick", name), PROMOTED, 1)):
                 row, come = f"{words}, {name}", []
-                with losing(desk, come) as port:
-                    asked = key_words(desk, name, *words, port=port)
-                    ended = run_closed(world, asked, desk.folder, closed)
+                ended = run_losing(desk, come, name, words, closed)
                 want_closed(row, closed, ended, shown(reply, name), [LOST] * lost)
                 expect(f"{row}: how often it was sent", len(come), 2 * lost)
                 want(f"{row}, all open", world.run(key_words(desk, name, *words), desk.folder),
@@ -137,10 +130,10 @@ def try_closed_queries(world):
         for closed in SUBSETS:
             for (word, *words), status, reply in queries:
                 row = f"{word} {words}, {name_of(closed)}"
-                ended = run_closed(world, [word, *at, *words], desk.folder, closed)
+                ended = run_closed([world.program, word, *at, *words], desk.folder, closed)
                 want_closed(row, closed, ended, reply, status=status)
             words = ["get", "--desk", f"127.0.0.1:{free_port()}", "--tries", "2", "web"]
-            ended = run_closed(world, words, desk.folder, closed)
+            ended = run_closed([world.program, *words], desk.folder, closed)
             expect(f"no desk, {name_of(closed)}", (ended.status, ended.output), (PENDING, ""))
             want_all_said("no desk", ended, *([] if 2 in closed else [UNREACHABLE, NO_DESK]))
 
@@ -164,7 +157,7 @@ def try_closed_sends(world):
             before = (desk.folder / rows).read_bytes()
             sent = ["send", "--desk", f"127.0.0.1:{desk.port}", "--timeout", "60"]
             words = [*sent, rows if source == "file" else "-"]
-            ended = run_closed(world, words, desk.folder, closed, rows)
+            ended = run_closed([world.program, *words], desk.folder, closed, rows)
             if source == "input" and 0 in closed:
                 expect(f"{name}: it ended", (ended.status, ended.output), (LOCAL, ""))
                 expect(f"{name}: settled", desk.kept(name), [])
@@ -186,10 +179,9 @@ def taken_now(desk, name):
 
 def begin_closed(world, words, folder, closed):
     """A desk that runs on with these streams closed."""
-    closes = " ".join(f"{number}>&-" for number in closed)
     started = subprocess.Popen(
-        ["sh", "-c", f'exec "$0" "$@" {closes}', world.program, *words], cwd=folder,
-        stdin=subprocess.DEVNULL, stdout=subprocess.PIPE, stderr=subprocess.PIPE)
+        closing(closed, [world.program, *words]), cwd=folder, stdin=subprocess.DEVNULL,
+        stdout=subprocess.PIPE, stderr=subprocess.PIPE)
     running.add(started)
     return started
 

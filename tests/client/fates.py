@@ -219,7 +219,7 @@ def try_wrong_lines(world):
 
 def try_first_bytes(world):
     """A file counts as new by its first byte and its length alone: each first byte, and up to 110
-    others behind it."""
+    others after it."""
     reader = Reader(world, "first-bytes")
     for first in range(256):
         for count in (0, 1, 109, 110):

@@ -1,4 +1,5 @@
 """The journal's file: cut short, changed, locked, lost, not to be written: parts of client.py."""
+import concurrent.futures
 import fcntl
 import os
 import shutil
@@ -8,14 +9,14 @@ import threading
 import time
 
 from journal_rule import (
-    LAST, MOST_NEW, at_rest, is_in_doubt, is_new, journal_of, line_of, lines_in,
+    LAST, MOST_NEW, at_rest, is_in_doubt, is_new, journal_of, line_of,
 )
 from world import (
     AHEAD, BEHIND, BROKEN, CONTRADICTION, DONE, EMPTIED, ENDED, IN_USE, KEY_USED, LATE, LOCAL, LOST,
     MARKS, NOT_BEGUN, NO_FILE, NO_JOURNAL_FILE, OTHER_CALLER, PENDING, PENDING_SAID, PROMOTED,
     REFUSED, REUSED, SPENT, STARTED, TOOK_PLACE, UNREACHABLE, WORDS, Caller, Wrong, add, answering,
     ask, environment, expect, free_port, install, process, shown, shows, two_pauses, want,
-    want_all_said, want_delivered,
+    want_all_said, want_delivered, want_seconds,
 )
 
 NOBODY = 65534
@@ -139,7 +140,7 @@ def try_cut_journal(world):
 
 
 def try_torn_journal(world):
-    """What a crash leaves behind the closed gate, at each byte of the next line: it does not count,
+    """What a crash leaves after the closed gate, at each byte of the next line: it does not count,
     and is cut off."""
     reader = Reader(world, "torn")
     rows = []
@@ -252,28 +253,27 @@ def try_two_clients(world):
         expect("acted", (desk.count("promote"), desk.count("abort")), ({"web": 1}, {}))
 
 
+def promote_once(desk, name):
+    """Promotes a service under a key. Its name, if another client has the journal."""
+    ended = desk.do("promote", name, options=("--once", name))
+    if ended.status == DONE:
+        expect(name, ended.output, shown(PROMOTED, name))
+        return None
+    want(name, ended, LOCAL, said=desk.of_file(IN_USE))
+    return name
+
+
 def try_many_clients(world):
     """Eight clients at once with one journal: each goes on until its command is done."""
     with world.desk("many") as desk:
         names = [f"s{at}" for at in range(8)]
         add(desk, *names)
-        refused = 0
-        left = dict.fromkeys(names)
-        while left:
-            for name in left:
-                left[name] = subprocess.Popen(
-                    [world.program, *desk.words("promote", name, options=("--once", name))],
-                    cwd=desk.folder, env=environment(), stdin=subprocess.DEVNULL,
-                    stdout=subprocess.PIPE, stderr=subprocess.PIPE)
-            for name, client in [*left.items()]:
-                output, errors = client.communicate(timeout=60)
-                if client.returncode == DONE:
-                    expect(name, output.decode(), shown(PROMOTED, name))
-                    del left[name]
-                else:
-                    refused += 1
-                    expect(name, (client.returncode, output, errors.decode()),
-                           (LOCAL, b"", f"canary: {desk.of_file(IN_USE)}\n"))
+        refused, left = 0, names
+        with concurrent.futures.ThreadPoolExecutor(len(names)) as pool:
+            while left:
+                left = [name for name in pool.map(lambda name: promote_once(desk, name), left)
+                        if name]
+                refused += len(left)
         want_delivered("many clients", desk)
         expect("promotions", desk.count("promote"), dict.fromkeys(names, 1))
     return f"{refused} found it open"
@@ -362,7 +362,7 @@ def try_other_files(world):
 
 def try_new_journals(world):
     """What a crash may leave of a new journal, and just that, is a new one: a closed gate, and at
-    most so many bytes behind it as the longest first line takes with what stands after it."""
+    most so many bytes after it as the longest first line takes with what stands after it."""
     reader = Reader(world, "new-journals")
     longest = {"begun": {"caller": "c" * 63, "settled": LAST}}
     expect("the longest first line", len(b"-" + line_of(longest).encode() + b"\n-"), MOST_NEW)
@@ -412,8 +412,7 @@ def try_what_is_no_file(world):
                 begun = time.monotonic()
                 want(name, desk.do("promote", "web", journal=name), LOCAL,
                      said=desk.of_file(NO_FILE, name))
-                if time.monotonic() - begun > 30:
-                    raise Wrong(f"{name}: the client waits")
+                want_seconds(f"{name}: the client waits", time.monotonic() - begun, 0, 30)
         name = "a\x1b[2J\u202eb"
         (desk.folder / name).mkdir()
         want("a path with controls", desk.do("promote", "web", journal=name), LOCAL,
@@ -436,7 +435,7 @@ def try_restored_desk(world):
         for _ in range(2):
             want("the next one", desk.do("promote", "web", options=("--once", "q")), CONTRADICTION,
                  said=AHEAD)
-        # what the journal has as done is told from the journal
+        # what the journal has as done is answered from the journal
         want("the last one", desk.do("promote", "web", options=("--once", "p")), DONE,
              shown(PROMOTED))
         expect("nothing acted", desk.count("promote"), {})

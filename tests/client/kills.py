@@ -1,6 +1,7 @@
 """The client and the desk killed at each call that they make, calls that fail, paths that are taken
 meanwhile, and power that goes, by strace: parts of client.py."""
 import contextlib
+import itertools
 import os
 import re
 import signal
@@ -15,6 +16,8 @@ from world import (
 
 NAME = re.compile(r"^(?:\d+ +)?(\w+)\(", re.MULTILINE)
 STOPPED = re.compile(r"^(\d+) +--- stopped by SIGSTOP", re.MULTILINE)
+# How strace ends if the program that it began was killed, or was killed with it.
+KILLED = (-signal.SIGKILL, 128 + signal.SIGKILL)
 # What may take a path.
 TAKES = {"fifo": os.mkfifo, "null": lambda path: path.symlink_to("/dev/null")}
 # How many parts of what was not synced are tried at each call, beside all of it and nothing.
@@ -30,107 +33,120 @@ def killing(log, names, at):
 
 
 def run_traced(world, desk, front, words):
-    with process([*front, world.program, *words], cwd=desk.folder, env=environment(),
-                 stdin=subprocess.DEVNULL, stdout=subprocess.PIPE,
-                 stderr=subprocess.DEVNULL) as traced:
-        output = traced.communicate(timeout=60)[0].decode()
-        return traced.returncode, output
+    """How a client ends that these words begin, as strace, and what it writes to its output."""
+    ended = world.run_words([*front, world.program, *words], desk.folder)
+    return ended.status, ended.output
 
 
-def calls_of_client(world, desk, words):
-    """The names of the calls of a client, behind the one that begins it."""
+def begun(desk, service, is_old):
+    """The caller and the journal of a service, by its name. An old journal is there."""
+    own = {"caller": service, "journal": f"{service}.journal"}
+    if is_old:
+        want(service, desk.do("tick", service, **own), DONE, shown(("Paused", 1, 20), service))
+    return own
+
+
+def promotion(desk, service, own):
+    """The words of a promotion under a key."""
+    return desk.words("promote", service, options=("--once", "key"), **own)
+
+
+def want_settled(row, desk, service, own):
+    """The same call again settles the command, and one more does nothing."""
+    for _ in range(2):
+        want(row, desk.do("promote", service, options=("--once", "key"), **own), DONE,
+             shown(PROMOTED, service))
+    want_delivered(row, desk, service, own["journal"])
+
+
+def want_once(desk, services):
+    """Each of these services was promoted once."""
+    counts = desk.count("promote")
+    expect("promotions", {counts.get(name) for name in services}, {1})
+
+
+def calls_of_client(world, desk, service, is_old, *words):
+    """The names of the calls of a client, from the one that begins it on, or of those calls that
+    these words of strace choose."""
     log = desk.folder / "calls"
-    expect("a traced client", run_traced(world, desk, ["strace", "-f", "-o", str(log)], words)[0],
-           DONE)
+    add(desk, service)
+    own = begun(desk, service, is_old)
+    front = ["strace", "-f", "-o", str(log), *words]
+    expect("a traced client", run_traced(world, desk, front, promotion(desk, service, own)),
+           (DONE, shown(PROMOTED, service)))
     return NAME.findall(log.read_text())
+
+
+def kill_client(world, desk, service, is_old, names, at):
+    """Kills a client at this one of its calls. Whether it was killed, and whether the command stood
+    in its journal."""
+    row, own = f"{service}: killed at call {at}, {names[at]}", begun(desk, service, is_old)
+    status, output = run_traced(world, desk, killing(desk.folder / "log", names, at),
+                                promotion(desk, service, own))
+    journal = desk.folder / own["journal"]
+    is_asked = journal.exists() and "key" in journal.read_text()
+    if status not in (DONE, *KILLED):
+        raise Wrong(f"{row}: status {status}")
+    if output not in ("", shown(PROMOTED, service)[:-1], shown(PROMOTED, service)):
+        raise Wrong(f"{row}: it wrote {output!r}")
+    want_settled(row, desk, service, own)
+    return status in KILLED, is_asked
 
 
 def try_client_killed(world):
     """The client is killed at each of its calls; the same call again settles the command, once. A
     journal is begun in it, or is there."""
+    found = []
     with world.desk("client-killed") as desk:
-        kills = asked = 0
-        for is_new in (True, False):
-            front = "new" if is_new else "old"
-            add(desk, f"{front}-traced")
-            names = calls_of_client(world, desk, desk.words(
-                "promote", f"{front}-traced", caller=front, journal=f"{front}-traced.journal"))
-            services = [f"{front}-{at}" for at in range(len(names))]
-            add(desk, *services)
-            for at, service in enumerate(services):
-                if at == 0 or names[at] == "exit_group":
-                    continue
-                own = {"caller": service, "journal": f"{service}.journal"}
-                if not is_new:
-                    want(service, desk.do("tick", service, **own), DONE,
-                         shown(("Paused", 1, 20), service))
-                words = desk.words("promote", service, options=("--once", "key"), **own)
-                row = f"{front}: killed at call {at}, {names[at]}"
-                status, output = run_traced(world, desk, killing(desk.folder / "log", names, at),
-                                            words)
-                kills += status == -signal.SIGKILL or status == 128 + signal.SIGKILL
-                asked += "key" in (desk.folder / own["journal"]).read_text() \
-                    if (desk.folder / own["journal"]).exists() else 0
-                if status not in (DONE, -signal.SIGKILL, 128 + signal.SIGKILL):
-                    raise Wrong(f"{row}: status {status}")
-                if output not in ("", shown(PROMOTED, service)[:-1], shown(PROMOTED, service)):
-                    raise Wrong(f"{row}: it wrote {output!r}")
-                for _ in range(2):
-                    want(row, desk.do("promote", service, options=("--once", "key"), **own), DONE,
-                         shown(PROMOTED, service))
-                want_delivered(row, desk, service, own["journal"])
-            counts = desk.count("promote")
-            tried = [name for at, name in enumerate(services)
-                     if at > 0 and names[at] != "exit_group"]
-            expect("promotions", {counts.get(name) for name in tried}, {1})
-        if kills < 60 or not 10 < asked < kills:
-            raise Wrong(f"{kills} kills, in {asked} of them the command stood in the journal")
+        for front, is_old in (("new", False), ("old", True)):
+            names = calls_of_client(world, desk, f"{front}-traced", is_old)
+            services = {at: f"{front}-{at}" for at, name in enumerate(names)
+                        if at > 0 and name != "exit_group"}
+            add(desk, *services.values())
+            found += [kill_client(world, desk, service, is_old, names, at)
+                      for at, service in services.items()]
+            want_once(desk, services.values())
+    kills, asked = map(sum, zip(*found))
+    if kills < max(60, len(found) // 2) or not 10 < asked < kills:
+        raise Wrong(f"{kills} kills, in {asked} of them the command stood in the journal")
     return f"{kills} kills, in {asked} of them the command stood in the journal"
+
+
+def on_journal(desk, service):
+    """The words of strace that choose the calls on a service's journal and its folder."""
+    return ["-P", str(desk.folder / f"{service}.journal"), "-P", str(desk.folder), "-e",
+            "trace=openat,flock,read,pwrite64,fsync,ftruncate"]
+
+
+def fail_call(world, desk, service, is_old, names, at):
+    """Fails this one of the calls on the journal and its folder."""
+    row, own = f"{service}: call {at}, {names[at]}, fails", begun(desk, service, is_old)
+    call, when, log = names[at], names[:at + 1].count(names[at]), desk.folder / "log"
+    fault = "ENOLCK" if call == "flock" else "EIO"
+    ended = world.run_words(
+        ["strace", "-f", "-o", str(log), *on_journal(desk, service),
+         "-e", f"inject={call}:error={fault}:when={when}", world.program,
+         *promotion(desk, service, own)], desk.folder)
+    expect(row, tuple(ended),
+           (LOCAL, "", f"canary: {desk.of_file(NO_JOURNAL_FILE, own['journal'])}\n"))
+    expect(f"{row}: in the log", "(INJECTED)" in log.read_text(), True)
+    want_settled(row, desk, service, own)
 
 
 def try_failing_calls(world):
     """Each call on the journal and its folder fails in turn: the client says so and prints no
     reply, and the same call again settles the command, once."""
+    count = 0
     with world.desk("failing") as desk:
-        calls = "openat,flock,read,pwrite64,fsync,ftruncate"
-        log, count = desk.folder / "log", 0
-        for is_new in (True, False):
-            front = "new" if is_new else "old"
-            services = [f"{front}-{at}" for at in range(40)]
+        for front, is_old in (("new", False), ("old", True)):
+            names = calls_of_client(world, desk, f"{front}-traced", is_old,
+                                    *on_journal(desk, f"{front}-traced"))
+            services = [f"{front}-{at}" for at in range(len(names))]
             add(desk, *services)
             for at, service in enumerate(services):
-                own = {"caller": service, "journal": f"{service}.journal"}
-                if not is_new:
-                    want(service, desk.do("tick", service, **own), DONE,
-                         shown(("Paused", 1, 20), service))
-                words = desk.words("promote", service, options=("--once", "key"), **own)
-                traced = ["strace", "-f", "-o", str(log), "-P", str(desk.folder / own["journal"]),
-                          "-P", str(desk.folder), "-e", f"trace={calls}"]
-                if at == 0:
-                    expect(service, run_traced(world, desk, traced, words),
-                           (DONE, shown(PROMOTED, service)))
-                    names = NAME.findall(log.read_text())
-                    continue
-                if at > len(names):
-                    break
-                call, when = names[at - 1], names[:at].count(names[at - 1])
-                row = f"{front}: call {at}, {call}, fails"
-                traced += ["-e", f"inject={call}:error={'EIO' if call != 'flock' else 'ENOLCK'}"
-                           f":when={when}"]
-                with process([*traced, world.program, *words], cwd=desk.folder, env=environment(),
-                             stdin=subprocess.DEVNULL, stdout=subprocess.PIPE,
-                             stderr=subprocess.PIPE) as client:
-                    found = client.communicate(timeout=60)
-                    expect(row, (client.returncode, *found),
-                           (LOCAL, b"", "canary: {}\n".format(
-                               desk.of_file(NO_JOURNAL_FILE, own["journal"])).encode()))
-                expect(f"{row}: in the log", "(INJECTED)" in log.read_text(), True)
-                for _ in range(2):
-                    want(row, desk.do("promote", service, options=("--once", "key"), **own), DONE,
-                         shown(PROMOTED, service))
-                want_delivered(row, desk, service, own["journal"])
-                count += 1
-        expect("promotions", set(desk.count("promote").values()), {1})
+                fail_call(world, desk, service, is_old, names, at)
+            want_once(desk, services)
+            count += len(services)
     if count < 20:
         raise Wrong(f"only {count} calls failed")
     return f"{count} calls failed"
@@ -160,18 +176,17 @@ def try_taken_path(world):
         add(desk)
         want("tick", desk.do("tick", "web"), DONE, shown(("Paused", 1, 20)))
         whole = (desk.folder / "ops.journal").read_bytes()
-        for name, before in (("old", whole), ("new", None)):
-            for kind, take in TAKES.items():
-                path = desk.folder / f"{name}-{kind}.journal"
-                if before:
-                    path.write_bytes(before)
+        for name, kind in itertools.product(("old", "new"), TAKES):
+            path = desk.folder / f"{name}-{kind}.journal"
+            if name == "old":
+                path.write_bytes(whole)
 
-                def taken(path=path, take=take):
-                    path.unlink(missing_ok=True)
-                    take(path)
-                words = desk.words("promote", "web", journal=path.name)
-                expect(path.name, run_stopped(world, desk, words, path, taken),
-                       (LOCAL, "", f"canary: {desk.of_file(NO_FILE, path.name)}\n"))
+            def taken(path=path, take=TAKES[kind]):
+                path.unlink(missing_ok=True)
+                take(path)
+            words = desk.words("promote", "web", journal=path.name)
+            expect(path.name, run_stopped(world, desk, words, path, taken),
+                   (LOCAL, "", f"canary: {desk.of_file(NO_FILE, path.name)}\n"))
         expect("promotions", desk.count("promote"), {})
 
 
@@ -188,6 +203,44 @@ def attached(desk, *words):
         tracer.wait()
 
 
+def begun_again(desk):
+    """Starts the desk again if it has ended. Whether it had."""
+    has_ended = desk.has_ended()
+    if has_ended:
+        desk.restart()
+    return has_ended
+
+
+def await_kill(desk, client):
+    """Waits until the desk has ended, or its client has, and a little longer: a desk that is killed
+    after its reply is gone a little later."""
+    while client.poll() is None and not desk.has_ended():
+        time.sleep(.005)
+    for _ in range(20):
+        if desk.has_ended():
+            break
+        time.sleep(.01)
+
+
+def kill_desk(world, desk, service, names, at):
+    """Kills the desk at this one of its calls while it settles a promotion, and starts it again:
+    how often it was killed."""
+    call, when = names[at], names[:at + 1].count(names[at])
+    words = desk.words("promote", service, tries=40)
+    with attached(desk, "-e", f"trace={call}",
+                  "-e", f"inject={call}:signal=SIGKILL:when={when}"), process(
+            [world.program, *words], cwd=desk.folder, env=environment(),
+            stdin=subprocess.DEVNULL, stdout=subprocess.PIPE,
+            stderr=subprocess.DEVNULL) as client:
+        await_kill(desk, client)
+        kills = begun_again(desk)
+        output = client.communicate(timeout=60)[0].decode()
+        expect(f"the desk killed at call {at}, {call}", (client.returncode, output),
+               (DONE, shown(PROMOTED, service)))
+    # or later, as it looks at its file once a second
+    return kills + begun_again(desk)
+
+
 def try_desk_killed(world):
     """The desk is killed at each of its calls while it settles a promotion, and started again; the
     client is one process, and goes on."""
@@ -201,31 +254,8 @@ def try_desk_killed(world):
         names = NAME.findall((desk.folder / "calls").read_text())
         services = [f"s{at}" for at in range(len(names))]
         add(desk, *services)
-        kills = 0
-        for at, service in enumerate(services):
-            row = f"the desk killed at call {at}, {names[at]}"
-            call, when = names[at], names[:at + 1].count(names[at])
-            with attached(desk, "-e", f"trace={call}",
-                          "-e", f"inject={call}:signal=SIGKILL:when={when}"):
-                with process([world.program, *desk.words("promote", service, tries=40)],
-                             cwd=desk.folder, env=environment(), stdin=subprocess.DEVNULL,
-                             stdout=subprocess.PIPE, stderr=subprocess.DEVNULL) as client:
-                    while client.poll() is None and not desk.has_ended():
-                        time.sleep(.005)
-                    # a desk that is killed behind its reply is gone a little later
-                    for _ in range(20):
-                        if desk.has_ended():
-                            break
-                        time.sleep(.01)
-                    if desk.has_ended():
-                        kills += 1
-                        desk.restart()
-                    output = client.communicate(timeout=60)[0].decode()
-                    expect(row, (client.returncode, output), (DONE, shown(PROMOTED, service)))
-            # or later, as it looks at its file once a second
-            if desk.has_ended():
-                kills += 1
-                desk.restart()
+        kills = sum(kill_desk(world, desk, service, names, at)
+                    for at, service in enumerate(services))
         if kills < 12:
             raise Wrong(f"only {kills} kills of {len(names)} calls")
         want_delivered("desk killed", desk)
@@ -267,7 +297,7 @@ class Disk:
             self.synced, self.changes = self.with_changes(self.changes), []
 
     def images(self):
-        """All of it, nothing of it, and each first part and each last part of a write alone."""
+        """All of it, nothing of it, and each beginning and each end of a write alone."""
         yield self.synced
         yield self.with_changes(self.changes)
         for at, (place, written) in enumerate(self.changes):
@@ -334,7 +364,7 @@ def power_cuts(desk, service, path, folder):
 
 
 def want_image(call, image, sent, printed):
-    """What a power cut may leave of the journal behind this call."""
+    """What a power cut may leave of the journal after this call."""
     found = journal_of(image)
     if found is None and (sent or not is_new(image)):
         raise Wrong(f"{call}: a power cut leaves {image!r}")

@@ -9,10 +9,10 @@ from journals import records
 from replies import reply
 from reports import NOT_IN_TIME
 from sends import HEADER
-from strangers import JSON, serving, silent_after, soonest, timed
+from strangers import JSON, serving, silent_after
 from world import (
     DONE, FOREIGN, LOST, NO_DESK, PENDING, REFUSED, STARTED, UNREACHABLE, add, answering, ask,
-    environment, expect, free_port, process, shows, want, want_all_said,
+    environment, expect, free_port, process, shows, soonest, timed, want, want_all_said,
 )
 
 OK = shows("web", *STARTED)
@@ -87,6 +87,16 @@ def try_spellings(world):
         expect("65 fields", (found.status, found.output), (PENDING, ""))
 
 
+def in_two_pieces(whole, first):
+    """A server whose reply comes in two pieces, of which the first has so many bytes."""
+    def answer(client):
+        client.recv(65536)
+        client.sendall(whole[:first])
+        time.sleep(.2)
+        client.sendall(whole[first:])
+    return answering(answer)
+
+
 def try_longest_heads(world):
     """A head of 16,384 bytes is one, and one of a byte more is no desk's, in whatever pieces it
     comes."""
@@ -97,17 +107,12 @@ def try_longest_heads(world):
         whole = reply(200, OK, f"{JSON}X: {'x' * (room + more)}\r\n")
         expect(more, whole.index(b"\r\n\r\n") + 4, 16_384 + more)
         for first in (len(whole), len(front), 16_384):
-            def answer(client, whole=whole, first=first):
-                client.recv(65536)
-                client.sendall(whole[:first])
-                time.sleep(.2)
-                client.sendall(whole[first:])
-            with answering(answer) as port:
+            with in_two_pieces(whole, first) as port:
                 found = world.run(["get", "--desk", f"127.0.0.1:{port}", "--tries", "2", "web"],
                                   place)
-                expect(f"{more} {first}", (found.status, found.output), (status, output))
-                if status == PENDING:
-                    want_all_said(f"{more} {first}", found, FOREIGN, NO_DESK)
+            expect(f"{more} {first}", (found.status, found.output), (status, output))
+            want_all_said(f"{more} {first}", found,
+                          *((FOREIGN, NO_DESK) if status == PENDING else ()))
 
 
 def try_longest_replies(world):
@@ -178,7 +183,7 @@ def try_default_times(world):
 
 
 def try_last_second(world):
-    """A whole call ends with its last second, and not with the one behind that."""
+    """A whole call ends with its last second, and not with the one after that."""
     with world.desk("last-second") as desk:
         add(desk)
         found = soonest("watch", 1.9, 2.8, lambda: desk.ask("watch", "--timeout", "2", "web"))

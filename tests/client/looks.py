@@ -3,10 +3,10 @@ the word: parts of client.py."""
 import json
 
 from replies import reply
-from strangers import JSON, body_with, serving, timed
+from strangers import JSON, body_with, serving
 from unread import STANDING, run_with
 from words import on_terminal
-from world import DONE, NO_DESK, PENDING, REFUSED, answering, expect, want
+from world import DONE, NO_DESK, PENDING, REFUSED, answering, expect, timed, want
 
 HELD = 7
 

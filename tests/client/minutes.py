@@ -6,12 +6,11 @@ import os
 import pathlib
 import re
 import shutil
-import signal
 import subprocess
 
 from conversation import without_progress
 from world import (
-    DONE, Wrong, add, environment, expect, free_port, install, running, shows, want,
+    DONE, Wrong, add, environment, expect, free_port, install, process_group, shows, want,
 )
 
 ROOT = pathlib.Path(__file__).resolve().parents[2]
@@ -63,20 +62,11 @@ def run_session(world, name, document, heading):
     place, port, provider = world.place(name), free_port(), free_port()
     (place / "canary-unproved").symlink_to(world.program)
     (place / "examples").symlink_to(ROOT / "examples")
-    session = subprocess.Popen(
-        ["bash", "-c", script_of(code_of(document, heading), port, provider)], cwd=place,
-        env=environment(CANARY_DESK=f"127.0.0.1:{port}"), stdin=subprocess.DEVNULL,
-        stdout=subprocess.PIPE, stderr=subprocess.PIPE, start_new_session=True)
-    session.is_of_group = True
-    running.add(session)
-    try:
+    with process_group(
+            ["bash", "-c", script_of(code_of(document, heading), port, provider)], cwd=place,
+            env=environment(CANARY_DESK=f"127.0.0.1:{port}"), stdin=subprocess.DEVNULL,
+            stdout=subprocess.PIPE, stderr=subprocess.PIPE) as session:
         output, errors = session.communicate(timeout=100)
-    finally:
-        try:
-            os.killpg(session.pid, signal.SIGKILL)
-        except ProcessLookupError:
-            pass
-        running.discard(session)
     return place, output.decode().splitlines(), without_progress(errors).decode()
 
 
@@ -106,7 +96,7 @@ def try_five_minutes(world):
             STARTED, "1 success-rate.e6f 1"])
     expect("README.md: the agent", reported_in(lines[10]), measured(1))
     expect("README.md: the history", history_in(lines[11]), FIRST)
-    expect("README.md, behind the kill", lines[12:14], ["listening", STARTED])
+    expect("README.md, after the kill", lines[12:14], ["listening", STARTED])
     expect("README.md: the agent again", reported_in(lines[14]), measured(2))
     expect("README.md: the history", history_in(lines[15]), FIRST + SECOND)
     end = len(FIRST + SECOND)

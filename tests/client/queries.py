@@ -8,6 +8,7 @@ import time
 from reports import INVALID_NAME, NOT_IN_TIME, NO_SERVICE, add_measured, metric
 from world import (
     DONE, PENDING, REFUSED, WORDS, Caller, Wrong, add, environment, expect, process, rollout, want,
+    want_seconds,
 )
 
 PART = "of a service, 'history' or the number of a run can be asked for"
@@ -109,7 +110,7 @@ def try_watch(world):
 
 
 def try_watch_ends(world):
-    """Each status that may be waited for, a time that is over, and statuses that are none."""
+    """Each status that may be waited for, a time that is over, and invalid statuses."""
     with world.desk("watch-ends") as desk:
         add(desk)
         setup = Caller(desk, "setup")
@@ -128,8 +129,7 @@ def try_watch_ends(world):
         begun = time.monotonic()
         want("not in time", desk.ask("watch", "--timeout", "5", "other"), PENDING, progressing,
              NOT_IN_TIME)
-        if not 5 <= time.monotonic() - begun < 25:
-            raise Wrong(f"watch --timeout 5 took {time.monotonic() - begun} seconds")
+        want_seconds("watch --timeout 5", time.monotonic() - begun, 5, 25)
         with watching(world, desk, "--until", "Degraded", service="other") as watch:
             expect("before the abort", next_line(watch), progressing)
             setup.send({"abort": {"service": "other"}})

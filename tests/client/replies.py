@@ -6,8 +6,8 @@ import time
 
 from world import (
     CONTRADICTION, DONE, FOREIGN, LOST, NOT_BEGUN, NO_DESK, PENDING, PENDING_SAID, PROMOTED,
-    SPENT, STARTED, UNAVAILABLE, UNREACHABLE, Wrong, add, answering, ask, expect, free_port, put, shown,
-    shows, want, want_all_said, want_delivered,
+    SPENT, STARTED, UNAVAILABLE, UNREACHABLE, add, answering, ask, expect, free_port, put, shown,
+    shows, want, want_all_said, want_delivered, want_seconds,
 )
 
 UNREAD = ("the desk cannot read this command, so it will never be settled; another one can take"
@@ -54,7 +54,8 @@ REPLIES = (
     ("a length with a sign", WHOLE.replace(b"Content-Length: ", b"Content-Length: +"), FOREIGN),
     ("a length and chunks", WHOLE.replace(b"\r\n\r\n", b"\r\nTransfer-Encoding: chunked\r\n\r\n"),
      FOREIGN),
-    ("a length and identity", WHOLE.replace(b"\r\n\r\n", b"\r\ntransfer-encoding: identity\r\n\r\n"),
+    ("a length and identity",
+     WHOLE.replace(b"\r\n\r\n", b"\r\ntransfer-encoding: identity\r\n\r\n"),
      FOREIGN),
     ("a length below 0", WHOLE.replace(b"Content-Length: ", b"Content-Length: -"), FOREIGN),
     ("a length of nothing", re.sub(rb"Content-Length: \d+", b"Content-Length:", WHOLE), FOREIGN),
@@ -170,8 +171,7 @@ def try_bytes_and_pauses(world):
         expect("messages", [message for _, message in heard], [wanted] * 6)
         pauses = [after - before for (before, _), (after, _) in zip(heard, heard[1:])]
         for pause, least in zip(pauses, (.1, .2, .4, .8)):
-            if not least <= pause < least + 10:
-                raise Wrong(f"a pause of {pause} in place of {least}")
+            want_seconds("a pause", pause, least, least + 10)
 
 
 def try_stalling_desk(world):
@@ -197,8 +197,7 @@ def try_stalling_desk(world):
                 spent = time.monotonic() - begun
                 want_all_said(row, found, LOST, PENDING_SAID)
                 expect(row, (found.status, found.output), (PENDING, ""))
-                if not 2 <= spent < 15:
-                    raise Wrong(f"{row}: {spent} seconds for two tries of one")
+                want_seconds(f"{row}: two tries of a second", spent, 2, 15)
         # the port takes a connection, and no program does
         with socket.create_server(("127.0.0.1", 0), backlog=1) as server:
             found = desk.do("promote", "web", port=server.getsockname()[1], tries=1, timeout=1)

@@ -2,14 +2,14 @@
 import csv
 import os
 import pathlib
-import shutil
 import subprocess
 import threading
 import time
 
+from book_files import copy
 from world import (
-    BEHIND, DONE, PENDING, PENDING_SAID, REFUSED, WORDS, Caller, Wrong, answering, ask,
-    environment, expect, free_port, install, process, rollout, want, want_delivered,
+    BEHIND, DONE, PENDING, PENDING_SAID, REFUSED, WORDS, Caller, Late, Wrong, answering, ask,
+    environment, expect, free_port, install, process, rollout, want, want_delivered, want_seconds,
 )
 
 AGENT = pathlib.Path(__file__).resolve().parents[2] / "examples" / "operations" / "report"
@@ -62,8 +62,7 @@ def recorded(phase, service="web", run=1):
 
 def measured(desk, service="web"):
     """The metric, ordinal, result and failure of each measurement, by an export of a copy."""
-    for end in ("", "-wal"):
-        shutil.copy(desk.folder / f"desk.db{end}", desk.folder / f"exported.db{end}")
+    copy(desk.folder / "desk.db", desk.folder / "exported.db")
     found = desk.world.run(["export", "--db", "exported.db", "--caller", "a", service], desk.folder)
     expect("export", found.status, 0)
     rows = csv.DictReader(found.output.splitlines(keepends=True))
@@ -95,7 +94,7 @@ def try_reports(world):
         other = Caller(desk, "other")
         other.send({"report": {"service": "web", "run": 1, "entries": [
             {"metric": "m", "ordinal": 6, "taken": int(time.time()), "result": 7}]}})
-        want("behind another", desk.do("report", "web", "1", "m", "8", **agent), DONE,
+        want("after another", desk.do("report", "web", "1", "m", "8", **agent), DONE,
              recorded("Successful"))
         expect("measurements", measured(desk), [
             ("m", 1, "5", ""), ("m", 2, "[1;2]", ""), ("m", 3, "", text), ("m", 4, "", "-5"),
@@ -110,7 +109,7 @@ def try_reports(world):
 
 def try_pending_report(world):
     """A report that is pending is sent again as it was, with its ordinal and its moment; another
-    one gets the ordinal behind it."""
+    one gets the ordinal after it."""
     with world.desk("pending-report") as desk:
         add_measured(desk, metric("m", "0s"))
 
@@ -131,7 +130,7 @@ def try_pending_report(world):
         desk.kill()
         want("no desk", desk.do("tick", "web", tries=1), PENDING, said=PENDING_SAID)
         desk.start()
-        want("behind", desk.do("report", "web", "1", "m", "6"), DONE, recorded("Successful"),
+        want("after it", desk.do("report", "web", "1", "m", "6"), DONE, recorded("Successful"),
              BEHIND)
         expect("two measurements", measured(desk), [("m", 1, "5", ""), ("m", 2, "6", "")])
         want_delivered("pending report", desk)
@@ -248,8 +247,19 @@ def try_agent(world):
         call("no result before another metric", WORDS, recorded("Error", "halves"), "halves")
 
 
+def want_too_early(desk, ordinal, interval):
+    """The report after the one with this ordinal is refused, before so many seconds are over."""
+    found, ended = desk.do("report", "web", "1", "m", "5"), time.time()
+    (taken,), = desk.rows("SELECT taken FROM measurement WHERE service = 'web' AND metric = 0"
+                          " AND ordinal = ?", ordinal)
+    if found.status == DONE and ended >= taken + interval:
+        raise Late("a report that is to be too early came too late")
+    expect("too early", (found.status, found.output),
+           (REFUSED, f'{{"at":0,"code":"too-early","due":{taken + interval}}}\n'))
+
+
 def try_due(world):
-    """What is due, and waiting for it: the report behind it is never too early."""
+    """What is due, and waiting for it: the report after it is never too early."""
     with world.desk("due") as desk:
         add_measured(desk, metric("m", "3s"), metric("slow", "1h"))
         add_measured(desk, metric("slow", "1h"), name="seldom")
@@ -263,8 +273,7 @@ def try_due(world):
         begun = time.monotonic()
         want("none in time", desk.ask("due", "--wait", "--timeout", "2", "seldom"), PENDING,
              said=NOT_IN_TIME)
-        if not 2 <= time.monotonic() - begun < 20:
-            raise Wrong(f"due --timeout 2 took {time.monotonic() - begun} seconds")
+        want_seconds("due --timeout 2", time.monotonic() - begun, 2, 20)
         for words in (["plain"], ["--wait", "plain"]):
             want("no run", desk.ask("due", *words), REFUSED)
         for words in (["none"], ["--wait", "none"]):
@@ -276,11 +285,7 @@ def try_due(world):
                  f"1 m {ordinal}\n")
             want(f"report {ordinal}", desk.do("report", "web", "1", "m", "5"), DONE,
                  recorded("Successful"))
-        too_early = desk.do("report", "web", "1", "m", "5")
-        taken = desk.rows("SELECT max(taken) FROM measurement WHERE metric = 0")[0][0]
-        if too_early.status == REFUSED:
-            expect("too early", too_early.output,
-                   f'{{"at":0,"code":"too-early","due":{taken + 3}}}\n')
+        want_too_early(desk, 3, 3)
         # the run ends while a call waits
         with_wait = ["due", "--wait", "seldom"]
         ending = threading.Timer(.5, lambda: setup.send({"promoteFull": {"service": "seldom"}}))
@@ -304,7 +309,7 @@ def add_analysed(desk, name, background, step):
 
 
 def try_due_of_two_runs(world):
-    """What is due of either of two open runs is told, whichever of them waits."""
+    """What is due of either of two open runs is reported, whichever of them waits."""
     with world.desk("due-of-two-runs") as desk:
         seldom = {**metric("seldom", "1h"), "count": 2}
         often = {**metric("often", "0s"), "count": 9}

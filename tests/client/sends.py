@@ -1,5 +1,4 @@
 """Measurement files: parts of client.py."""
-import shutil
 import subprocess
 import time
 
@@ -44,8 +43,8 @@ def lines_of(count):
 
 
 def want_sent(row, ended, status, output, counts, said=None):
-    """The client ended with this status and output, said this sentence, if any, and counted the rows
-    that are recorded, that repeat a measurement, and that are refused."""
+    """The client ended with this status and output, said this sentence, if any, and counted the
+    rows that are recorded, that repeat a measurement, and that are refused."""
     recorded, repeated, refused = counts
     lines = [] if said is None else [f"canary: {said}"]
     lines.append(f"canary: rows recorded: {recorded}, repeated: {repeated}, refused: {refused}")
@@ -55,6 +54,20 @@ def want_sent(row, ended, status, output, counts, said=None):
 
 def counted(desk):
     return desk.rows("SELECT count(*), count(DISTINCT ordinal), max(ordinal) FROM measurement")[0]
+
+
+def kill_sending(words, desk, count, with_desk):
+    """Kills a client that has written so many lines, and before that the desk, if it is to be. How
+    it ended, and what it wrote."""
+    with process(words, cwd=desk.folder, env=environment(), stdin=subprocess.DEVNULL,
+                 stdout=subprocess.PIPE, stderr=subprocess.DEVNULL, pipesize=PIPE) as client:
+        found = b"".join(client.stdout.readline() for _ in range(count))
+        if with_desk:
+            desk.restart()
+            found += client.stdout.readline()
+        client.kill()
+        found += client.stdout.read()
+        return client.wait(), found
 
 
 def try_send(world):
@@ -67,16 +80,8 @@ def try_send(world):
         words = [world.program, "send", "--desk", f"127.0.0.1:{desk.port}", "--tries", "100",
                  "rows.csv"]
         for at in range(6):
-            with process(words, cwd=desk.folder, env=environment(), stdin=subprocess.DEVNULL,
-                         stdout=subprocess.PIPE, stderr=subprocess.DEVNULL,
-                         pipesize=PIPE) as client:
-                found = b"".join(client.stdout.readline() for _ in range(1 + 40 * at))
-                if at == 3:
-                    desk.restart()
-                    found += client.stdout.readline()
-                client.kill()
-                found += client.stdout.read()
-                kills += client.wait() < 0
+            status, found = kill_sending(words, desk, 1 + 40 * at, at == 3)
+            kills += status < 0
             if not whole.startswith(found.decode()):
                 raise Wrong(f"kill {at}: it wrote {found[-300:]!r}")
         expect("kills", kills, 6)
@@ -93,7 +98,7 @@ def try_send(world):
 
 
 def try_rows(world):
-    """Rows that are refused, missing or changed, and files that are none."""
+    """Rows that are refused, and files that have other rows in their place."""
     with world.desk("rows") as desk:
         add_measured(desk, metric("m", "0s"))
         taken = int(time.time())
@@ -118,8 +123,19 @@ def try_rows(world):
                    + refused[2])
         want_sent("a row is changed", desk.ask("send", "changed.csv"), CONTRADICTION,
                   line(1) + '2 409 {"code":"reused"}\n', (1, 0, 0), ROW_REUSED)
+        # a file in which a desk that was restored lacks a row
+        desk.write("more.csv", HEADER + "".join(refused) + row % (9, 5, 5))
+        want_sent("ahead", desk.ask("send", "more.csv"), CONTRADICTION,
+                  lines + '11 409 {"code":"ahead","expected":8}\n', (3, 1, 6), ROW_AHEAD)
         expect("measurements", counted(desk), (4, 4, 4))
-        desk.write("other.csv", refused[0])
+
+
+def try_no_rows(world):
+    """Files without a header, without rows, that are no files; and no desk to which to send."""
+    with world.desk("no-rows") as desk:
+        add_measured(desk, metric("m", "0s"))
+        row = f"agent,1,web,1,m,1,{int(time.time())},5,\n"
+        desk.write("other.csv", row)
         want("no header", desk.ask("send", "other.csv"), WORDS, said=NO_HEADER)
         desk.write("empty.csv", "")
         want_sent("an empty file", desk.ask("send", "empty.csv"), DONE, "", (0, 0, 0))
@@ -127,17 +143,12 @@ def try_rows(world):
         want_sent("a header alone", desk.ask("send", "header.csv"), DONE, "", (0, 0, 0))
         for name in ("none.csv", "."):
             want(name, desk.ask("send", name), LOCAL, said=NO_FILE)
-        before = desk.kept("agent")
+        desk.write("rows.csv", HEADER + row)
         found = world.run(["send", "--desk", f"127.0.0.1:{free_port()}", "--tries", "2",
-                           "refused.csv"], desk.folder)
+                           "rows.csv"], desk.folder)
         want("no desk", found, PENDING, said=ROW_PENDING)
-        expect("kept", desk.kept("agent"), before)
-        # a file in which a desk that was restored lacks a row
-        shutil.copy(desk.folder / "refused.csv", desk.folder / "more.csv")
-        with open(desk.folder / "more.csv", "a", encoding="utf-8") as more:
-            more.write(row % (9, 5, 5))
-        want_sent("ahead", desk.ask("send", "more.csv"), CONTRADICTION,
-                  lines + '11 409 {"code":"ahead","expected":8}\n', (3, 1, 6), ROW_AHEAD)
+        expect("kept", desk.kept("agent"), [])
+        want_sent("a desk", desk.ask("send", "rows.csv"), DONE, line(1), (1, 0, 0))
 
 
 def try_rows_again(world):

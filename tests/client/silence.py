@@ -12,8 +12,8 @@ import time
 
 from reports import metric
 from world import (
-    DONE, LOCAL, REFUSED, WORDS, Caller, Wrong, add, answering, ask, environment, expect,
-    process, rollout, running, want, wait_until,
+    DONE, LOCAL, REFUSED, WORDS, Caller, Wrong, add, answering, ask, environment, expect, process,
+    process_group, rollout, want, wait_until,
 )
 
 HELD = 7
@@ -74,15 +74,11 @@ def kill_watchdog(desk, service):
         come.set()
         client.recv(1)
 
-    with answering(answer) as port, process(
-            [OPERATIONS / "watchdog", "1", service], cwd=desk.folder, start_new_session=True,
+    with answering(answer) as port, process_group(
+            [OPERATIONS / "watchdog", "1", service], cwd=desk.folder,
             env=variables(desk, WATCHDOG_FOLDER=str(desk.folder), CANARY_DESK=f"127.0.0.1:{port}"),
-            stdin=subprocess.DEVNULL, stderr=subprocess.DEVNULL) as started:
-        started.is_of_group = True
-        try:
-            expect("an abort is sent", come.wait(60), True)
-        finally:
-            os.killpg(started.pid, signal.SIGKILL)
+            stdin=subprocess.DEVNULL, stderr=subprocess.DEVNULL):
+        expect("an abort is sent", come.wait(60), True)
 
 
 def want_late_on_page(desk, measurement, name="web"):
@@ -304,14 +300,11 @@ def try_json_forever(world):
 def until_done(desk, words):
     """Somebody asks a command again and again until the desk does it."""
     line = f"until canary do --as other --journal other.journal {words}; do sleep 0.1; done"
-    asks = subprocess.Popen(["bash", "-c", line], cwd=desk.folder, env=variables(desk),
-                            stdin=subprocess.DEVNULL, stdout=subprocess.DEVNULL,
-                            stderr=subprocess.DEVNULL, start_new_session=True)
-    asks.is_of_group = True
-    running.add(asks)
-    yield
-    expect(words, asks.wait(60), DONE)
-    running.discard(asks)
+    with process_group(["bash", "-c", line], cwd=desk.folder, env=variables(desk),
+                       stdin=subprocess.DEVNULL, stdout=subprocess.DEVNULL,
+                       stderr=subprocess.DEVNULL) as asks:
+        yield
+        expect(words, asks.wait(60), DONE)
 
 
 def workflow():
@@ -329,18 +322,14 @@ def run_workflow(desk, key, version, seconds=60):
     statuses = []
     for command in workflow()[:-1]:
         command = command.replace("--timeout 3600", f"--timeout {seconds}")
-        job = subprocess.Popen(
-            ["bash", "--noprofile", "--norc", "-eo", "pipefail", "-c", command], cwd=desk.folder,
-            env=variables(desk, KEY=key, VERSION=version, CANARY_AS="deploy",
-                          CANARY_JOURNAL=str(desk.folder / "deploy.journal")),
-            stdin=subprocess.DEVNULL, stdout=subprocess.DEVNULL, stderr=subprocess.PIPE,
-            start_new_session=True)
-        job.is_of_group = True
-        running.add(job)
-        job.communicate(timeout=seconds + 60)
-        running.discard(job)
-        statuses.append(job.returncode)
-        if job.returncode != 0:
+        with process_group(
+                ["bash", "--noprofile", "--norc", "-eo", "pipefail", "-c", command],
+                cwd=desk.folder, stdin=subprocess.DEVNULL, stdout=subprocess.DEVNULL,
+                stderr=subprocess.DEVNULL, env=variables(
+                    desk, KEY=key, VERSION=version, CANARY_AS="deploy",
+                    CANARY_JOURNAL=str(desk.folder / "deploy.journal"))) as job:
+            statuses.append(job.wait(seconds + 60))
+        if statuses[-1] != 0:
             break
     return statuses
 
@@ -362,8 +351,8 @@ def try_workflow(world):
         expect("a person", desk.do("promote", "web").status, DONE)
         expect("again", run_workflow(desk, "1", "v2"), [DONE, DONE, DONE, DONE])
         expect("promoted by a person, and by the job", desk.count("promote"), {"web": 2})
-        lasted = desk.rows("SELECT moment FROM history WHERE service = 'web' AND line LIKE"
-                           " 'step 3 %' OR line LIKE 'step 4 %' ORDER BY place")
+        lasted = desk.rows("SELECT moment FROM history WHERE service = 'web' AND"
+                           " (line LIKE 'step 3 %' OR line LIKE 'step 4 %') ORDER BY place")
         expect("the timed pause", lasted[1][0] - lasted[0][0], 3)
         before = desk.rows("SELECT count(*) FROM history")
         expect("once more", run_workflow(desk, "1", "v2"), [DONE, DONE, DONE, DONE])
@@ -383,8 +372,8 @@ def try_dying(world):
         desk.kill()
         time.sleep(3)
         desk.start()
-        expect("an analysis step waits", (state(desk, "step")["status"], state(desk, "step")["open"]),
-               ("Progressing", [1]))
+        found = state(desk, "step")
+        expect("an analysis step waits", (found["status"], found["open"]), ("Progressing", [1]))
         expect("its measurement is late", desk.ask("due", "--late", "1", "step").status, DONE)
         expect("timed pauses have ended", state(desk, "timed")["status"], "Healthy")
         expect("a background without a measurement",

@@ -3,6 +3,7 @@ client.py."""
 import contextlib
 import pathlib
 import random
+import re
 import subprocess
 import sys
 import time
@@ -13,6 +14,8 @@ from world import (
 )
 
 HERE = pathlib.Path(__file__).parent
+# What the proxy makes of some messages.
+FATES = ("lost", "unanswered", "cut", "came late")
 # How many services each storm has: in the gate, and with --all.
 SERVICES = {False: 12, True: 50}
 
@@ -26,7 +29,10 @@ def chaos(desk, seed):
 
         def done():
             proxy.stdin.close()
-            return proxy.stdout.read().decode().strip()
+            told = proxy.stdout.read().decode().strip()
+            if missing := [fate for fate in FATES if not re.search(rf"\d {fate}\b", told)]:
+                raise Wrong(f"of no message the proxy says: {', '.join(missing)}: {told!r}")
+            return told
 
         yield port, done
 
@@ -128,4 +134,6 @@ def try_storm_of_others(world):
             wanted = {DONE: [(0, 1)], LATE: [(1, 0)], REFUSED: [(1, 0)]}[status]
             if both not in wanted:
                 raise Wrong(f"{name}: status {status}, was pending: {was_pending}, acted {both}")
+        if not any(was_pending for _, was_pending in acted.values()):
+            raise Wrong("no command waited when another one came in its place")
     return f"{services} pairs, {late} of them too late, {storm.told()}; the proxy: {told}"

@@ -11,7 +11,7 @@ from sends import HEADER, ROW_PENDING
 from words import on_terminal
 from world import (
     CONTRADICTION, DONE, FOREIGN, MARKS, NO_DESK, PENDING, STARTED, Wrong, add, answering,
-    environment, expect, free_port, running, shown, shows, want, want_all_said,
+    environment, expect, free_port, running, shown, shows, soonest, want, want_all_said,
 )
 
 ROW_UNREAD = ("the desk cannot read this row, so it will never be settled; nothing was sent after"
@@ -42,6 +42,9 @@ def body_with(**members):
     return json.dumps(members, ensure_ascii=False, separators=(",", ":"), sort_keys=True)
 
 
+ESCAPED = "".join(f"\\u{ord(each):04x}" if ord(each) in MARKS else each for each in NAME)
+
+
 def try_marks(world):
     """What a server writes into a name, a label or a code is shown as text: on a terminal, and in
     the JSON for scripts, which has the same value."""
@@ -49,8 +52,7 @@ def try_marks(world):
     service = body_with(code="ok", service=NAME, status="Healthy", step=4, version=NAME, weight=100,
                         moment=5, open=[1], hold="none")
     run = body_with(code="ok", metrics=[{"due": 5, "measurements": 2, "name": NAME}])
-    escaped = "".join(f"\\u{ord(each):04x}" if ord(each) in MARKS else each for each in NAME)
-    line = f"{escaped} Healthy, step 4, weight 100%, version {escaped}\n"
+    line = f"{ESCAPED} Healthy, step 4, weight 100%, version {ESCAPED}\n"
     with serving(reply(200, service, JSON)) as port:
         at = ["--desk", f"127.0.0.1:{port}", "--tries", "1"]
         for part in ([], ["history"], ["1"]):
@@ -66,12 +68,17 @@ def try_marks(world):
         want("watch", world.run(["watch", "--desk", f"127.0.0.1:{port}", "web"], place), DONE, line)
     with serving(reply(200, service, JSON), reply(200, run, JSON)) as port:
         want("due", world.run(["due", "--desk", f"127.0.0.1:{port}", "web"], place), DONE,
-             f"1 {escaped} 3\n")
+             f"1 {ESCAPED} 3\n")
     spaced = '{"code":\t"ok",\r\n"step":\n1}'
     with serving(reply(200, spaced, JSON)) as port:
         found = world.run(["get", "--desk", f"127.0.0.1:{port}", "web"], place)
         want_no_marks("white space", found.output)
         expect("white space", json.loads(found.output), json.loads(spaced))
+
+
+def try_marks_of_commands(world):
+    """What a server writes into the reply to a command or a row is shown as text, also once the
+    journal has the reply."""
     with world.desk("marks-of-do") as desk:
         add(desk)
         want("tick", desk.do("tick", "web"), DONE, shown(STARTED))
@@ -79,7 +86,7 @@ def try_marks(world):
         with serving(reply(200, text, JSON)) as port:
             words = desk.words("promote", "web", port=port, options=("--once", "k"))
             expect("do on a terminal", on_terminal(world, words, desk.folder),
-                   (DONE, f"{escaped} Paused, step 1, weight 20%\n"))
+                   (DONE, f"{ESCAPED} Paused, step 1, weight 20%\n"))
             found = desk.do("promote", "web", port=port, options=("--once", "k"))
             want_no_marks("do again", found.output)
             expect("do again", json.loads(found.output), json.loads(text))
@@ -109,30 +116,6 @@ def try_rows_of_strangers(world):
                          (411, "length"), (413, "too-long")):
         with serving(reply(status, f'{{"code":"{code}"}}')) as port:
             want(code, send(port), CONTRADICTION, f'1 {status} {{"code":"{code}"}}\n', ROW_UNREAD)
-
-
-def timed(row, least, most, call):
-    """What came of a call that takes so many seconds."""
-    begun = time.monotonic()
-    found = call()
-    spent = time.monotonic() - begun
-    if not least <= spent <= most:
-        raise Wrong(f"{row}: {spent:.2f} seconds, in place of {least} to {most}")
-    return found
-
-
-def soonest(row, least, most, call):
-    """What came of a call that takes so many seconds where the machine is not busy: each takes as
-    long at least, and of five one is over in time."""
-    for _ in range(4):
-        begun = time.monotonic()
-        found = call()
-        spent = time.monotonic() - begun
-        if spent < least:
-            raise Wrong(f"{row}: {spent:.2f} seconds, in place of {least} at least")
-        if spent <= most:
-            return found
-    return timed(row, least, most, call)
 
 
 def silent_after(*pieces):
@@ -242,8 +225,9 @@ def try_interim_replies(world):
     """Replies that others follow are ignored (RFC 9110, section 15.2), but for 101."""
     place = world.place("interim")
     whole = reply(200, shows("web", *STARTED), JSON)
-    rows = ((b"HTTP/1.1 100 Continue\r\n\r\n", DONE), (b"HTTP/1.1 103 Early Hints\r\nLink: x\r\n\r\n"
-            b"HTTP/1.1 102 Processing\r\n\r\n", DONE),
+    rows = ((b"HTTP/1.1 100 Continue\r\n\r\n", DONE),
+            (b"HTTP/1.1 103 Early Hints\r\nLink: x\r\n\r\n"
+             b"HTTP/1.1 102 Processing\r\n\r\n", DONE),
             (b"HTTP/1.1 101 Switching Protocols\r\nUpgrade: x\r\n\r\n", PENDING),
             (b"HTTP/1.1 204 No Content\r\n\r\n", PENDING),
             (b"HTTP/1.1 304 Not Modified\r\n\r\n", PENDING))

@@ -43,13 +43,12 @@ def try_variables_not_utf8(world):
             "agent": (["--once", "none.yaml"], (VARIABLES[0], VARIABLES[3])),
         }
         before = desk.kept()
-        for word, (words, names) in calls.items():
-            for name in names:
-                for value in (NOT_UTF8, right[name] + NOT_UTF8):
-                    found = world.run([word, *words], desk.folder,
-                                      variables={**right, name: value})
-                    want(f"{word}: {name}", found, WORDS, said=not_utf8(name))
-                    want_all_said(f"{word}: {name}", found, not_utf8(name))
+        rows = [(word, words, name, value) for word, (words, names) in calls.items()
+                for name in names for value in (NOT_UTF8, right[name] + NOT_UTF8)]
+        for word, words, name, value in rows:
+            found = world.run([word, *words], desk.folder, variables={**right, name: value})
+            want(f"{word}: {name}", found, WORDS, said=not_utf8(name))
+            want_all_said(f"{word}: {name}", found, not_utf8(name))
         expect("what is made", sorted(each.name for each in desk.folder.iterdir()
                                       if "journal" in each.name), [])
         expect("what is asked", desk.kept(), before)
@@ -141,8 +140,8 @@ def try_agent_unread(world):
 
 
 def try_watch_unread(world):
-    """The same of a service and of its history that `watch` cannot read. A call without end says so,
-    and goes on."""
+    """The same of a service and of its history that `watch` cannot read. A call without end says
+    so, and goes on."""
     place = world.place("watch-unread")
     standing = reply(200, body_with(**STANDING), JSON)
     lines = reply(200, body_with(code="ok", lines=["2026-01-01T00:00:00Z step 1 pause"]), JSON)
@@ -160,7 +159,8 @@ def try_watch_unread(world):
     # a pause that would end after the last moment does not end
     late = reply(200, body_with(code="ok", lines=["9998-12-31T23:59:30Z step 1 pause 60s"]), JSON)
     with serving(standing, late) as port:
-        found = world.run(["watch", "--until", "Paused", "--desk", f"127.0.0.1:{port}", "web"], place)
+        found = world.run(["watch", "--until", "Paused", "--desk", f"127.0.0.1:{port}", "web"],
+                          place)
         want("a pause past the last moment", found, DONE,
              "web Paused, step 1, weight 20%, pause of 60 s, which does not end\n")
     with serving(standing, late) as port:
@@ -210,33 +210,35 @@ def try_report_unread(world):
                ["report"]["entries"][0]["ordinal"], 10 ** 9)
 
 
+def unreadable():
+    """A server that answers each command as one that it cannot read."""
+    def answer(client):
+        message = client.recv(65536)
+        client.sendall(run_with() if message.startswith(b"GET")
+                       else reply(400, '{"code":"unreadable"}', JSON))
+    return answering(answer)
+
+
 def try_given_up(world):
     """A command that the desk cannot read gives way to another one, once, also a report; then the
     journal is moved away, and what was pending in it never acts."""
-    unread = reply(400, '{"code":"unreadable"}', JSON)
+    def report(row, port):
+        want(row, desk.do("report", "web", "1", "m", "5", port=port), CONTRADICTION, said=UNREAD)
+
     with world.desk("given-up") as desk:
         add_measured(desk, metric("m", "0s"))
         want("tick", desk.do("tick", "web"), DONE, shown(STARTED))
-
-        def answer(client):
-            message = client.recv(65536)
-            client.sendall(run_with() if message.startswith(b"GET") else unread)
-
-        for word in ("given-up", "stuck"):
-            with answering(answer) as port:
-                want(word, desk.do("report", "web", "1", "m", "5", port=port), CONTRADICTION,
-                     said=UNREAD)
-                if word == "stuck":
-                    for _ in range(2):
-                        want("a second", desk.do("tick", "web", port=port,
-                                                 options=("--instead",)), CONTRADICTION,
-                             said=UNREAD)
-                    want("a third", desk.do("abort", "web", port=port, options=("--instead",)),
-                         CONTRADICTION, said=REPLACED)
-            if word == "given-up":
-                want("instead", desk.do("tick", "web", options=("--instead",)), DONE,
-                     shown(STARTED))
-                want_delivered("given up", desk)
+        with unreadable() as port:
+            report("given up", port)
+        want("instead", desk.do("tick", "web", options=("--instead",)), DONE, shown(STARTED))
+        want_delivered("given up", desk)
+        with unreadable() as port:
+            report("stuck", port)
+            for _ in range(2):
+                want("a second", desk.do("tick", "web", port=port, options=("--instead",)),
+                     CONTRADICTION, said=UNREAD)
+            want("a third", desk.do("abort", "web", port=port, options=("--instead",)),
+                 CONTRADICTION, said=REPLACED)
         (desk.folder / "ops.journal").rename(desk.folder / "ops.journal.old")
         want("a new journal", desk.do("tick", "web"), DONE, shown(STARTED))
         want_delivered("a new journal", desk)

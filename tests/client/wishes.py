@@ -66,32 +66,38 @@ def try_once(world):
         want_delivered("once", desk)
 
 
+def kill_waiting(world, desk, is_passed):
+    """Kills a promotion under a key while it waits, before its message or after it is with the
+    desk."""
+    come = []
+
+    def stall(client):
+        message = client.recv(65536)
+        if b"/requests/1 " not in message:
+            client.sendall(ask(desk.port, message))
+            return
+        if is_passed:
+            ask(desk.port, message)
+        come.append(message)
+        client.recv(1)
+
+    with answering(stall) as port, process(
+            [world.program, *desk.words("promote", "web", port=port, options=KEY, timeout=60)],
+            cwd=desk.folder, env=environment(), stdin=subprocess.DEVNULL,
+            stdout=subprocess.PIPE, stderr=subprocess.DEVNULL) as client:
+        while not come and client.poll() is None:
+            time.sleep(.01)
+        client.kill()
+        expect("what it wrote", client.communicate()[0], b"")
+
+
 def try_once_killed(world):
-    """A call that was killed while it waited, before or behind the desk, is found by its key."""
+    """A call that was killed while it waited, before the desk had it or after, is found by its
+    key."""
     for name, is_passed in (("lost", False), ("unanswered", True)):
         with world.desk(f"once-{name}") as desk:
             add(desk)
-            come = []
-
-            def stall(client, desk=desk, come=come, is_passed=is_passed):
-                message = client.recv(65536)
-                if b"/requests/1 " not in message:
-                    client.sendall(ask(desk.port, message))
-                    return
-                if is_passed:
-                    ask(desk.port, message)
-                come.append(message)
-                client.recv(1)
-
-            with answering(stall) as port, process(
-                    [world.program, *desk.words("promote", "web", port=port, options=KEY,
-                                                timeout=60)],
-                    cwd=desk.folder, env=environment(), stdin=subprocess.DEVNULL,
-                    stdout=subprocess.PIPE, stderr=subprocess.DEVNULL) as client:
-                while not come and client.poll() is None:
-                    time.sleep(.01)
-                client.kill()
-                expect(name, client.communicate()[0], b"")
+            kill_waiting(world, desk, is_passed)
             expect(f"{name}: pending", desk.journal().pending.key, KEY[1])
             for row in ("first", "second"):
                 want(f"{name}: {row}", desk.do("promote", "web", options=KEY), DONE,

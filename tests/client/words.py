@@ -2,18 +2,17 @@
 import json
 import os
 import pathlib
-import select
 import signal
 import subprocess
 import threading
 import time
-import tty
 
 from reports import COMMAND, INVALID_NAME, add_measured, metric
+from screen import new_terminal, read_terminal
 from world import (
     ADDED, CONTRADICTION, DONE, ENDED, KEY_USED, LOCAL, PENDING, PROMOTED, REFUSED, STARTED, WORDS,
-    Caller, Wrong, add, answering, ask, environment, expect, free_port, process, running, shown,
-    two_pauses, wait_until, want, want_delivered,
+    Caller, Wrong, add, answering, ask, environment, expect, free_port, process, shown,
+    two_pauses, wait_until, want, want_delivered, want_seconds,
 )
 
 ADDRESSES = pathlib.Path(__file__).with_name("addresses.c")
@@ -40,6 +39,10 @@ def try_variables(world):
                  "CANARY_JOURNAL": str(desk.folder / "none" / "wrong.journal")}
         words = {"CANARY_DESK": ["--desk", right["CANARY_DESK"]], "CANARY_AS": ["--as", "ops"],
                  "CANARY_JOURNAL": ["--journal", right["CANARY_JOURNAL"]]}
+
+        def tick(variables, *options):
+            return world.run(["do", *options, "tick", "web"], desk.folder, variables=variables)
+
         want("variables", world.run(["do", "promote", "web"], desk.folder, variables=right), DONE,
              shown(PROMOTED))
         given = [word for option in words.values() for word in option]
@@ -47,30 +50,38 @@ def try_variables(world):
              shown(PROMOTED, "one"))
         want("both", world.run(["do", *given, "promote", "two"], desk.folder, variables=wrong),
              DONE, shown(PROMOTED, "two"))
-        for name, said in (("CANARY_DESK", ADDRESS), ("CANARY_AS", BAD_CALLER),
-                           ("CANARY_JOURNAL", None)):
-            found = world.run(["do", "tick", "web"], desk.folder,
-                              variables={**right, name: wrong[name]})
-            expect(name, found.status, LOCAL if said is None else WORDS)
-            if said is not None:
-                want(name, found, WORDS, said=said)
-            want(f"{name} and its option",
-                 world.run(["do", *words[name], "tick", "web"], desk.folder,
-                           variables={**right, name: wrong[name]}), DONE, shown(PROMOTED))
+        for name, said in (("CANARY_DESK", ADDRESS), ("CANARY_AS", BAD_CALLER)):
+            want(name, tick({**right, name: wrong[name]}), WORDS, said=said)
+        nowhere = {**right, "CANARY_JOURNAL": wrong["CANARY_JOURNAL"]}
+        expect("no folder", tick(nowhere).status, LOCAL)
+        for name, option in words.items():
+            want(f"{name} and its option", tick({**right, name: wrong[name]}, *option), DONE,
+                 shown(PROMOTED))
         for name, said in (("CANARY_AS", NO_CALLER), ("CANARY_JOURNAL", NO_JOURNAL)):
             left = {other: value for other, value in right.items() if other != name}
-            want(f"no {name}", world.run(["do", "tick", "web"], desk.folder, variables=left), WORDS,
-                 said=said)
-        want("an empty journal", world.run(["do", "tick", "web"], desk.folder,
-                                           variables={**right, "CANARY_JOURNAL": ""}), WORDS,
-             said=NO_JOURNAL)
-        only_desk = {"CANARY_DESK": right["CANARY_DESK"]}
-        want("get", world.run(["get", "none"], desk.folder, variables=only_desk), REFUSED,
-             '{"code":"unknown-service"}\n')
-        want("watch", world.run(["watch", "--until", "Paused", "web"], desk.folder,
-                                variables=only_desk), DONE,
-             "web Paused, step 3, weight 50%, version v2, waits for a promotion\n")
-        want("due", world.run(["due", "web"], desk.folder, variables=only_desk), REFUSED)
+            want(f"no {name}", tick(left), WORDS, said=said)
+        want("an empty journal", tick({**right, "CANARY_JOURNAL": ""}), WORDS, said=NO_JOURNAL)
+        want_delivered("variables", desk)
+
+
+def try_variables_of_queries(world):
+    """A query needs the variable of the desk alone."""
+    with world.desk("variables-of-queries") as desk:
+        add(desk)
+
+        def ask(*words):
+            return world.run(words, desk.folder,
+                             variables={"CANARY_DESK": f"127.0.0.1:{desk.port}"})
+
+        want("get", ask("get", "none"), REFUSED, '{"code":"unknown-service"}\n')
+        want("watch", ask("watch", "--until", "Paused", "web"), DONE,
+             "web Paused, step 1, weight 20%, version v2, waits for a promotion\n")
+        want("due", ask("due", "web"), REFUSED)
+
+
+def try_invalid_options(world):
+    """Invalid addresses of each command, and callers with invalid names."""
+    with world.desk("invalid-options") as desk:
         for name in ("nowhere", "", ":80", "127.0.0.1", "localhost:", "localhost:http",
                      "127.0.0.1:65536", "http://127.0.0.1:80", "no host:80", "a/b:80", "\u00f6:80"):
             for command in (["do", "--as", "ops", "--journal", "new", "tick", "web"],
@@ -79,7 +90,8 @@ def try_variables(world):
                 want(f"{command} at {name!r}", found, WORDS, said=ADDRESS)
         for name in ("", "Ops", "-ops", "ops-", "o" * 64, "o p", "\u00f6"):
             want(repr(name), desk.do("tick", "web", caller=name), WORDS, said=BAD_CALLER)
-        want_delivered("variables", desk)
+        expect("no journal", [each.name for each in desk.folder.glob("*") if
+                              each.suffix == ".journal" or each.name == "new"], [])
 
 
 def try_host_names(world):
@@ -117,7 +129,7 @@ def try_two_addresses(world):
 
 
 def try_words(world):
-    """Words that are no command, manifests that no desk takes, and options that are none."""
+    """Words that are no command, manifests that no desk takes, and invalid options."""
     with world.desk("words") as desk:
         add(desk)
         desk.write("broken.json", "{")
@@ -167,14 +179,14 @@ def try_long_manifests(world):
             value = {"metadata": {"name": "t"}, "spec": {"metrics": [{"name": "m"}]}}
             value = {**(value if name == "t" else two_pauses()), "status": ""}
             room = 65_536 - len(around % json.dumps(value))
-            for length, status in ((room + 1, WORDS), (room + 7, WORDS), (room, DONE)):
-                desk.write(words[1], {**value, "status": "x" * length})
-                found = desk.do(*words)
-                expect(f"{words} of {length - room} bytes more", found.status, status)
-                if status == WORDS:
-                    want(words, found, WORDS, said=MANIFEST)
-                    expect("nothing is asked", desk.kept(), [] if name == "t" else [
-                        (1, 200, '{"code":"ok","revision":1,"template":"t"}')])
+            before = desk.kept()
+            for more in (1, 7):
+                desk.write(words[1], {**value, "status": "x" * (room + more)})
+                want(f"{words} of {more} bytes more", desk.do(*words), WORDS, said=MANIFEST)
+            expect("nothing is asked", desk.kept(), before)
+            desk.write(words[1], {**value, "status": "x" * room})
+            expect(f"{words} of as many bytes", desk.do(*words).status, DONE)
+            expect("it is asked", len(desk.kept()), len(before) + 1)
         desk.write("commented.yaml", "# a comment\n" * 6_000
                    + "metadata: {name: c}\nspec: {metrics: [{name: m}]}\n")
         want("comments", desk.do("template", "commented.yaml"), DONE,
@@ -212,31 +224,15 @@ def try_commands(world):
         want_delivered("commands", desk)
 
 
-def read_terminal(terminal):
-    found = b""
-    while select.select([terminal], [], [], 30)[0]:
-        try:
-            piece = os.read(terminal, 65536)
-        except OSError:
-            break
-        if not piece:
-            break
-        found += piece
-    return found.decode()
-
-
 def on_terminal(world, words, folder):
     """The status of a client, and what its output, a terminal, showed."""
-    shows, terminal = os.openpty()
-    tty.setraw(terminal)
-    client = subprocess.Popen([world.program, *words], cwd=folder, env=environment(),
-                              stdin=subprocess.DEVNULL, stdout=terminal, stderr=subprocess.DEVNULL)
-    running.add(client)
-    os.close(terminal)
-    found = read_terminal(shows)
-    os.close(shows)
-    running.discard(client)
-    return client.wait(timeout=60), found
+    shown_by, terminal = new_terminal()
+    with process([world.program, *words], cwd=folder, env=environment(), stdin=subprocess.DEVNULL,
+                 stdout=terminal, stderr=subprocess.DEVNULL) as client:
+        os.close(terminal)
+        found = read_terminal(shown_by, 30)
+        os.close(shown_by)
+        return client.wait(timeout=60), found.decode()
 
 
 def try_terminals(world):
@@ -293,6 +289,13 @@ def ended_with(world, words, folder, output):
         return client.returncode, errors
 
 
+def unread_pipe():
+    """The end to which is written of a pipe that nobody reads."""
+    reader, output = os.pipe()
+    os.close(reader)
+    return output
+
+
 def try_closed_outputs(world):
     """An output that is closed or full: the command is done, its reply is in the journal, and with
     its key it is found."""
@@ -305,19 +308,14 @@ def try_closed_outputs(world):
             for words in (desk.words("promote", name, options=("--once", name)),
                           ["get", *at, name], ["watch", *at, "--until", "Paused", name],
                           ["send", *at, "rows.csv"]):
-                if name == "full":
-                    output = os.open("/dev/full", os.O_WRONLY)
-                else:
-                    reader, output = os.pipe()
-                    os.close(reader)
+                output = os.open("/dev/full", os.O_WRONLY) if name == "full" else unread_pipe()
                 found = ended_with(world, words, desk.folder, output)
                 os.close(output)
                 expect(f"{name}: {words}", found, (LOCAL, f"canary: {OUTPUT}\n"))
             want("the key", desk.do("promote", name, options=("--once", name)), DONE,
                  shown(PROMOTED, name))
         # nobody reads the errors
-        reader, output = os.pipe()
-        os.close(reader)
+        output = unread_pipe()
         with process([world.program, "get", "--desk", f"127.0.0.1:{free_port()}", "--tries", "2",
                       "web"], cwd=desk.folder, env=environment(), stdin=subprocess.DEVNULL,
                      stdout=subprocess.PIPE, stderr=output) as client:
@@ -327,29 +325,33 @@ def try_closed_outputs(world):
         want_delivered("outputs", desk)
 
 
+def want_ended_by(world, desk, number):
+    """A client that waits for a reply is ended by this signal."""
+    come = []
+
+    def stall(client):
+        come.append(client.recv(65536))
+        client.recv(1)
+
+    with answering(stall) as port, process(
+            [world.program, *desk.words("promote", "web", port=port, timeout=60)],
+            cwd=desk.folder, env=environment(), stdin=subprocess.DEVNULL,
+            stdout=subprocess.PIPE, stderr=subprocess.PIPE) as client:
+        while not come and client.poll() is None:
+            time.sleep(.01)
+        begun = time.monotonic()
+        client.send_signal(number)
+        expect(number, client.wait(timeout=30), -number)
+        want_seconds(number, time.monotonic() - begun, 0, 15)
+
+
 def try_signals(world):
     """A client that waits ends at once when it is told to, and the command is pending."""
     with world.desk("signals") as desk:
         add(desk)
         want("tick", desk.do("tick", "web"), DONE, shown(STARTED))
         for number in (signal.SIGTERM, signal.SIGINT, signal.SIGHUP):
-            come = []
-
-            def stall(client, come=come):
-                come.append(client.recv(65536))
-                client.recv(1)
-
-            with answering(stall) as port, process(
-                    [world.program, *desk.words("promote", "web", port=port, timeout=60)],
-                    cwd=desk.folder, env=environment(), stdin=subprocess.DEVNULL,
-                    stdout=subprocess.PIPE, stderr=subprocess.PIPE) as client:
-                while not come and client.poll() is None:
-                    time.sleep(.01)
-                begun = time.monotonic()
-                client.send_signal(number)
-                expect(number, client.wait(timeout=30), -number)
-                if time.monotonic() - begun > 15:
-                    raise Wrong(f"{number}: it took {time.monotonic() - begun} seconds")
+            want_ended_by(world, desk, number)
         want("again", desk.do("promote", "web"), DONE, shown(PROMOTED))
         want_delivered("signals", desk)
 

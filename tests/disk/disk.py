@@ -6,10 +6,13 @@ import os
 import shutil
 import sqlite3
 import sys
+from contextlib import closing
 
+from book_files import copy, remove, size
+from chosen import chosen, is_without
 from disk_story import (
-    REFUSED, Desk, Well, begin_large, copy, fail, history, remove, size, tell_after, tell_failing,
-    tell_whole, told_by, went_on,
+    MESSAGES, REFUSED, Desk, Well, begin_large, fail, history, tell_after, tell_failing, tell_whole,
+    told_by, went_on,
 )
 from failing import CALLS, calls_in, failing_alone, under_strace
 from log_copying import try_log_copying, try_log_copying_full, try_log_copying_power
@@ -17,6 +20,10 @@ from openings import try_openings
 from power_cuts import try_power_cuts
 
 NOBODY = 65534
+CUT_FAULTS = [f"canary: {word}\n" for word in (
+    "storage", "broken-row", "other-schema", "unknown-service")]
+# How many lines the history of the story has after one message of it or another.
+LINES_SETTLED = {0, 1, 5, 8, 12, 14, 18, 21}
 
 
 def try_full_disk(program, folder):
@@ -91,31 +98,83 @@ def try_failing_calls(program, folder):
               file=sys.stderr)
 
 
+def history_of_cut(program, cut, row, lines):
+    """How many lines `history` prints of a file that is cut short, a prefix of these lines; None if
+    it ends with a fault."""
+    status, found, told = history(program, cut, row)
+    is_fault = status == 1 and found == "" and told in CUT_FAULTS
+    if not is_fault and not (status == 0 and lines.startswith(found) and told == ""):
+        fail(f"{row}: status {status}, {told!r}, {found!r}")
+    return None if is_fault else found.count("\n")
+
+
+def history_by_sqlite(file, folder):
+    """How many lines of history a file and its log have, as sqlite3 reads a copy of them."""
+    seen = os.path.join(folder, "seen")
+    copy(file, seen)
+    with closing(sqlite3.connect(seen)) as opened:
+        try:
+            return opened.execute("SELECT count(*) FROM history").fetchone()[0]
+        except sqlite3.Error:
+            return 0
+
+
+def cut_at(file, cut, end, place):
+    """A copy of a file and its log, one of which, by the end of its name, is cut at a place."""
+    copy(file, cut)
+    os.truncate(cut + end, place)
+
+
+def try_cut_file(program, file, cut, lines):
+    """At how many places a file that a desk has closed, or its log, was cut."""
+    tried = 0
+    for end in ("", "-wal"):
+        whole = size(file + end)
+        for place in [*range(0, whole, 311), *range(max(whole - 3, 0), whole)]:
+            row = f"cut{end} at {place}"
+            cut_at(file, cut, end, place)
+            found = history_of_cut(program, cut, row, lines)
+            if end == "" and place > 0 and found not in (None, lines.count("\n")):
+                fail(f"{row}: rows are missing, and no fault is printed")
+            tried += 1
+    return tried
+
+
+def try_cut_log(program, file, cut, lines, folder):
+    """At how many places the log of a desk that had not ended was cut: `history` prints what
+    sqlite3 finds, which is what was settled after some message, after each of them at one place."""
+    with open(file + "-wal", "rb") as log:
+        written = len(log.read().rstrip(b"\0"))
+    counts = set()
+    places = [*range(0, written, 311), *range(written - 3, written + 1), size(file + "-wal")]
+    for place in places:
+        cut_at(file, cut, "-wal", place)
+        wanted = history_by_sqlite(cut, folder)
+        found = history_of_cut(program, cut, f"a log cut at {place}", lines) or 0
+        if found != wanted:
+            fail(f"a log cut at {place}: {found} lines, and sqlite3 finds {wanted}")
+        counts.add(found)
+    if counts != LINES_SETTLED:
+        fail(f"a log that is cut short: only {sorted(counts)} lines were found")
+    return len(places)
+
+
 def try_cut_files(program, folder):
     """A file or its log that is cut short: `history` prints a prefix of what was settled, and
     nothing at all if the file lacks a page."""
-    file, cut = os.path.join(folder, "whole"), os.path.join(folder, "cut")
+    file, cut, going = (os.path.join(folder, name) for name in ("whole", "cut", "going"))
     remove(file)
-    tell_whole(Desk(program, file, "a whole file"))
+    desk = Desk(program, file, "a whole file")
+    for at in range(len(MESSAGES)):
+        desk.want(at, "before a cut,")
+    copy(file, going)
+    desk.want_end()
     status, lines, _ = history(program, file, "a whole file")
-    if status != 0:
-        fail("the whole file has no history")
-    tried = 0
-    for suffix in ("", "-wal"):
-        whole = size(file + suffix)
-        for k in [*range(0, whole, 311), *range(max(whole - 3, 0), whole)]:
-            row = f"cut{suffix} at {k}"
-            copy(file, cut)
-            os.truncate(cut + suffix, k)
-            status, found, told = history(program, cut, row)
-            faults = ("storage", "broken-row", "other-schema", "unknown-service")
-            is_fault = status == 1 and told in [f"canary: {word}\n" for word in faults]
-            if not is_fault and not (status == 0 and lines.startswith(found) and told == ""):
-                fail(f"{row}: status {status}, {told!r}, {found!r}")
-            if suffix == "" and k > 0 and status == 0 and found != lines:
-                fail(f"{row}: rows are missing, and no fault is printed")
-            tried += 1
-    print(f"disk: cut short at {tried} places", file=sys.stderr)
+    if status != 0 or lines.count("\n") != max(LINES_SETTLED):
+        fail(f"the whole file has another history: {lines!r}")
+    tried = (try_cut_file(program, file, cut, lines),
+             try_cut_log(program, going, cut, lines, folder))
+    print(f"disk: cut short at {tried[0]} places, and a log in use at {tried[1]}", file=sys.stderr)
 
 
 def want_untouched(program, file, words, row):
@@ -184,13 +243,8 @@ PARTS = (try_foreign_files, try_read_only, try_cut_files, try_full_disk, *STRACE
 
 def main():
     program, folder, step, first, *wanted = sys.argv[1:]
-    unknown = set(wanted) - {part.__name__ for part in PARTS}
-    if unknown:
-        fail(f"unknown part: {' '.join(sorted(unknown))}")
-    left_out = STRACE_PARTS if "strace" in os.environ.get("CHECK_WITHOUT", "").split() else ()
-    for part in PARTS:
-        if part in left_out or (wanted and part.__name__ not in wanted):
-            continue
+    left_out = STRACE_PARTS if is_without("strace") else ()
+    for part in chosen("disk", PARTS, wanted, left_out):
         if part in SHARED_PARTS:
             part(program, folder, int(step), int(first))
         else:

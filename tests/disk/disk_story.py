@@ -2,13 +2,13 @@
 the fault. disk.py and power_cuts.py have the faults."""
 import os
 import resource
-import shutil
 import signal
 import sqlite3
 import subprocess
 import sys
 from contextlib import closing, contextmanager
 
+from book_files import remove, size
 from conversation import limits_writes, reply_of, without_progress
 from story_tables import expect_tables
 from story_words import STORY, B, Wrong, answer, command, get, messages_of_story, put, query
@@ -45,7 +45,7 @@ def in_time(row, process):
 class Desk:
     """A program that answers messages over a file, one after another; in memory, if there is no
     file. The log, if there is one, is that of strace, which makes some of its calls fail. The
-    messages are those that it is told, with their replies."""
+    messages are those that it is sent, with their replies."""
 
     def __init__(self, program, file, row, most=None, front=(), log=None, messages=MESSAGES):
         words = [*front, program, "pipe", "--at", str(B), "--step", "0"]
@@ -99,29 +99,12 @@ class Desk:
                  f" of which is {last}")
 
 
-def remove(file):
-    for name in (file, file + "-wal"):
-        if os.path.exists(name):
-            os.remove(name)
-
-
 def begin_large(file):
     """Makes the file anew, an empty database with pages of 4,096 bytes, which a desk keeps."""
     remove(file)
     with closing(sqlite3.connect(file)) as made:
         made.executescript("PRAGMA page_size = 4096; PRAGMA journal_mode = WAL;"
                            "CREATE TABLE t (a); DROP TABLE t;")
-
-
-def copy(file, to):
-    remove(to)
-    for suffix in ("", "-wal"):
-        if os.path.exists(file + suffix):
-            shutil.copyfile(file + suffix, to + suffix)
-
-
-def size(file):
-    return os.path.getsize(file) if os.path.exists(file) else 0
 
 
 def told_by(row, *words, first=None):

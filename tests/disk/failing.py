@@ -1,4 +1,4 @@
-"""Calls on a file that fail, by strace: a part of disk.py."""
+"""Calls on a file that fail, by strace: a part of disk.py, and of tests/migrate."""
 import re
 
 # The calls that read, write or sync a file.

@@ -11,8 +11,9 @@ import sys
 import time
 from collections import Counter
 
+from book_files import copy, size
 from disk_story import (
-    REFUSED, Desk, begin_large, copy, fail, in_time, size, standing, tell_failing, told_by, went_on,
+    REFUSED, Desk, begin_large, fail, in_time, standing, tell_failing, told_by, went_on,
 )
 from failing import CALLS, under_strace
 from power_cuts import CALL, TRACED, Trace, settled_at, write_image

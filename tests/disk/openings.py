@@ -5,8 +5,9 @@ import signal
 import subprocess
 import sys
 
+from book_files import copy, remove
 from conversation import STILL_AT_B, reply_of, without_progress
-from disk_story import copy, fail, in_time, remove
+from disk_story import fail, in_time
 from failing import calls_in, failing_alone, has_failed, under_strace
 from story_tables import tables_of
 from story_words import answer, command, put

@@ -6,9 +6,8 @@ import random
 import re
 import sys
 
-from disk_story import (
-    MESSAGES, Desk, Well, fail, remove, standing, tell_after, tell_whole,
-)
+from book_files import remove
+from disk_story import MESSAGES, Desk, Well, fail, standing, tell_after, tell_whole
 
 # A disk writes a sector of so many bytes whole, or not at all.
 SECTOR = 512
@@ -119,7 +118,7 @@ def trace_story(program, file, log):
 
 
 def settled_at(told, messages=MESSAGES, answered=0):
-    """How many messages may be settled when so many bytes of replies went out, behind those to the
+    """How many messages may be settled when so many bytes of replies went out, after those to the
     messages that were answered before: those that are answered, and the next one."""
     while answered < len(messages) and told >= len(messages[answered][1]):
         told -= len(messages[answered][1])
@@ -152,17 +151,17 @@ def try_power_cuts(program, folder):
     trace_story(program, file, log)
     trace, chance, seen, calls = Trace(file), random.Random(1), set(), 0
     with open(log) as told:
-        for line in told:
-            call = CALL.match(line)
-            if call is None or not trace.take(call[1], call[2], int(call[3])):
-                continue
-            calls += 1
-            counts = settled_at(trace.told)
-            for image in trace.images(chance):
-                if (key := (*image, counts[0])) not in seen:
-                    seen.add(key)
-                    write_image(file, image)
-                    try_image(program, file, f"a power cut after call {calls}", well, counts)
+        made = [call for call in map(CALL.match, told) if call]
+    for call in made:
+        if not trace.take(call[1], call[2], int(call[3])):
+            continue
+        calls += 1
+        counts = settled_at(trace.told)
+        for image in trace.images(chance):
+            if (key := (*image, counts[0])) not in seen:
+                seen.add(key)
+                write_image(file, image)
+                try_image(program, file, f"a power cut after call {calls}", well, counts)
     if trace.told != sum(len(wanted) for _, wanted in MESSAGES):
         fail("a power cut: the log lacks replies")
     print(f"disk: the power was cut at {calls} calls, with {len(seen)} files left", file=sys.stderr)

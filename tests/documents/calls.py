@@ -1,7 +1,7 @@
 #!/usr/bin/env python3
-"""Checks what docs/DECISIONS.md says, under "Safe and total", of public calls: how many of each crate
-have a `requires`, and how many no clause at all. A public call is a `pub fn` of a crate that is no
-crate of tests.
+"""Checks what docs/DECISIONS.md says, under "Safe and total", of public calls: how many of each
+crate have a `requires`, and how many no clause at all. A public call is a `pub fn` of a crate that
+is no crate of tests.
 
     tests/documents/calls.py            checks the page
     tests/documents/calls.py --print    prints both lists, call by call
@@ -48,16 +48,13 @@ def calls_of(crate):
 
 def lists():
     """By the word of a row, the crates with the calls of which it is so; and how many there are."""
-    found, whole = {word: collections.defaultdict(list) for word in CLAUSES}, 0
-    for crate in sorted(ROOT.glob("crates/canary_*")):
-        if crate.name.startswith("canary_test_"):
-            continue
-        for name, contract in calls_of(crate):
-            whole += 1
-            for word, form in CLAUSES.items():
-                if form.search(contract):
-                    found[word][crate.name].append(name)
-    return found, whole
+    calls = [(crate.name, name, contract) for crate in sorted(ROOT.glob("crates/canary_*"))
+             if not crate.name.startswith("canary_test_") for name, contract in calls_of(crate)]
+    found = {word: collections.defaultdict(list) for word in CLAUSES}
+    for crate, name, contract in calls:
+        for word in (word for word, form in CLAUSES.items() if form.search(contract)):
+            found[word][crate].append(name)
+    return found, len(calls)
 
 
 def said_of(calls):

@@ -99,23 +99,22 @@ def files_of(cell):
     for part in cell.split(";"):
         begin = CRATE.match(part.strip())
         crate = begin[1] if begin else crate
-        for item in CRATE.sub("", part.strip()).split(","):
-            item = item.strip().removeprefix("and ")
-            for word in item.split(" or "):
-                found = re.fullmatch(r"(?:(specs|proofs)/)?([A-Z]\w*|\w+\.rt)", word.strip())
-                if found and crate:
-                    folder = found[1] or folder
-                    is_code = found[2].endswith(".rt")
-                    yield crate, f"src/{found[2]}" if is_code else f"{folder}/{found[2]}.antt"
+        for word in re.split(r",(?: and )?| or ", CRATE.sub("", part.strip())):
+            found = re.fullmatch(r"(?:(specs|proofs)/)?([A-Z]\w*|\w+\.rt)", word.strip())
+            if found and crate:
+                folder = found[1] or folder
+                is_code = found[2].endswith(".rt")
+                yield crate, f"src/{found[2]}" if is_code else f"{folder}/{found[2]}.antt"
 
 
 def faults_of_files(root, text):
-    for number, line in enumerate(text.split("\n"), 1):
-        if line.startswith("| canary_"):
-            for crate, path in files_of(first_cell(line)):
-                folder, _, name = path.partition("/")
-                if not any((root / "crates" / crate / folder).rglob(name)):
-                    yield PAGE, number, f"there is no {path} of {crate}"
+    """The files of the table's first cells that are not there."""
+    named = [(number, *file) for number, line in enumerate(text.split("\n"), 1)
+             if line.startswith("| canary_") for file in files_of(first_cell(line))]
+    for number, crate, path in named:
+        folder, _, name = path.partition("/")
+        if not any((root / "crates" / crate / folder).rglob(name)):
+            yield PAGE, number, f"there is no {path} of {crate}"
 
 
 def faults_of(root):

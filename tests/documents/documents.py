@@ -11,7 +11,8 @@ is 1 if there are any.
 - the examples of the library crates are those of their callers (lib_examples.py)
 - names of crates and of code are there (names.py), and so are those of the tables "Where"
   (where.py), of docs/CHANGING.md (changing.py) and of the listener's page (listener.py)
-- the tables of crates have the contracts of the crates' pages (index.py)"""
+- the tables of crates have the contracts of the crates' pages (index.py)
+- the gate runs each script of tests/ (suites.py)"""
 import os
 import pathlib
 import re
@@ -23,6 +24,7 @@ import index
 import lib_examples
 import listener
 import names
+import suites
 import where
 from pages import Page
 
@@ -87,11 +89,10 @@ def faults_of_paths(root, name, codes, ends):
     """The paths in such texts, each with its line, that are not there. Each end of a path that is
     there is among the ends."""
     for number, code in codes:
-        for found in PATH.findall(code):
-            path = found.removeprefix("./").rstrip(".,")
-            for one in alternatives(path):
-                if not exists(root, one):
-                    yield name, number, f"there is no {one}"
+        paths = (found.removeprefix("./").rstrip(".,") for found in PATH.findall(code))
+        for one in (one for path in paths for one in alternatives(path)):
+            if not exists(root, one):
+                yield name, number, f"there is no {one}"
         for found in FILE.findall(code):
             is_known = found in ends or found in NOT_HERE or "*" in general(found)
             if not is_known and not PATH.match(found):
@@ -169,7 +170,7 @@ def faults_of(root):
     yield from faults_of_tests(root, files, pages)
     yield from faults_of_lines(root, pages)
     yield from names.faults_of(root, files, pages)
-    for checks in (changing, index, lib_examples, listener, where):
+    for checks in (changing, index, lib_examples, listener, suites, where):
         yield from checks.faults_of(root)
 
 

@@ -9,7 +9,8 @@ import re
 # The crates of tests and the program: no caller rests on them. Nor does any rest on
 # the laws over all senders, or on those over all books over tables.
 NO_LIBRARIES = {
-    "canary_desk", "canary_client_laws", "canary_tables_laws", "canary_test_once", "canary_test_yaml",
+    "canary_desk", "canary_client_laws", "canary_tables_laws", "canary_test_once",
+    "canary_test_yaml",
 }
 EXAMPLE = re.compile(r"^In use \((\w+), (\S+)\):\n\n((?:    .*\n)+)", re.MULTILINE)
 CODE = re.compile(r"^    ", re.MULTILINE)

@@ -40,7 +40,7 @@ def faults_of(root):
         yield PAGE, 1, f"it has no table {HEAD}"
         return
     wanted = {name for enum in ENUMS for name in variants_of(root, enum)}
-    tests = set(re.findall(r"^    row (\w+)", (root / TESTS).read_text(encoding="utf-8"), re.M))
+    tests = set(re.findall(r"^row (\w+)", (root / TESTS).read_text(encoding="utf-8"), re.M))
     found = set()
     for number, cells in rows_of(text):
         state = re.match(r"`(\w+::\w+)`", cells[0])

@@ -93,12 +93,13 @@ def faults_of_heads(root):
 
 def citations(root):
     """Each module of proofs that another crate cites, as the file, the crate and its module."""
-    for suffix, form in CITED.items():
-        for file in sorted((root / "crates").glob(f"*/*/**/*{suffix}")):
-            name = file.relative_to(root)
-            for other, module in form.findall(file.read_text(encoding="utf-8")):
-                if other != name.parts[1]:
-                    yield name.as_posix(), other, module
+    files = [(file, form) for suffix, form in CITED.items()
+             for file in sorted((root / "crates").glob(f"*/*/**/*{suffix}"))]
+    for file, form in files:
+        name = file.relative_to(root)
+        for other, module in form.findall(file.read_text(encoding="utf-8")):
+            if other != name.parts[1]:
+                yield name.as_posix(), other, module
 
 
 def faults_of_exceptions(root, cited):
@@ -119,12 +120,12 @@ def faults_of_public(root, cited):
     for file in sorted((root / "crates").glob("*/proofs/Lib.antt")):
         crate, name = file.parent.parent, file.relative_to(root).as_posix()
         page = (crate / "README.md").read_text(encoding="utf-8")
-        for number, line in enumerate(file.read_text(encoding="utf-8").split("\n"), 1):
-            for module in PUBLIC.findall(line):
-                if (crate.name, module) not in modules:
-                    yield name, number, f"no other crate cites {module}, so it is no `pub mod`"
-                elif f"proofs/{module}" not in page:
-                    yield name, number, f"the crate's page does not name proofs/{module}"
+        lines = enumerate(file.read_text(encoding="utf-8").split("\n"), 1)
+        for number, module in ((at, it) for at, line in lines for it in PUBLIC.findall(line)):
+            if (crate.name, module) not in modules:
+                yield name, number, f"no other crate cites {module}, so it is no `pub mod`"
+            elif f"proofs/{module}" not in page:
+                yield name, number, f"the crate's page does not name proofs/{module}"
 
 
 def faults_of(root, files, pages):

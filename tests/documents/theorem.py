@@ -283,24 +283,29 @@ def differences(modules):
     if len(lists) != 3:
         raise Wrong(f"{PAGE}:1: {len(lists)} lists of definitions in place of 3")
     for rows, definitions in zip(lists, lists_of(modules)):
-        counts, above = count(definitions), {}
-        below = {(d[0], c[0]) for d in definitions for c in cites(modules, d) & definitions}
-        for line, (crate, place), numbers, _ in rows:
-            key = (crate, place.rpartition("/")[2])
-            name = " ".join(key)
-            if key in modules and modules[key].place != place:
-                yield line, f"{name} is the file {modules[key].place}"
-            right = (counts.get(key, 0), len(modules[key].bodies) if key in modules else 0)
-            if numbers != right:
-                yield line, f"{name}: the clauses reach {right[0]} of {right[1]} definitions"
-            if key in above:
-                yield line, f"{name} stands on line {above[key]} already"
-            for other in above:
-                if other != key and (key, other) in below:
-                    yield line, f"{name} stands below {' '.join(other)}, which it cites"
-            above[key] = line
-        for key in sorted(set(counts) - set(above)):
-            yield rows[-1][0], f"no row for {' '.join(key)}, {counts[key]} definitions"
+        yield from row_differences(modules, rows, definitions)
+
+
+def row_differences(modules, rows, definitions):
+    """Where a list of definitions differs from the source."""
+    counts, above = count(definitions), {}
+    below = {(d[0], c[0]) for d in definitions for c in cites(modules, d) & definitions}
+    for line, (crate, place), numbers, _ in rows:
+        key = (crate, place.rpartition("/")[2])
+        name = " ".join(key)
+        if key in modules and modules[key].place != place:
+            yield line, f"{name} is the file {modules[key].place}"
+        right = (counts.get(key, 0), len(modules[key].bodies) if key in modules else 0)
+        if numbers != right:
+            yield line, f"{name}: the clauses reach {right[0]} of {right[1]} definitions"
+        if key in above:
+            yield line, f"{name} stands on line {above[key]} already"
+        for other in above:
+            if other != key and (key, other) in below:
+                yield line, f"{name} stands below {' '.join(other)}, which it cites"
+        above[key] = line
+    for key in sorted(set(counts) - set(above)):
+        yield rows[-1][0], f"no row for {' '.join(key)}, {counts[key]} definitions"
 
 
 def print_lists(modules):

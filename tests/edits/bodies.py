@@ -27,7 +27,7 @@ def without_parameters(text):
 
 
 def after_parameters(text):
-    """The text behind the parameters with which it begins, if it does."""
+    """The text after the parameters with which it begins, if it does."""
     depth = 0
     for at, letter in enumerate(text if text.startswith("<") else ""):
         depth += (letter == "<") - (letter == ">")
@@ -68,7 +68,7 @@ def item_at(lines, at):
 
 def body_of(lines, at, indent):
     """The places of the lines that open and close the body of the function that begins at a place;
-    both are the last line of the head if there is none."""
+    both are the last line of the head if there is no body."""
     depth = 0
     for place in range(at, len(lines)):
         line = lines[place]

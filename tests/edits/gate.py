@@ -105,7 +105,8 @@ class Gate:
                 trial.look_at_all(functions)
             # Another one each time that the crate's turn comes. A function in a cycle of calls has
             # no proof beside a bug in that cycle.
-            turns, single = self.number // shares.SHARES, [it for it in functions if not it[1].cycle]
+            turns = self.number // shares.SHARES
+            single = [it for it in functions if not it[1].cycle]
             also = single[turns % len(single) :][:1] if single else ()
             trial.run(edits, () if self.given.all else also)
         except checks.Ended:

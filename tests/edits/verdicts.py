@@ -39,7 +39,7 @@ def folders_of(file, function):
 
 
 def is_about(line, file, function):
-    """Whether a line tells of a place in the function or in its proof."""
+    """Whether a line names a place in the function or in its proof."""
     at = LOCATED.match(line)
     if not at:
         return False
@@ -82,7 +82,7 @@ def reads(lines):
 
 
 def of_lines(told):
-    """The verdict by these lines of a check, and the line that tells it; no verdict, and why, if it
+    """The verdict by these lines of a check, and the line that says so; no verdict, and why, if it
     is not clear."""
     named = [it for it in told if NAMES.match(it)]
     goals = [it for it in told if GOAL.search(it) and it not in named]

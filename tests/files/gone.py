@@ -1,4 +1,4 @@
-"""Files of a desk that are gone, or are none: gone.py PROGRAM FOLDER [PART..]. A log whose file is
+"""Files of a desk that are gone, or replaced: gone.py PROGRAM FOLDER [PART..]. A log whose file is
 missing or empty; FIFOs, devices, folders and sockets under the names of both; and a file that is
 moved, removed, replaced or linked while a desk serves it. No clause says what stands under a
 name."""
@@ -12,6 +12,7 @@ import sys
 import time
 from concurrent.futures import ThreadPoolExecutor
 
+from chosen import chosen
 from conversation import STILL_AT_B, reply_of, without_progress
 from story_words import Wrong, answer, command, expect, put
 
@@ -432,9 +433,7 @@ PARTS = (try_log_alone, try_begun, try_frames, try_kinds, try_replaced, try_back
 
 def main():
     program, folder, *wanted = sys.argv[1:]
-    for part in PARTS:
-        if wanted and part.__name__ not in wanted:
-            continue
+    for part in chosen("files", PARTS, wanted):
         try:
             part(program, folder)
         except (Wrong, subprocess.TimeoutExpired) as fault:

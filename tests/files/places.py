@@ -2,6 +2,7 @@
 import os
 import re
 import subprocess
+import time
 from contextlib import contextmanager
 
 from conversation import STILL_AT_B, reply_of, without_progress
@@ -23,6 +24,15 @@ def told(words, **more):
     except subprocess.TimeoutExpired as late:
         raise Wrong(f"{words}: not done in {SECONDS} seconds") from late
     return done.returncode, done.stdout, without_progress(done.stderr)
+
+
+def wait_until(row, is_so, seconds=SECONDS):
+    """Waits until this is so."""
+    end = time.monotonic() + seconds
+    while not is_so():
+        if time.monotonic() > end:
+            raise Wrong(f"{row}: not in {seconds} seconds")
+        time.sleep(0.01)
 
 
 def make_desk(program, file, count=len(STREAM), options=()):

@@ -18,12 +18,13 @@ from story_words import Wrong, command, expect, put
 CALLERS, EACH, SERVICES = 20, 3, 20
 # A log of so many bytes, none of which is a frame, so that there are megabytes to be judged.
 LOG, MEGABYTE = 4_900_000, 1_000_000
-# The same of a large file, of which the first line comes before the clock goes on, and its megabytes.
+# The same of a large file, of which the first line comes before the clock goes on, and its
+# megabytes.
 LARGE_LOG, LARGE = 17_900_000, ("MB judged", 18)
 # A file of more than 4 MB, which SQLite reads several times to check it: so many templates, each of
 # so many metrics with a condition of 1,010 bytes. A log makes it one of 22 MB.
 TEMPLATES, METRICS, CHECKED_LOG, CHECKED = 60, 30, 17_000_000, 22
-# The milliseconds before a line that is the first, or comes behind another one.
+# The milliseconds before a line that is the first, or comes after another one.
 BETWEEN = 1_000
 # The milliseconds from one reading of the clock to the next: rows are judged in 41 parts, and of a
 # measurement file the clock is read once for a megabyte.
@@ -135,7 +136,7 @@ class Case:
         return self
 
     def check(self, wanted, begin, calls=None):
-        """The lines on standard error, or these, count what is wanted, one behind the other, and no
+        """The lines on standard error, or these, count what is wanted, one after the other, and no
         two of them, nor the first one and the begin, are within a second."""
         parts, due = [], begin + BETWEEN
         if calls is None:
@@ -189,7 +190,8 @@ class Case:
             raise Wrong(f"{self.row}: a line comes when the desk listens")
 
     def look_at_read(self, counts, wholes):
-        """The megabytes rise from 0, to more than the file has and to no more than a check reads."""
+        """The megabytes rise from 0, to more than the file has and to no more than a check
+        reads."""
         expect(f"{self.row}: the megabytes of the file", wholes, {CHECKED})
         size = os.path.getsize(os.path.join(self.above, "checked.db")) / MEGABYTE
         if (counts[0] != 0 or counts != sorted(set(counts)) or len(counts) < 4

@@ -27,9 +27,10 @@ CALLERS, COMMANDS, CONDITIONS, LONG = 100, 2, 30, 1_000
 TEMPLATES, SIGNED = 100, 24
 # Callers of which nothing is settled, each with a request that is ahead of its turn.
 STRANGERS = 40_000
-# Services with long histories, and the releases of each, of which each tells a line for each step.
+# Services with long histories, and the releases of each, of which each has a line for each step.
 TOLD, PASSED = 80, 16
-# The room of these, of which services have three eighths, and receipts and histories an eighth each.
+# The room of these, of which services have three eighths, and receipts and histories an eighth
+# each.
 ROOM = 2 << 20
 SECONDS = 300
 ACCEPTED, CONFLICT = b"HTTP/1.1 200 ", b"HTTP/1.1 409 "

@@ -15,9 +15,11 @@ import threading
 import time
 from contextlib import contextmanager
 
+from book_files import copy
+from chosen import chosen
 from places import (
-    DONE, FILE_FAULT, SECONDS, folder_in, make_desk, make_killed_desk, pair, told, want_started,
-    write)
+    DONE, FILE_FAULT, SECONDS, folder_in, make_desk, make_killed_desk, pair, told, wait_until,
+    want_started, write)
 from story_words import B, Wrong, expect, messages_of_story
 
 COPY = re.compile(r"desk-(\d{8}T\d{6})Z\.db")
@@ -44,14 +46,6 @@ def words_of(program, file, out, every, keep=None):
     return [program, "backup", "--db", file, "--every", str(every), *kept, out]
 
 
-def wait_until(row, is_so, seconds=SECONDS):
-    end = time.monotonic() + seconds
-    while not is_so():
-        if time.monotonic() > end:
-            raise Wrong(f"{row}: not in {seconds} seconds")
-        time.sleep(0.01)
-
-
 @contextmanager
 def copying(words, **more):
     """A program that copies until the block ends. It has to run until then, and to say nothing."""
@@ -66,15 +60,10 @@ def copying(words, **more):
     expect(f"{words}: what it said", said, (b"", b""))
 
 
-def copy_to(file, copy):
-    for end in ("", "-wal"):
-        shutil.copyfile(file + end, copy + end)
-
-
 def want_whole(row, program, folder, name, place):
     """A copy opens, from a folder to which it is copied, and has the release that was begun."""
     moved = os.path.join(place, "moved.db")
-    copy_to(os.path.join(folder, name), moved)
+    copy(os.path.join(folder, name), moved)
     want_started(f"{row}: {name}", program, moved)
     for end in ("", "-wal"):
         os.remove(moved + end)
@@ -116,18 +105,18 @@ class Reports(threading.Thread):
             raise Wrong(f"reports: {self.fault!r}")
 
 
-def want_prefix(program, copy, answered):
+def want_prefix(program, made, answered):
     """A copy is judged, and has the first reports, among them those that were answered before the
     second in which it began."""
-    began = moment_of(os.path.basename(copy))
-    expect(f"{copy}: judged", told([program, "history", "--db", copy, "web"])[::2], (0, b""))
-    status, rows, said = told([program, "export", "--db", copy, "--caller", "agent", "web"])
-    expect(f"{copy}: exported", (status, said), (0, b""))
+    began = moment_of(os.path.basename(made))
+    expect(f"{made}: judged", told([program, "history", "--db", made, "web"])[::2], (0, b""))
+    status, rows, said = told([program, "export", "--db", made, "--caller", "agent", "web"])
+    expect(f"{made}: exported", (status, said), (0, b""))
     found = rows.decode().splitlines()[1:]
-    expect(f"{copy}: its rows", found, [row_of(1 + at) for at in range(len(found))])
+    expect(f"{made}: its rows", found, [row_of(1 + at) for at in range(len(found))])
     least = sum(moment < began for moment in answered)
     if len(found) < least:
-        raise Wrong(f"{copy}: {len(found)} reports, of {least} that were answered before")
+        raise Wrong(f"{made}: {len(found)} reports, of {least} that were answered before")
 
 
 def try_while_served(program, folder):
@@ -163,7 +152,7 @@ def try_kept(program, folder):
     file, out = os.path.join(place, "desk.db"), folder_in(place, "out")
     make_killed_desk(program, file)
     for name in OLD:
-        copy_to(file, os.path.join(out, name))
+        copy(file, os.path.join(out, name))
     made = set()
     with copying(words_of(program, file, out, 1, 2)):
         def has_made():
@@ -189,7 +178,7 @@ def try_one_kept(program, folder):
     for keep, left in ((1, []), (3, OLD[3:]), (6, OLD), (7, OLD), (10_000, OLD)):
         out = folder_in(place, f"out-{keep}")
         for name in OLD:
-            copy_to(file, os.path.join(out, name))
+            copy(file, os.path.join(out, name))
         make_one(program, file, out, keep)
         found = copies_in(out)
         expect(f"{keep} kept", [name for name in found if name in OLD], left)
@@ -221,7 +210,7 @@ def is_asleep(process):
 
 
 def strangers_in(program, out, file):
-    """What is in a folder of copies and is none, by name or by what it is."""
+    """What is in a folder of copies and is no copy, by its name or by what it is."""
     for name in ("desk-1.db", "desk-20200101T000000Z.db.bak", "xdesk-20200101T000000Z.db",
                  "desk-20200101T00000AZ.db", "Desk-20200101T000000Z.db", "desk-20200101T000000.db",
                  "desk-20200101 000000Z.db", "desk-20200101T000000Z.db-wal-wal",
@@ -237,10 +226,10 @@ def strangers_in(program, out, file):
     os.symlink(OLD[0], os.path.join(out, "desk-20190105T000000Z.db"))
     with socket.socket(socket.AF_UNIX) as made:
         made.bind(os.path.join(out, "desk-20190106T000000Z.db"))
-    copy_to(file, os.path.join(out, "desk-20190107T000000Z.db"))
+    copy(file, os.path.join(out, "desk-20190107T000000Z.db"))
     os.remove(os.path.join(out, "desk-20190107T000000Z.db-wal"))
     os.mkdir(os.path.join(out, "desk-20190107T000000Z.db-wal"))
-    copy_to(file, os.path.join(out, "desk-20190108T000000Z.db"))
+    copy(file, os.path.join(out, "desk-20190108T000000Z.db"))
     os.remove(os.path.join(out, "desk-20190108T000000Z.db-wal"))
     os.symlink(file + "-wal", os.path.join(out, "desk-20190108T000000Z.db-wal"))
     os.symlink(file + "-wal", os.path.join(out, "desk-20190109T000000Z.db-wal"))
@@ -249,10 +238,10 @@ def strangers_in(program, out, file):
     write(os.path.join(out, "desk-20190111T000000Z.db-wal"), "mine")
     os.link(os.path.join(out, "desk-20190111T000000Z.db-wal"), os.path.join(out, "part"))
     if os.geteuid() == 0:
-        copy_to(file, os.path.join(out, "desk-20190112T000000Z.db"))
+        copy(file, os.path.join(out, "desk-20190112T000000Z.db"))
         os.chown(os.path.join(out, "desk-20190112T000000Z.db"), 1, 1)
     # A copy of a moment that has not come.
-    copy_to(file, os.path.join(out, "desk-20991231T235959Z.db"))
+    copy(file, os.path.join(out, "desk-20991231T235959Z.db"))
     write(os.path.join(out, "desk-20991231T235958Z.db-wal"), "mine")
 
 
@@ -271,7 +260,7 @@ def try_strangers(program, folder):
     strangers_in(program, out, file)
     before, files = seen_in(out), pair(file)
     for name in OLD:
-        copy_to(file, os.path.join(out, name))
+        copy(file, os.path.join(out, name))
     # Logs that are alone: what a removal leaves that is killed, and one that is later than a copy.
     write(os.path.join(out, "desk-20191231T235959Z.db-wal"), "left")
     write(os.path.join(out, "desk-20200105T000001Z.db-wal"), "mine")
@@ -292,7 +281,7 @@ def try_own_files(program, folder):
     make_killed_desk(program, file)
     os.link(file, os.path.join(place, OLD[1]))
     os.link(file + "-wal", os.path.join(place, OLD[1] + "-wal"))
-    copy_to(file, os.path.join(place, OLD[2]))
+    copy(file, os.path.join(place, OLD[2]))
     before = pair(file)
     make_one(program, file, place, 1)
     expect("the desk's files", pair(file), before)
@@ -388,18 +377,19 @@ def try_killed(program, folder):
     file, out = os.path.join(place, "desk.db"), folder_in(place, "out")
     make_killed_desk(program, file)
     for name in OLD:
-        copy_to(file, os.path.join(out, name))
+        copy(file, os.path.join(out, name))
     began = time.monotonic()
     expect("a backup", told([program, "backup", "--db", file, os.path.join(place, "copy")]), DONE)
     takes = time.monotonic() - began
     for times in range(40):
         for name in OLD[times % 3:3]:
-            copy_to(file, os.path.join(out, name))
+            copy(file, os.path.join(out, name))
         process = subprocess.Popen(words_of(program, file, out, 1, 3), stdin=subprocess.DEVNULL,
                                    stdout=subprocess.DEVNULL, stderr=subprocess.PIPE)
         time.sleep(takes * times / 30)
         process.send_signal(signal.SIGKILL)
-        expect(f"killed, {times}", process.communicate(timeout=SECONDS)[1], b"")
+        errors = process.communicate(timeout=SECONDS)[1]
+        expect(f"killed, {times}", (process.returncode, errors), (-signal.SIGKILL, b""))
         want_whole_copies(f"killed, {times}", program, out, place)
         if len(copies_in(out)) < 3:
             raise Wrong(f"killed, {times}: {copies_in(out)}")
@@ -419,7 +409,7 @@ def with_old(program, file, place, name):
     """A folder with three old copies."""
     out = folder_in(place, name)
     for old in OLD[:3]:
-        copy_to(file, os.path.join(out, old))
+        copy(file, os.path.join(out, old))
     return out
 
 
@@ -476,9 +466,8 @@ def main():
     parts = AT_CALLS if words[0] == "--at-calls" else PARTS
     program, folder, *names = words[words[0] == "--at-calls":]
     try:
-        for part in parts:
-            if not names or part.__name__ in names:
-                part(os.path.realpath(program), folder)
+        for part in chosen("files", parts, names):
+            part(os.path.realpath(program), folder)
     except (Wrong, subprocess.TimeoutExpired) as fault:
         sys.exit(f"files: {fault}")
 

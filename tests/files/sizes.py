@@ -154,7 +154,7 @@ def try_wide_report(program, file):
 
 
 def lengthen(file):
-    """Writes measurements and lines of a history behind those of a run with one measurement, so
+    """Writes measurements and lines of a history after those of a run with one measurement, so
     that there are LONG of each."""
     opened = sqlite3.connect(file)
     with opened:
@@ -215,8 +215,8 @@ def exported(name, count):
 
 
 def try_long_exports(program, file):
-    """Exports of a page, and of a measurement more, with those of another service between. Where the
-    rows have their places does not count: near 0, far from it, or below it."""
+    """Exports of a page, and of a measurement more, with those of another service between. Where
+    the rows have their places does not count: near 0, far from it, or below it."""
     row, counts = "a long export", {"web": PAGE, "api": PAGE + 1}
     template = put("ops", 1, command("template errs m,interval=0"))
     begin = numbered((name, text) for text in BEGIN for name in counts)[1:]

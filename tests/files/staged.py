@@ -5,11 +5,11 @@ import re
 import signal
 import subprocess
 import sys
-import time
 
+from chosen import chosen
 from places import (
     DONE, FILE_FAULT, RANDOM, SECONDS, bytes_of, folder_in, make_desk, make_killed_desk, mode_of,
-    pair, serving, told, want_names, want_started, write)
+    pair, serving, told, wait_until, want_names, want_started, write)
 from story_words import Wrong, expect
 
 WRITING = ("pwrite64", "fsync", "fdatasync", "ftruncate")
@@ -30,14 +30,6 @@ def calls_in(log):
     """The calls of such a log with their words."""
     with open(log, encoding="utf-8") as told_calls:
         return re.findall(r"^\d+ +(\w+)\((.*)\) += (-?\w+)", told_calls.read(), re.MULTILINE)
-
-
-def wait_until(row, is_so):
-    end = time.monotonic() + SECONDS
-    while not is_so():
-        if time.monotonic() > end:
-            raise Wrong(f"{row}: not in {SECONDS} seconds")
-        time.sleep(0.01)
 
 
 def stopped_in(log):
@@ -441,6 +433,7 @@ def try_making(program, folder):
              "--db", file]
     expect("a desk that is made", told(traced(log, WRITING) + asked), (0, b"", b""))
     names = [name for name, _, _ in calls_in(log)]
+    expect("a call writes to the file that is made", "pwrite64" in names, True)
     for at, name in enumerate(names):
         row = f"a desk that is made, {name} {at + 1} fails"
         for left in (file, file + "-wal"):
@@ -451,15 +444,16 @@ def try_making(program, folder):
         expect(f"{row}: the size of its pages", bytes_of(file)[16:18], b"\x02\x00")
 
 
+PARTS = (try_no_memory, try_replaced, try_making, try_mixed_pair, try_killed_backups,
+         try_log_begun_anew, try_failing_backups, try_killed_successions, try_failing_successions,
+         try_held, try_linked_log, try_page_in_turn, try_places, try_folder_taken)
+
+
 def main():
     program, folder, *names = sys.argv[1:]
     try:
-        for part in (try_no_memory, try_replaced, try_making, try_mixed_pair, try_killed_backups,
-                     try_log_begun_anew, try_failing_backups, try_killed_successions,
-                     try_failing_successions, try_held, try_linked_log, try_page_in_turn,
-                     try_places, try_folder_taken):
-            if not names or part.__name__ in names:
-                part(os.path.realpath(program), folder)
+        for part in chosen("files", PARTS, names):
+            part(os.path.realpath(program), folder)
     except (Wrong, subprocess.TimeoutExpired) as fault:
         sys.exit(f"files: {fault}")
 

@@ -1,6 +1,6 @@
-"""What systemd is told of a desk by examples/operations/serve-and-notify: started.py PROGRAM FOLDER.
-A socket of this test stands for that of systemd (sd_notify(3)), and where no systemd is, a script
-for systemd-notify(1)."""
+"""What systemd is told of a desk by examples/operations/serve-and-notify: started.py PROGRAM
+FOLDER. A socket of this test stands for that of systemd (sd_notify(3)), and where no systemd is, a
+script for systemd-notify(1)."""
 import contextlib
 import os
 import queue

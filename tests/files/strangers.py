@@ -8,6 +8,7 @@ import subprocess
 import sys
 from contextlib import closing
 
+from chosen import chosen
 from conversation import without_progress
 from places import (
     DONE, FILE_FAULT, bytes_of, folder_in, make_desk, make_killed_desk, mode_of, pair, serving,
@@ -325,14 +326,15 @@ def try_read_only(program, folder):
         want_names(f"what is left: {kind}", other, [])
 
 
+PARTS = (try_names_of_desk, try_planted, try_kinds, try_modes, try_modes_of_backups,
+         try_links_to_desks, try_at_once, try_odd_logs, try_folder_that_is_shut, try_read_only)
+
+
 def main():
     program, folder, *names = sys.argv[1:]
     try:
-        for part in (try_names_of_desk, try_planted, try_kinds, try_modes, try_modes_of_backups,
-                     try_links_to_desks, try_at_once, try_odd_logs, try_folder_that_is_shut,
-                     try_read_only):
-            if not names or part.__name__ in names:
-                part(os.path.realpath(program), folder)
+        for part in chosen("files", PARTS, names):
+            part(os.path.realpath(program), folder)
     except (Wrong, subprocess.TimeoutExpired) as fault:
         sys.exit(f"files: {fault}")
 

@@ -11,6 +11,7 @@ import tempfile
 import time
 from contextlib import closing
 
+from chosen import chosen
 from conversation import limits_writes, without_progress
 from places import (
     FILE_FAULT, bytes_of, folder_in, make_desk, mode_of, serving, told, want_names, write)
@@ -104,8 +105,8 @@ def healthy(name):
 
 
 def seen(program, file):
-    """What the old file shows: histories, measurements, the page but for its moments, and its bytes.
-    Whoever opens it may give a log without frames another header."""
+    """What the old file shows: histories, measurements, the page but for its moments, and its
+    bytes. Whoever opens it may give a log without frames another header."""
     page = told([program, "page", "--db", file, "-"])
     expect(f"page of {file}", page[::2], (0, b""))
     asked = [told([program, *words, "--db", file, *more, name]) for name in STABLE
@@ -284,7 +285,7 @@ def try_in_use(program, folder):
 
 
 def try_full_disk(program, folder):
-    """A disk that is full as the new file is written: there is none then, and nothing else."""
+    """A disk that is full as the new file is written: no file is left of it."""
     place = folder_in(folder, "full")
     old, new = os.path.join(place, "old.db"), os.path.join(place, "new.db")
     make_desk(program, old, 2)
@@ -298,13 +299,14 @@ def try_full_disk(program, folder):
     expect("a disk with room", succeed(program, old, new), SUCCEEDED)
 
 
+PARTS = (try_grown, try_small, try_output, try_names, try_olds, try_in_use, try_full_disk)
+
+
 def main():
     program, folder, *names = sys.argv[1:]
     try:
-        for part in (try_grown, try_small, try_output, try_names, try_olds, try_in_use,
-                     try_full_disk):
-            if not names or part.__name__ in names:
-                part(os.path.realpath(program), folder)
+        for part in chosen("files", PARTS, names):
+            part(os.path.realpath(program), folder)
     except (Wrong, subprocess.TimeoutExpired) as fault:
         sys.exit(f"files: {fault}")
 

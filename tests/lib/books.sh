@@ -62,9 +62,8 @@ template() {
 }
 
 service() {
-    printf '{"service":{"manifest":{"metadata":{"name":"%s"},"spec":{"strategy":{"canary":{%s}}}},' \
-        "$1" "$2"
-    printf '"version":"v1"}}'
+    printf '{"service":{"manifest":{"metadata":{"name":"%s"},"spec":{"strategy":' "$1"
+    printf '{"canary":{%s}}}},"version":"v1"}}' "$2"
 }
 
 report() {

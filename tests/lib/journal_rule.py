@@ -41,9 +41,9 @@ def line_of(entry):
 
 
 def lines_in(data):
-    """The lines of a file's bytes, each behind an open gate, and how many bytes stand before the
+    """The lines of a file's bytes, each after an open gate, and how many bytes stand before the
     closed gate; none if there is no closed gate, or if the first one is closed and more stands
-    behind it than a crash leaves of a new journal."""
+    after it than a crash leaves of a new journal."""
     if len(data) <= 1:
         return [], 0
     if data[:1] != b"+" and len(data) > MOST_NEW:
@@ -107,7 +107,7 @@ def is_surrogate(line):
 
 
 def journal_of(data):
-    """The journal that a file with these bytes is; none if it is none."""
+    """The journal that a file with these bytes is; None if it is no journal."""
     found = lines_in(data)
     if found is None or not found[0]:
         return None
@@ -159,7 +159,7 @@ def is_in_doubt(data):
 
 
 def at_rest(data):
-    """The file's bytes once the client has opened it: what stands behind the closed gate is cut
+    """The file's bytes once the client has opened it: what stands after the closed gate is cut
     off."""
     if len(data) <= 1:
         return b"-"

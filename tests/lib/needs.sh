@@ -9,8 +9,8 @@ PATH=$PATH:/usr/sbin
 
 # A configuration of HAProxy with all that the examples ask of it.
 haproxy_of_scripts() {
-    printf '%s\n' defaults 'mode http' 'timeout connect 1s' 'timeout client 1s' 'timeout server 1s' \
-        'frontend f' 'bind 127.0.0.1:1' \
+    printf '%s\n' defaults 'mode http' 'timeout connect 1s' 'timeout client 1s' \
+        'timeout server 1s' 'frontend f' 'bind 127.0.0.1:1' \
         'http-request set-var(txn.token) http_auth_bearer,sha2(256),hex' \
         "http-request set-var(txn.name) req.body,json_query('$.name')"
 }

@@ -2,10 +2,10 @@
 (docs/RULES.md, docs/API.md), and what stands in the tables of a desk's file. The places of
 measurements and history lines order the rows, and are left out."""
 import os
-import shutil
 import sqlite3
 import tempfile
 
+from book_files import copy
 from story_words import STORY, B, Wrong, body
 
 # What orders the rows of each table, and its columns, without places.
@@ -101,11 +101,9 @@ STORY_TABLES = {
 def tables_of(file):
     """What stands in the tables of a desk's file: sqlite3 reads a copy of it and of its log."""
     with tempfile.TemporaryDirectory() as folder:
-        copy = os.path.join(folder, "copy")
-        for suffix in ("", "-wal"):
-            if os.path.exists(file + suffix):
-                shutil.copyfile(file + suffix, copy + suffix)
-        opened = sqlite3.connect(copy)
+        seen = os.path.join(folder, "copy")
+        copy(file, seen)
+        opened = sqlite3.connect(seen)
         try:
             names = {name for name, in opened.execute(
                 "SELECT name FROM sqlite_schema WHERE type = 'table' AND name NOT GLOB 'sqlite_*'")}

@@ -6,7 +6,9 @@ import http.client
 import json
 import os
 import pathlib
+import resource
 import shutil
+import signal
 import socket
 import sqlite3
 import subprocess
@@ -58,6 +60,14 @@ class Wrong(Exception):
     """Something is not as the rules say."""
 
 
+class Late(Wrong):
+    """Something did not come in time, and nothing wrong came: a busy machine can be the cause."""
+
+
+class Unsafe(Wrong):
+    """Something is so as no delay explains it: it was lost, doubled or changed."""
+
+
 def expect(row, found, wanted):
     if found != wanted:
         raise Wrong(f"{row}: {found!r} in place of {wanted!r}")
@@ -72,6 +82,18 @@ def process(words, **options):
         yield started
     finally:
         end(started)
+
+
+@contextlib.contextmanager
+def process_group(words, **options):
+    """A process that ends with the block, and with it those that it began."""
+    with process(words, start_new_session=True, **options) as started:
+        started.is_of_group = True
+        try:
+            yield started
+        finally:
+            with contextlib.suppress(ProcessLookupError):
+                os.killpg(started.pid, signal.SIGKILL)
 
 
 def end(started):
@@ -208,7 +230,7 @@ class Desk:
         """The journal in the file of this name, by the rule."""
         found = journal_of((self.folder / name).read_bytes())
         if found is None:
-            raise Wrong(f"{name} is no journal: {(self.folder / name).read_bytes()[-200:]!r}")
+            raise Unsafe(f"{name} is no journal: {(self.folder / name).read_bytes()[-200:]!r}")
         return found
 
     def rows(self, statement, *values):
@@ -303,8 +325,8 @@ def add(desk, *names):
 
 
 def want(row, ended, status, output="", said=None):
-    """The client ended with this status, this output, and this sentence as its last one; none if
-    that is none."""
+    """The client ended with this status and this output, and its last line is this sentence, or it
+    has no line."""
     last = ended.errors.splitlines()[-1] if ended.errors else None
     wanted = None if said is None else f"canary: {said}"
     expect(row, (ended.status, ended.output, last), (status, output, wanted))
@@ -322,7 +344,8 @@ def want_delivered(row, desk, caller="ops", journal="ops.journal"):
     expect(f"{row}: pending", found.pending, None)
     kept = [(found.before + at, each.status, each.body)
             for at, each in enumerate(found.kept, 1)]
-    expect(f"{row}: replies", kept, desk.kept(caller)[found.before:])
+    if kept != (settled := desk.kept(caller)[found.before:]):
+        raise Unsafe(f"{row}: the journal has {kept!r}, and the desk {settled!r}")
     return len(kept)
 
 
@@ -373,10 +396,20 @@ def answering(answer):
 
 # The sockets of free ports. The system gives such a port to no other part that asks for any port.
 HELD = []
+# How many descriptors a script may have open: each socket above takes one.
+DESCRIPTORS = 8192
+
+
+def allow_descriptors():
+    """Allows this process so many descriptors, or as many as the system grants it."""
+    allowed, most = resource.getrlimit(resource.RLIMIT_NOFILE)
+    wanted = DESCRIPTORS if most == resource.RLIM_INFINITY else min(DESCRIPTORS, most)
+    resource.setrlimit(resource.RLIMIT_NOFILE, (max(allowed, wanted), most))
 
 
 def free_port():
-    """A port on which nobody listens, until a desk of the caller's does."""
+    """A port on which nobody listens, until a desk of the caller's does. Its socket stays open, so
+    a script that asks for hundreds calls `allow_descriptors` first."""
     held = socket.socket()
     held.setsockopt(socket.SOL_SOCKET, socket.SO_REUSEADDR, 1)
     held.bind(("127.0.0.1", 0))
@@ -384,9 +417,35 @@ def free_port():
     return held.getsockname()[1]
 
 
-def wait_until(row, is_so, seconds=60):
+def wait_until(row, is_so, seconds=60, pause=.01):
+    """Waits until this is so, and looks again after each pause."""
     until = time.monotonic() + seconds
     while not is_so():
         if time.monotonic() > until:
-            raise Wrong(f"{row}: it did not come in {seconds} seconds")
-        time.sleep(.01)
+            raise Late(f"{row}: it did not come in {seconds} seconds")
+        time.sleep(pause)
+
+
+def want_seconds(row, spent, least, most):
+    """It took so many seconds. If it took more, the machine may be the cause."""
+    if spent < least:
+        raise Wrong(f"{row}: {spent:.2f} seconds, in place of {least} at least")
+    if spent > most:
+        raise Late(f"{row}: {spent:.2f} seconds, in place of {most} at most")
+
+
+def timed(row, least, most, call):
+    """What came of a call that takes so many seconds."""
+    begun = time.monotonic()
+    found = call()
+    want_seconds(row, time.monotonic() - begun, least, most)
+    return found
+
+
+def soonest(row, least, most, call):
+    """What came of a call that takes so many seconds where the machine is not busy: each takes as
+    long at least, and of five one is over in time."""
+    for _ in range(4):
+        with contextlib.suppress(Late):
+            return timed(row, least, most, call)
+    return timed(row, least, most, call)

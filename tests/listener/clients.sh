@@ -75,8 +75,8 @@ want_reply() {
     [ "$reply_status" = "$2" ] || miss "status $reply_status in place of $2: $reply_body"
 }
 
-# A query on the connection $1 gets its reply, or the row ends by $2: as late if this client had been
-# still since the moment $3 for $4 milliseconds, so that the desk may have let it go.
+# A query on the connection $1 gets its reply, or the row ends by $2: as late if this client had
+# been still since the moment $3 for $4 milliseconds, so that the desk may have let it go.
 want_answer() {
     get /services/nobody 2> /dev/null >&"$1" || true
     if ! read_reply "$1"; then
@@ -181,11 +181,11 @@ want_rest() {
     [ "$rests" -eq 10 ] || late "a process does not come to rest"
 }
 
-# The system calls of the desk that write are in `$work/calls` from now on; `tracer` is strace.
-trace_writes() {
+# The system calls $1 of the desk are in `$work/calls` from now on; `tracer` is strace.
+trace_calls() {
     local tries
     : > "$work/traced"
-    strace -f -o "$work/calls" -e trace=write,sendto -p "$desk" 2> "$work/traced" &
+    strace -f -o "$work/calls" -e trace="$1" -p "$desk" 2> "$work/traced" &
     tracer=$!
     for ((tries = 0; tries < 200; tries++)); do
         ! grep -q attached "$work/traced" || return 0

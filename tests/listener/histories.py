@@ -236,7 +236,8 @@ def try_killed(port, desk, _):
     crowd = Crowd(port, desk)
     words = [sys.executable, __file__, "held", str(port), str(desk)]
     with subprocess.Popen(words, stdout=subprocess.PIPE) as held:
-        held.stdout.readline()
+        if held.stdout.readline() != b"asked\n":
+            sys.exit("the clients that are to be killed did not ask")
         os.kill(desk, signal.SIGCONT)
         while not crowd.look(1):
             pass

@@ -1,5 +1,5 @@
-"""A desk whose standard error nobody reads: unread.py PROGRAM. It has to serve on, to drop lines and
-to say how many. Prints what is wrong, and ends with status 1 then."""
+"""A desk whose standard error nobody reads: unread.py PROGRAM. It has to serve on, to drop lines,
+and to report how many. Prints what is wrong, and ends with status 1 then."""
 import fcntl
 import os
 import re
@@ -11,7 +11,8 @@ import time
 # Addresses, from each of which come two clients.
 ADDRESSES = 240
 LAST = b"canary: truncated 127.0.0.250\n"
-LINE = re.compile(rb"canary: (?:truncated 127\.0\.0\.\d+(?: \((\d+) times\))?|(\d+) lines dropped)\n")
+LINE = re.compile(rb"canary: (?:truncated 127\.0\.0\.\d+(?: \((\d+) times\))?"
+                  rb"|(\d+) lines dropped)\n")
 
 
 def cut_off(port, number):
@@ -80,8 +81,9 @@ def main():
     reads, writes = os.pipe()
     # Two pages, of which the desk fills one: a page that has something is taken as full.
     fcntl.fcntl(writes, fcntl.F_SETPIPE_SZ, 8192)
-    with subprocess.Popen([sys.argv[1], "serve", "--listen", "127.0.0.1:0"], stdin=subprocess.DEVNULL,
-                          stdout=subprocess.PIPE, stderr=writes) as desk:
+    words = [sys.argv[1], "serve", "--listen", "127.0.0.1:0"]
+    with subprocess.Popen(words, stdin=subprocess.DEVNULL, stdout=subprocess.PIPE,
+                          stderr=writes) as desk:
         os.close(writes)
         try:
             port = int(desk.stdout.readline().split(b":")[1])

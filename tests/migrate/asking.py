@@ -5,10 +5,10 @@ import subprocess
 from contextlib import closing
 from datetime import datetime, timezone
 
+from book_files import remove
 from conversation import without_progress
 from first import (
-    body_of, bytes_of, connect, fail, in_order, migrated, remove, rows_of, schema_after,
-    schema_of,
+    body_of, bytes_of, connect, fail, in_order, migrated, rows_of, schema_after, schema_of,
 )
 from story_words import B, REASONS, put, reply
 

@@ -2,10 +2,11 @@
 worked out by the rules, in plain Python."""
 import json
 import os
-import shutil
 import sqlite3
 import sys
 from contextlib import closing
+
+from book_files import copy, remove
 
 HERE = os.path.dirname(os.path.realpath(__file__))
 TABLES = os.path.join(os.path.dirname(HERE), "tables")
@@ -33,20 +34,6 @@ def text_of(*names):
         with open(name, encoding="utf-8") as opened:
             found += opened.read()
     return found
-
-
-def remove(file):
-    for name in (file, file + "-wal", file + "-shm"):
-        if os.path.exists(name):
-            os.remove(name)
-
-
-def copy(file, to):
-    """Copies a file with its log."""
-    remove(to)
-    for suffix in ("", "-wal"):
-        if os.path.exists(file + suffix):
-            shutil.copyfile(file + suffix, to + suffix)
 
 
 def make(file, statements, is_logged=False):

@@ -10,20 +10,22 @@ from contextlib import closing
 
 HERE = os.path.dirname(os.path.realpath(__file__))
 TESTS = os.path.dirname(HERE)
-# Parts of other scripts: what a terminal shows, and what a disk holds after a power cut.
-sys.path += [os.path.join(TESTS, "cli"), os.path.join(TESTS, "disk")]
+# What a disk holds after a power cut.
+sys.path.append(os.path.join(TESTS, "disk"))
 
 from asking import (  # noqa: E402
     migrate, printed, refused, told, want, want_closed, want_histories, want_kept, want_migrated,
     want_replies,
 )
+from book_files import remove  # noqa: E402
+from chosen import chosen, is_without  # noqa: E402
 from first import (  # noqa: E402
-    bytes_of, change, connect, contents, fail, in_order, make, make_first, migrated, remove,
-    rows_of, schema_of, text_of,
+    bytes_of, change, connect, contents, in_order, make, make_first, migrated, rows_of, schema_of,
+    text_of,
 )
+from screen import ERASED, run_showing  # noqa: E402
 from stops import STRACE_PARTS, try_full_disk  # noqa: E402
 from story_words import B, answer, command, put, reply  # noqa: E402
-from terminals import ERASED, run_showing  # noqa: E402
 
 FILES = ("story", "stream", "reports")
 ADVICE = b": is a file of the first version; 'canary migrate' makes it a file of this version\n"
@@ -81,8 +83,10 @@ def try_reports(program, folder):
     sent = (
         (put("ops", 1, asked), reply(ok, b'{"code":"ok","template":"errs"}')),
         (put("ops", 4, asked), reply(ok, b'{"code":"ok","revision":2,"template":"errs"}')),
-        (put("agent", 5, command("report 1 m:5:240:!down")), answer("[web Paused 1 20 | 1 Error | Running]")),
-        (put("agent", 6, command("report 1 m:6:300:7")), answer("[web Paused 1 20 | 1 Successful | Running]")),
+        (put("agent", 5, command("report 1 m:5:240:!down")),
+         answer("[web Paused 1 20 | 1 Error | Running]")),
+        (put("agent", 6, command("report 1 m:6:300:7")),
+         answer("[web Paused 1 20 | 1 Successful | Running]")),
         (put("ops", 1, asked), reply(ok, b'{"code":"ok","template":"errs"}')),
         (put("ops", 5, command("promote")), answer("[web Healthy 2 100]")),
         (put("ops", 6, command("start v3")), answer("[web Paused 1 20]")),
@@ -255,8 +259,8 @@ def try_in_use(program, folder):
 
 
 def try_same_looks(program, folder):
-    """What `migrate` refuses before it writes, a dry run refuses too: a file with another hard link,
-    a rollback journal or something else of its name beside it. Both leave all as it was."""
+    """What `migrate` refuses before it writes, a dry run refuses too: a file with another hard
+    link, a rollback journal or something else of its name beside it. Both leave all as it was."""
     place = os.path.join(folder, "looks")
     os.mkdir(place)
     file = os.path.join(place, "looked")
@@ -304,13 +308,9 @@ def main():
     parts = (try_reports, try_refusals, try_no_desk, try_in_use, try_same_looks, try_full_output,
              try_terminal, try_changed, try_files, try_full_disk, *STRACE_PARTS)
     program, folder, *wanted = sys.argv[1:]
-    unknown = set(wanted) - {part.__name__ for part in parts}
-    if unknown:
-        fail(f"unknown part: {' '.join(sorted(unknown))}")
-    left_out = STRACE_PARTS if "strace" in os.environ.get("CHECK_WITHOUT", "").split() else ()
-    for part in parts:
-        if part not in left_out and (not wanted or part.__name__ in wanted):
-            part(program, folder)
+    left_out = STRACE_PARTS if is_without("strace") else ()
+    for part in chosen("migrate", parts, wanted, left_out):
+        part(program, folder)
     print("migrate: files of the first schema become those of this one", file=sys.stderr)
 
 

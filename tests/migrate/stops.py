@@ -6,14 +6,12 @@ import re
 import sys
 
 from asking import migrate, printed, refused, want, want_histories
+from book_files import copy, remove
 from conversation import limits_writes
-from first import (
-    bytes_of, contents, copy, fail, in_order, make_first, migrated, remove, schema_after,
-)
+from failing import CALLS, has_failed
+from first import bytes_of, contents, fail, in_order, make_first, migrated, schema_after
 from power_cuts import CALL, TRACED, Trace, write_image
 
-# The calls that read, write or sync a file.
-CALLS = ("pread64", "pwrite64", "fsync", "fdatasync", "ftruncate")
 SYNCS = ("fsync", "fdatasync")
 KILLED = -9
 
@@ -90,6 +88,8 @@ class Stopped:
         self.begin()
         found = migrate(self.program, self.file, front=self.under_strace(injected))
         is_done = found[1] == b"migrated\n"
+        if not (found[0] == KILLED or has_failed(self.log)):
+            fail(f"{row}: it was not made")
         if found != printed("migrated") and (found[0], found[2]) != (end[0], end[2]):
             fail(f"{row}: {found}")
         return found != printed("migrated"), self.want_whole(row, is_done)

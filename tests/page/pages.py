@@ -1,5 +1,5 @@
-"""Draws the pages of some desks, and looks at them: pages.py PROGRAM FOLDER [CASE..]. The comment at
-the top of tests/page/run says what is tried."""
+"""Draws the pages of some desks, and looks at them: pages.py PROGRAM FOLDER [CASE..]. The comment
+at the top of tests/page/run says what is tried."""
 import contextlib
 import json
 import os
@@ -14,6 +14,7 @@ import stories
 import textfile
 from conversation import without_progress
 from outline import Broken, outline, tree_of
+from world import MARKS
 
 HERE = os.path.dirname(os.path.abspath(__file__))
 LIMIT = 300
@@ -159,14 +160,12 @@ def parts_of(out):
     return [found for found in os.listdir(folder) if found.startswith(name + ".")]
 
 
-# Controls (C0, DEL, C1), the ends of lines and paragraphs, and what turns the direction of a text
-# (UAX #9).
-MARKS = "[\x00-\x1f\x7f-\x9f\u061c\u200e\u200f\u2028-\u202e\u2066-\u2069]"
+MARK = re.compile(f"[{re.escape(''.join(map(chr, MARKS)))}]")
 
 
 def shown_text(text):
     """The text of a failure as a page shows it: a mark is \\u and four hexadecimal digits."""
-    return re.sub(MARKS, lambda mark: f"\\u{ord(mark[0]):04x}", text)
+    return MARK.sub(lambda mark: f"\\u{ord(mark[0]):04x}", text)
 
 
 def try_breaking(program, folder):
@@ -179,7 +178,7 @@ def try_breaking(program, folder):
     told = [title.split(": ", 1)[1] for title in titles]
     if told != wanted:
         fail(f"breaking: points say {told}, in place of {wanted}")
-    if re.search(MARKS, page.decode().replace("\n", "")):
+    if MARK.search(page.decode().replace("\n", "")):
         fail("breaking: a mark in the page")
 
 
@@ -218,7 +217,8 @@ def try_counted(program, folder):
 
 
 def try_many(program, folder):
-    """The page of 200 services begins with an index: first the 40 that wait, as the page has them."""
+    """The page of 200 services begins with an index: first the 40 that wait, as the page has
+    them."""
     file = os.path.join(folder, "many.db")
     make_desk(program, file, "many", stories.many())
     page = run([program, "page", "--db", file, "-"], "many")
@@ -315,6 +315,15 @@ def try_silence(program, folder):
         fail(f"silence: {ended}")
 
 
+def moment_of_page(out):
+    """The moment that a page shows, which is whole and loads itself anew each second."""
+    with open(out, "rb") as read:
+        page = read.read()
+    if b'<meta http-equiv="refresh" content="1">' not in page:
+        fail("watch: the page does not load itself anew")
+    return look(page, "watch").first("header", "top").first("time").text()
+
+
 def try_watch(program, folder):
     """A page that is drawn again and again, while a desk serves the file, is always whole."""
     file, out = os.path.join(folder, "states.db"), os.path.join(folder, "watched.html")
@@ -327,12 +336,7 @@ def try_watch(program, folder):
         end = time.monotonic() + LIMIT
         while len(drawn) < 3 and time.monotonic() < end:
             if os.path.exists(out):
-                with open(out, "rb") as read:
-                    page = read.read()
-                root = look(page, "watch")
-                drawn.add(root.first("header", "top").first("time").text())
-                if b'<meta http-equiv="refresh" content="1">' not in page:
-                    fail("watch: the page does not load itself anew")
+                drawn.add(moment_of_page(out))
         if len(drawn) < 3:
             fail("watch: the page is not drawn again")
         if watch.poll() is not None or desk.poll() is not None:

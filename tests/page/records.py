@@ -281,7 +281,7 @@ def crossed():
 
 
 def try_pages(program, folder, make_desk):
-    """Measurements at the end of a page of 256, and behind it; runs that lie across one another."""
+    """Measurements at the end of a page of 256, and after it; runs that lie across one another."""
     file = os.path.join(folder, "crossed.db")
     make_desk(program, file, "crossed", crossed())
     _, values = drawn(program, file, folder_in(folder, "crossed"))
@@ -317,7 +317,7 @@ def places_of_names(folder):
 
 def try_refused(program, folder):
     """A FIFO, a folder, a device and the desk's own file under the name of a file are refused, also
-    behind a link, and stay as they are. There is no page then."""
+    at the end of a link, and stay as they are. There is no page then."""
     file, fifo = os.path.join(folder, "told.db"), os.path.join(folder, "fifo")
     place, out, words = places_of_names(folder)
     os.mkdir(place)
@@ -365,7 +365,7 @@ def try_replaced(program, folder):
 
 
 def try_folders(program, folder):
-    """A folder that is not there, or is none: nothing is drawn. A link to one is one."""
+    """A folder that is not there, or no folder: nothing is drawn. A link to one is one."""
     file, out = os.path.join(folder, "told.db"), os.path.join(folder, "folders.html")
     for place in (os.path.join(folder, "no-folder"), file, "", "/dev/null"):
         want(f"--json {place!r}", tried(program, "--db", file, f"--json={place}", out), REFUSED)
@@ -433,22 +433,26 @@ def try_kills(program, folder):
     """`page` is killed on its way, again and again: each file is whole, and what is left beside
     them is their owner's alone, unless it is whole and was about to get its name."""
     file, place = os.path.join(folder, "thinned.db"), folder_in(folder, "killed")
-    words = [program, "page", "--db", file, "--json", place, os.path.join(folder, "killed.html")]
+    page = os.path.join(folder, "killed.html")
+    words = [program, "page", "--db", file, "--json", place, page]
     begun = time.monotonic()
     subprocess.run(words, timeout=LIMIT, check=True)
     takes = time.monotonic() - begun
-    names = sorted(os.listdir(place))
+    names, ends = sorted(os.listdir(place)), set()
     for part in range(1, 20):
         ended = subprocess.Popen(words)
         time.sleep(takes * part / 20)
         ended.send_signal(signal.SIGKILL)
-        ended.wait()
+        ends.add(ended.wait())
         for name in names:
             value_in(os.path.join(place, name))
+        with open(page, "rb") as shown:
+            want("a page whose program was killed is whole", shown.read()[-8:], b"</html>\n")
         for name in set(os.listdir(place)) - set(names):
             path = os.path.join(place, name)
             if stat.S_IMODE(os.stat(path).st_mode) != 0o600:
                 value_in(path)
+    want("kills on the way, and no other faults", ends - {0}, {-signal.SIGKILL})
 
 
 def try_watch(program, folder):

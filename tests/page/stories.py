@@ -1,4 +1,4 @@
-"""The desks whose pages are looked at: each function tells one, message by message."""
+"""The desks whose pages are looked at: each function makes one, message by message."""
 import json
 
 # The moment of the first message, long after the clock of any machine that draws the page: so time
@@ -81,6 +81,13 @@ def states():
     desk.template("rate", metric("rate", successCondition="result >= 95"))
     desk.template("smoke", metric("probe", count=3, successCondition="result > 10",
                                   failureCondition="result < 5"))
+    add_going(desk)
+    add_ended(desk)
+    return desk
+
+
+def add_going(desk):
+    """One without steps, and one in each state in which a release goes on."""
     # done without steps
     desk.service("aa-new", "v1", [])
     # waits for a promotion
@@ -102,6 +109,10 @@ def states():
     desk.service("ff-held", "v1", [weight(10), pause()], background)
     desk.start("ff-held", "v2")
     desk.report("ff-held", 1, "probe", 7)
+
+
+def add_ended(desk):
+    """One aborted by each cause, and one that reached its end."""
     # aborted by a command
     desk.service("gg-command", "v1", [weight(40), pause()])
     desk.start("gg-command", "v2")
@@ -121,7 +132,6 @@ def states():
     desk.service("jj-done", "v1", [weight(40), pause()])
     desk.start("jj-done", "v2")
     desk.command("promote", "jj-done")
-    return desk
 
 
 def outcomes():
@@ -205,7 +215,8 @@ def lists():
     """Results that are lists, as a query of Prometheus returns them, by the places that conditions
     name: each has its own limits, and numbers on either side of a comparison."""
     desk = Desk()
-    desk.template("one", metric("rate", count=99, failureLimit=9, successCondition="result[0] >= 95"))
+    desk.template("one", metric("rate", count=99, failureLimit=9,
+                                successCondition="result[0] >= 95"))
     desk.template("two", metric("pair", count=99, failureLimit=9, inconclusiveLimit=9,
                                 successCondition="result[1] > 2 && result[0] < 5",
                                 failureCondition="9 <= result[0] || result[1] == -4"))
@@ -232,6 +243,13 @@ def late():
     desk.template("both", metric("ended", interval="10s", count=1),
                   metric("open", interval="10s", count=5),
                   metric("hourly", interval="1h", count=2))
+    add_late_backgrounds(desk)
+    add_late_steps(desk)
+    return desk
+
+
+def add_late_backgrounds(desk):
+    """Measurements of backgrounds, of which one is due and not late."""
     background = {"templates": [{"templateName": "errors"}]}
     # beside a pause for a time
     desk.service("aa-timed", "v1", [weight(30), pause("2h"), weight(60)], background)
@@ -253,6 +271,10 @@ def late():
     desk.start("dd-pause", "v2")
     for _ in range(2):
         desk.command("tick", "dd-pause")
+
+
+def add_late_steps(desk):
+    """Measurements of steps, of which one is not due yet."""
     # at a step, one of three metrics
     desk.service("ee-step", "v1", [weight(30), analysis("both"), weight(60)])
     desk.start("ee-step", "v2")
@@ -268,7 +290,6 @@ def late():
     desk.start("gg-once", "v2")
     for _ in range(2):
         desk.command("tick", "gg-once")
-    return desk
 
 
 def two_runs():

@@ -39,7 +39,7 @@ def samples_of(text):
     ends with a newline, each family has its two comments and then all of its samples, none of which
     has a timestamp, and no series stands twice."""
     lines = text.decode("ascii").split("\n")
-    expect("what stands behind the last newline", lines.pop(), "")
+    expect("what stands after the last newline", lines.pop(), "")
     found, begun, place = {}, [], 0
     while place < len(lines):
         helped = re.fullmatch(r"# HELP ([a-z_]+) [^\\]+", lines[place])
@@ -136,9 +136,10 @@ def look_at_case(name, text, values):
 
 
 def worked():
-    """A service of each status. At second 90 of the desk `web` has two open runs: of the background,
-    which wants its first measurement at 70; and of a step, since 40, with a metric that is
-    completed, two that people read alike, wanted at 40 and at 60, and one that is wanted later."""
+    """A service of each status. At second 90 of the desk `web` has two open runs: of the
+    background, which wants its first measurement at 70; and of a step, since 40, with a metric that
+    is completed, two that people read alike, wanted at 40 and at 60, and one that is wanted
+    later."""
     desk = stories.Desk()
     desk.template("rates", stories.metric("probe", count=1),
                   stories.metric("rate.e6", interval="10s", count=5),

@@ -29,12 +29,11 @@ def made_in(folder, crate):
 
 def owner(module, functions):
     """The function of a module, and what the module is of it; or the module itself."""
-    for begin in BEGINS:
-        if module.startswith(begin):
-            parts = module[len(begin) :].split(".")
-            for count in range(len(parts), 0, -1):
-                if (name := ".".join(parts[:count])) in functions:
-                    return name, ".".join(parts[count:])
+    for begin in filter(module.startswith, BEGINS):
+        parts = module[len(begin) :].split(".")
+        for count in range(len(parts), 0, -1):
+            if (name := ".".join(parts[:count])) in functions:
+                return name, ".".join(parts[count:])
     return module, ""
 
 

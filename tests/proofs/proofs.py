@@ -46,15 +46,17 @@ class Run:
     def next(self):
         """The next crate whose libraries are proved, or None if none is left that can be."""
         with self.turn:
-            while True:
-                self.drop_blocked()
-                for crate in self.left:
-                    if all(self.proved.get(it.name) for it in self.below(crate)):
-                        self.left.remove(crate)
-                        return crate
-                if not self.left:
-                    return None
-                self.turn.wait()
+            self.turn.wait_for(lambda: self.ready() is not None or not self.left)
+            crate = self.ready()
+            if crate is not None:
+                self.left.remove(crate)
+            return crate
+
+    def ready(self):
+        """A crate whose libraries are proved, or None. Those are dropped that cannot be proved."""
+        self.drop_blocked()
+        return next((crate for crate in self.left
+                     if all(self.proved.get(it.name) for it in self.below(crate))), None)
 
     def below(self, crate):
         return [it for it in crate.below() if it.name in self.names]

@@ -9,7 +9,7 @@ import time
 
 from parts import HAProxy, filled
 from world import (
-    ABORTED, ADDED, ENDED, PROMOTED, STARTED, Wrong, expect, free_port, shows, two_pauses,
+    ABORTED, ADDED, ENDED, PROMOTED, STARTED, Late, Wrong, expect, free_port, shows, two_pauses,
     wait_until,
 )
 
@@ -164,7 +164,7 @@ class Sender:
             while (found := self.ask(method, path, command))[0] in (502, 503, 504):
                 self.again += 1
                 if time.monotonic() > begun + 60:
-                    raise Wrong(f"{method} {path}: no desk answers")
+                    raise Late(f"{method} {path}: no desk answers")
                 time.sleep(.02)
             self.slowest = max(self.slowest, time.monotonic() - begun)
             if isinstance(wanted[1], dict):
@@ -221,9 +221,9 @@ def kill_for_a_while(desk, senders, has_ended):
 
 
 def try_desks(world):
-    """Through HAProxy each request gets the reply that a desk of its group alone gives, by the rules
-    and by such a desk. While one desk is away, those of the other groups are answered, and none of
-    them is sent again."""
+    """Through HAProxy each request gets the reply that a desk of its group alone gives, by the
+    rules and by such a desk. While one desk is away, those of the other groups are answered, and
+    none of them is sent again."""
     count, is_over = 2500 if world.is_whole else 250, threading.Event()
     with four_desks(world) as (desks, port):
         senders = {name: Sender(Group(name, count), port) for name in GROUPS}

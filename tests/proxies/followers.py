@@ -14,7 +14,7 @@ from parts import (
     want_shares,
 )
 from silence import variables
-from world import Caller, Wrong, add, expect, free_port, install, process, wait_until
+from world import Caller, Late, Wrong, add, expect, free_port, install, process, wait_until
 
 # How many seconds a change may take to come about: on a machine with much else to do, many.
 LONGEST = 40
@@ -39,7 +39,7 @@ HOSTILE = [*NO_LINES, *(line(version=name) for name in NO_VERSIONS),
 
 
 def want_all_said(said, lines=None):
-    """Each of these lines, which are none, came twice, and is said each time."""
+    """Each of these invalid lines came twice, and is reported each time."""
     wanted = 2 * len(lines or HOSTILE)
 
     def count():
@@ -76,8 +76,8 @@ def want_weights(row, proxy, first, second):
     wanted = {"v1": first, "v2": second}
     try:
         wait_until(row, lambda: proxy.weights() == wanted, LONGEST)
-    except Wrong as wrong:
-        raise Wrong(f"{row}: {proxy.weights()} in place of {wanted}") from wrong
+    except Late as late:
+        raise Late(f"{row}: {proxy.weights()} in place of {wanted}") from late
     want_shares(row, proxy.port, wanted, 2)
 
 
@@ -170,8 +170,8 @@ def try_follower_streams(world):
 EVIL = "\u001b[2J\u202e"
 STATE = "1 web {} {} 127.0.0.1 2 0 {} 1 1\n"
 TRUE = (STATE.format(1, "v1", 65) + STATE.format(2, "v2", 35)).encode()
-# What a socket that is not HAProxy's answers to each command, and what of it is said, in turn. None:
-# the follower hangs up.
+# What a socket that is not HAProxy's answers to each command, and what of it is said, in turn.
+# None: the follower hangs up.
 LIES = [
     (b"", "web has no server v1: nothing is changed"),
     (b"\xff\xfe", "UnicodeDecodeError"),
@@ -203,16 +203,18 @@ def lying(path):
         server.bind(str(path))
         server.listen()
 
+        def answer(client, now):
+            told = LIES[now][0] if now < len(LIES) else TRUE
+            try:
+                with client:
+                    lie(client, told, lambda: turn[0] != now)
+            except OSError:
+                hung_up.append(told)
+
         def serve():
             with contextlib.suppress(OSError):
                 while True:
-                    client, now = server.accept()[0], turn[0]
-                    answer = LIES[now][0] if now < len(LIES) else TRUE
-                    try:
-                        with client:
-                            lie(client, answer, lambda now=now: turn[0] != now)
-                    except OSError:
-                        hung_up.append(answer)
+                    answer(server.accept()[0], turn[0])
 
         threading.Thread(target=serve, daemon=True).start()
         try:
@@ -291,9 +293,9 @@ def want_answers(row, proxy, first, second):
     while True:
         try:
             return want_shares(row, proxy.port, wanted, 12, 300)
-        except Wrong:
+        except Wrong as wrong:
             if time.monotonic() > until:
-                raise
+                raise Late(str(wrong)) from wrong
 
 
 def try_nginx(world):

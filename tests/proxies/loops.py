@@ -1,11 +1,12 @@
 """The loop of examples/loop, as a whole and with each of its parts killed: parts of proxies.py."""
-import contextlib
-import os
-import signal
+import re
 import subprocess
 
 from parts import OPERATIONS
-from world import environment, expect, process
+from world import Late, Wrong, environment, expect, process_group
+
+# What the loop says of something that did not come in time.
+SAID_LATE = re.compile(r"not in \d+ seconds|does not end|is not seen in|still answer|timed out")
 
 
 # A name with a blank.
@@ -15,17 +16,12 @@ KEPT = "what is kept"
 def run_loop(world, name, *words):
     """What the loop shows. It ends well, and leaves nothing but what it is told to keep."""
     folder = world.place(name)
-    with process([OPERATIONS.parent / "loop" / "run", *words, world.program], cwd=folder,
-                 env=environment(TMPDIR=str(folder)), stdin=subprocess.DEVNULL,
-                 stdout=subprocess.PIPE, stderr=subprocess.STDOUT, text=True,
-                 start_new_session=True) as started:
-        started.is_of_group = True
-        try:
-            shown = started.communicate(timeout=400)[0]
-        finally:
-            with contextlib.suppress(ProcessLookupError):
-                os.killpg(started.pid, signal.SIGKILL)
-    expect(f"the loop: {shown}", started.returncode, 0)
+    with process_group([OPERATIONS.parent / "loop" / "run", *words, world.program], cwd=folder,
+                       env=environment(TMPDIR=str(folder)), stdin=subprocess.DEVNULL,
+                       stdout=subprocess.PIPE, stderr=subprocess.STDOUT, text=True) as started:
+        shown = started.communicate(timeout=400)[0]
+    if started.returncode != 0:
+        raise (Late if SAID_LATE.search(shown) else Wrong)(f"{started.returncode}: {shown}")
     expect("it leaves", [path.name for path in folder.iterdir()], [KEPT] * ("--keep" in words))
     return folder, shown
 

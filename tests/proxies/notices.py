@@ -15,7 +15,7 @@ from followers import (
     LONGEST, NO_LINES, NO_VERSIONS, NO_WEIGHTS, line, said_after, unheard, want_all_said)
 from parts import OPERATIONS, children_of, follower, is_alive, lasts, speaking
 from silence import variables
-from world import Caller, Wrong, expect, free_port, process, rollout, wait_until
+from world import Caller, Late, Wrong, expect, free_port, process, rollout, wait_until
 
 METRIC = {"name": "m", "successCondition": "result >= 95", "failureCondition": "result < 90",
           "failureLimit": 0, "inconclusiveLimit": 0}
@@ -101,10 +101,18 @@ def variables_for(around, port):
 
 def want_texts(row, hook, *wanted):
     """It takes these texts, and in the next seconds no other one."""
-    with contextlib.suppress(Wrong):
-        wait_until(row, lambda: hook.texts() == [*wanted], LONGEST)
-    expect(row, hook.texts(), [*wanted])
+    wait_texts(row, hook, [*wanted], LONGEST)
     lasts(row, lambda: hook.texts() == [*wanted])
+
+
+def wait_texts(row, hook, wanted, seconds):
+    """It takes these texts within so many seconds. Those of them that come first are late alone."""
+    try:
+        wait_until(row, lambda: hook.texts() == wanted, seconds, .05)
+    except Late as late:
+        if (found := hook.texts()) == wanted[:len(found)]:
+            raise Late(f"{row}: only {found!r} of {wanted!r}") from late
+        raise Wrong(f"{row}: {found!r} in place of {wanted!r}") from late
 
 
 def add_judged(desk):
@@ -232,10 +240,7 @@ def try_notify_away(world):
 
 
 def want_posted(hook, said, texts):
-    until = time.monotonic() + 3 * LONGEST
-    while hook.texts() != texts and time.monotonic() < until:
-        time.sleep(.1)
-    expect("all are posted", hook.texts(), texts)
+    wait_texts("all are posted", hook, texts, 3 * LONGEST)
     for _, why in ANSWERS:
         if why and f"not posted, tried again: {why}\n" not in said():
             raise Wrong(f"it does not say {why}: {said()}")

@@ -56,7 +56,7 @@ ops 1 0 service v1 setWeight:20 pause setWeight:50 pause => [web Healthy 4 100]
     "service":"api","stable":"v1","status":"Paused","step":3,"version":"v2","weight":50}
 
 
-# Ticks change nothing for those that come behind them: the last one is answered alike with others
+# Ticks change nothing for those that come after them: the last one is answered alike with others
 # before it and without, and the history is the same.
 ops 1 0 on api service v1 pause:10 setWeight:30 pause:20 => [api Healthy 3 100]
 ops 2 0 on api start v2 => [api Paused 0 0]

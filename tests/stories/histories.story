@@ -58,7 +58,7 @@ histories 65
 0 start v2 => [web Progressing 1 10] => 0 start v2;0 step 0 setWeight 10;0 step 1 analysis run 1;
 0 promoteFull => [web Healthy 4 100] => 0 promote full;0 run 1 Successful ended;0 done v2;
 
-# An abort is told behind what time has brought by then, and a run that time ends where it does.
+# An abort is reported after what time has brought by then, and a run that time ends where it does.
 0 service v1 pause:10 pause => [web Healthy 2 100] => 0 created v1;
 0 start v2 => [web Paused 0 0] => 0 start v2;0 step 0 pause 10s;
 20 abort => [web Degraded 1 0] => 10 step 1 pause;20 abort;

@@ -95,7 +95,7 @@ caller;number;service;run;metric;ordinal;taken;result;failure
 agent,1,web,1,m,1,1767225600,5,
 x
 
-# Two runs at a time, and two more behind an abort, each with metrics of its own.
+# Two runs at a time, and two more after an abort, each with metrics of its own.
 export
 ops 1 0 template errs m,interval=60 => [errs 1]
 ops 2 0 template t a,interval=60,count=9 b => [t 1]

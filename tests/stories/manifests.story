@@ -277,7 +277,7 @@ begins {"kind":"AnalysisTemplate","metadata":{"name":"t"},"spec":{"metrics":[ ..
 <<31*{"name":"m"},>>{"name":"m"} => spec.metrics[1].name
 
 # A text that is no JSON, though the body that registers it would be a command's. Its JSON ends
-# before column 86; the reader may stand some bytes behind that.
+# before column 86; the reader may stand some bytes after that.
 begins
 {"kind":"AnalysisTemplate","metadata":{"name":"t"},"spec":{"metrics":[{"name":"m"}]}},
     "template":{"metadata":{"name":"t"},"spec":{"metrics":[{"name":"m"}]}} => near line 1, column 8
@@ -343,7 +343,7 @@ ends {"kind":"Rollout","metadata":{"name":"web"},"spec":{"strategy":{"canary":{"
      expected an object, with or without a duration | spec.strategy.canary.steps[98].pause:
      expected an object, with or without a duration
 
-# What is said behind a finding is not said behind one that is only counted.
+# What is reported after a finding is not reported after one that is only counted.
 ends {"kind":"Rollout","metadata":{"name":"web"},"spec":{"strategy":{"canary":{"steps":[ ... ]}}}}
 <<99*{"pause":5},>>{"plugin":5} =>  | spec.strategy.canary.steps[98].pause:
      expected an object, with or without a duration | and 1 more

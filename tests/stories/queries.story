@@ -18,7 +18,7 @@ ops 2 1 start v2 => [web Paused 1 20]
     ],"service":"web"}
 
 
-# Steps that end by time are shown as ended; a request behind a query finds the service as it was.
+# Steps that end by time are shown as ended; a request after a query finds the service as it was.
 ops 1 0 service v1 pause:10 setWeight:30 pause:20 => [web Healthy 3 100]
 ops 2 0 start v2 => [web Paused 0 0]
 ? 10 service web => {"code":"ok","hold":"none","moment":1767225610,"open":[],"runs":0,

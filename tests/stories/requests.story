@@ -582,7 +582,7 @@ ops 2 50 abort => 409 reused
     "service":"web","stable":"v1","status":"Paused","step":0,"version":"v2","weight":0}
 
 
-# A background run opens where its step is entered, and never behind the last step.
+# A background run opens where its step is entered, and never after the last step.
 ops 1 0 template errs m => [errs 1]
 ops 2 0 service v1 background:errs => [web Healthy 0 100]
 ops 3 0 start v2 => [web Healthy 0 100]

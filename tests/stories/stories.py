@@ -5,11 +5,11 @@ import json
 import math
 import os
 import re
-import shutil
 import subprocess
 import sys
 import tempfile
 
+from book_files import copy
 from story_words import (
     B, LINES, Wrong, answer, blocks, body, command, event, expanded, expect, get, message,
     put, query, replies, reply, wire,
@@ -71,7 +71,7 @@ class Program:
         return ran.stderr.decode()
 
     def warnings(self, words):
-        """What the program tells on standard error where it ends with status 0."""
+        """What the program writes to standard error if it ends with status 0."""
         ran = subprocess.run([self.path, *words], capture_output=True, timeout=60)
         if ran.returncode:
             raise Wrong(f"{words}: status {ran.returncode}: {ran.stderr.decode()}")
@@ -271,7 +271,7 @@ class Streams:
         if head == "messages":
             self.release = self.release or [message(row) for row in rows]
             self.tell_messages(program, rows, [message(row) for row in rows])
-        elif match := re.fullmatch(r"each behind (\d+) of the release", head):
+        elif match := re.fullmatch(r"each after (\d+) of the release", head):
             for row in rows:
                 self.tell_messages(program, [row], [*self.release[:int(match[1])], message(row)])
         elif match := re.fullmatch(r"unanswered ([01])", head):
@@ -381,11 +381,9 @@ def book_of(program, rows):
 
 def copied(program, file):
     """A copy of a book's file, with its log."""
-    copy = program.new_file()
-    for end in ("", "-wal"):
-        if os.path.exists(file + end):
-            shutil.copy(file + end, copy + end)
-    return copy
+    made = program.new_file()
+    copy(file, made)
+    return made
 
 
 def import_line(number, told):

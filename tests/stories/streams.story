@@ -20,8 +20,8 @@ ops/4 => {"promote":{"service":"web"}}
      => 200 OK => {"code":"ok","service":"web","status":"Healthy","step":4,"weight":100}
 ops/5 => {"promote":{"service":"web"}} => 422 Unprocessable Content => {"code":"not-in-progress"}
 
-# What is told of a service behind its start.
-each behind 2 of the release
+# What is reported of a service after its start.
+each after 2 of the release
 /services/web => 200 OK => {"code":"ok","hold":"none","moment":1767225602,"open":[],"runs":0,
     "service":"web","stable":"v1","status":"Paused","step":1,"version":"v2","weight":20}
 /services/web?x=1
@@ -36,8 +36,8 @@ each behind 2 of the release
 /services/web/history/ => 404 Not Found => {"code":"no-route"}
 /services/web/runs => 404 Not Found => {"code":"no-route"}
 
-# What is told behind the first promotion.
-each behind 3 of the release
+# What is reported after the first promotion.
+each after 3 of the release
 /services/web/history => 200 OK => {"code":"ok","lines":["2026-01-01T00:00:00Z created v1",
     "2026-01-01T00:00:01Z start v2","2026-01-01T00:00:01Z step 0 setWeight 20",
     "2026-01-01T00:00:01Z step 1 pause","2026-01-01T00:00:02Z promote",
@@ -136,7 +136,7 @@ GET /nope HTTP/1.1|Connection: a,<<x:09>>close<<x:09>>,b||GET /nope HTTP/1.1||
      => 404 Not Found => {"code":"no-route"}
 
 # Heads with a space too many, a field that goes on in the next line, other versions, a path that is
-# not UTF-8; ends of line that fill the room of a head, and a head that has no room behind them.
+# not UTF-8; ends of line that fill the room of a head, and a head that has no room after them.
 answered with Connection: close
 GET /nope HTTP/1.1|Content-Length : 0|| => 400 Bad Request => {"code":"malformed"}
 GET /nope HTTP/1.1| Content-Length: 0|| => 400 Bad Request => {"code":"malformed"}
@@ -186,7 +186,7 @@ DELETE /nope HTTP/1.1|| => 404 Not Found => {"code":"no-route"}
 GET /services/w%65b HTTP/1.1|| => 400 Bad Request => {"code":"bad-name"}
 GET http://127.0.0.1/services/web HTTP/1.1|| => 404 Not Found => {"code":"no-route"}
 
-# Heads behind ends of line, and with ends of line of one byte; names of fields in other letters,
+# Heads after ends of line, and with ends of line of one byte; names of fields in other letters,
 # and blanks round a value; words that are not close; paths, each up to its first question mark.
 answered
 <<8181*|>>GET /nope HTTP/1.1|| => 404 Not Found => {"code":"no-route"}
@@ -224,7 +224,7 @@ PUT /services/web/history HTTP/1.1|content-length: 2||{}
 DELETE /services/web/runs/1 HTTP/1.1|| => 405 Method Not Allowed => {"code":"method"}
 get /services/web HTTP/1.1|| => 405 Method Not Allowed => {"code":"method"}
 
-# Each byte that is written. A HEAD has no body; the body of a query is read over.
+# Each byte that is written. A HEAD has no body; the body of a query is ignored.
 bytes
 HEAD /callers/ops/requests/1?x HTTP/1.1|| => HTTP/1.1 405 Method Not Allowed|Content-Type: application/json|Content-Length: 17|Allow: PUT||
 HEAD /services/web HTTP/1.1|| => HTTP/1.1 405 Method Not Allowed|Content-Type: application/json|Content-Length: 17|Allow: GET||

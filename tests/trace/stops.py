@@ -52,7 +52,7 @@ class Stops:
             self.desk.write_memory(address, INT3)
 
     def meet(self):
-        """The desk stands behind such an instruction: it goes on from where it stood. Whether it
+        """The desk stands after such an instruction: it goes on from where it stood. Whether it
         does."""
         address = int(gdb.parse_and_eval("$pc")) - len(INT3)
         if address not in self.bytes:

@@ -13,6 +13,7 @@ import kubectl
 import large
 import making
 import reference
+from chosen import chosen
 
 LIMIT = 60
 REFUSAL = re.compile(r"line (\d+), column (\d+): (\S.*)")
@@ -251,8 +252,8 @@ def main():
     PROGRAM = given.program
     count = 10_000 if given.all else 1_000
     print(f"tests/yaml: {count} texts, --seed {given.seed}")
-    parts = [it for it in PARTS if it.__name__ in given.parts or not given.parts]
-    faults = sum(part(random.Random(given.seed), count) for part in parts)
+    faults = sum(part(random.Random(given.seed), count)
+                 for part in chosen("tests/yaml", PARTS, given.parts))
     if faults:
         print(f"tests/yaml: {faults} faults; --seed {given.seed} repeats them", file=sys.stderr)
     return 1 if faults else 0
