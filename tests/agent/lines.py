@@ -13,6 +13,7 @@ from world import Late, Wrong, expect
 
 # What the agent says of a line that it does not take.
 INVALID_LINE = "a line of --values is no SERVICE METRIC VALUE of these files"
+LONG_LINE = "a line of --values has more than 4,096 bytes, and is left out"
 # Of a kind that no agent asks.
 OTHER = {"datadog": {"query": "avg:errors"}}
 # Whose metric has no condition of its own: the desk's is result == 1.
@@ -165,7 +166,7 @@ def try_no_values(world):
         # A last line that is too long and has no end is said, as each other one is.
         write(b"one m " + b"9" * 5000)
         agent.process.stdin.close()
-        agent.wait_said(INVALID_LINE)
+        agent.wait_said(LONG_LINE)
         agent.wait_said("ended")
         time.sleep(2)
         expect("said once", agent.errors().count("ended"), 1)
@@ -174,15 +175,14 @@ def try_no_values(world):
 
 
 def try_last_line(world):
-    """Standard input ends in a line that is too long and has no end. That it is no line is said as
+    """Standard input ends in a line that is too long and has no end. That it is too long is said as
     of any other, and then that no more comes."""
     with reading(world, "last-line", SAID[:1], "-") as (_, agent, write):
         write(b"z" * 5000)
         time.sleep(1)
         agent.process.stdin.close()
         agent.wait_said("the program that gives values has ended: no more come")
-        said = "a line of --values is no SERVICE METRIC VALUE of these files"
-        expect("how often it is said", agent.errors().count(said), 1)
+        expect("how often it is said", agent.errors().count(LONG_LINE), 1)
 
 
 def try_input_of_a_file(world):

@@ -10,7 +10,7 @@ from inputs import JOB, listed
 
 CHANGED, WITHIN = 400, 1.0
 MOST = 2 ** 20
-NO_JSON, TOO_DEEP = "ends here: correct it", "nested more than 127 deep"
+NO_JSON, TOO_DEEP = "no JSON from here on", "nested more than 127 deep"
 FINDING = re.compile(r"-:[1-9][0-9]*:[1-9][0-9]*: \S.*|    .*|and [1-9][0-9]* more")
 # What is put into an example, or takes the place of a part of it.
 PIECES = [b"\n", b"\n\n", b"---\n", b": ", b"- ", b"  ", b"{", b"}", b"[", b"]", b'"', b"'", b"|\n",

@@ -131,9 +131,10 @@ def try_agent_unread(world):
     releases = body_with(code="ok", moment=9, open=[1], service="web", stable="v1", version="v2")
     service = reply(200, releases, JSON)
     served = [[it] for it in SERVICES_UNREAD + [SERVICE]] + [[service, it] for it in RUNS_UNREAD]
+    begun = reply(409, body_with(code="ahead", expected=1), JSON)
     for number, replies in enumerate(served):
-        with serving(*replies) as port:
-            found = world.run(["agent", "--once", "--journals", "journals", "--desk",
+        with serving(begun, *replies) as port:
+            found = world.run(["agent", "--once", "--journals", f"journals-{number}", "--desk",
                                f"127.0.0.1:{port}", "web.json"], place)
             want(number, found, CONTRADICTION, said=f"web: {REPLY_UNREAD}")
     return f"{len(served)} replies"

@@ -146,15 +146,16 @@ impl Looked {
             return Err(Stop::ReplyUnread);
         };
         for metric in metrics.iter() {
-            if let Some(since) = metric.get("due").and_then(Value::as_u64) {
-                self.add_metric(run, metric, since)?;
-            }
+            self.add_metric(run, metric)?;
         }
         Ok(())
     }
 
     // Adds a metric's measurement that is due at the desk's moment; a later one counts for `next`.
-    fn add_metric(&mut self, run: Number, metric: &Value, since: u64) -> Result<(), Stop> {
+    fn add_metric(&mut self, run: Number, metric: &Value) -> Result<(), Stop> {
+        let Some(since) = since_of(metric)? else {
+            return Ok(());
+        };
         if since > self.moment.get() {
             self.next = Some(self.next.unwrap_or(since).min(since));
             return Ok(());
@@ -163,6 +164,19 @@ impl Looked {
             Some(due) => Ok(self.due.push(due)?),
             None => Err(Stop::ReplyUnread),
         }
+    }
+}
+
+// Since when a metric's next measurement is due; none if the desk waits for none. `ReplyUnread` if
+// the reply does not say so.
+fn since_of(metric: &Value) -> Result<Option<u64>, Stop> {
+    let due = metric.get("due");
+    if matches!(due, Some(Value::Null)) {
+        return Ok(None);
+    }
+    match due.and_then(Value::as_u64) {
+        Some(since) => Ok(Some(since)),
+        None => Err(Stop::ReplyUnread),
     }
 }
 
