@@ -4,10 +4,16 @@ use Rattle.sqlite_disk.specs.declared.Disk.{Ghosts}
 use Rattle.sqlite_wal.specs.Recovery.{Image, Pages}
 use Rattle.sqlite_wal.specs.Files.{seen_image}
 use Rattle.sqlite_pool.specs.Stored.{Recovers}
+use Rattle.sqlite_pool.specs.Opening.{IsBlankFile}
 use Rattle.sqlite_store.specs.declared.store.FileStore.{FileStore}
 use Rattle.sqlite_store.specs.declared.store.open.Unopened.{Unopened}
 use Rattle.sqlite_store.specs.FileStore.{state}
 use Rattle.sqlite_store.specs.Unopened.{state_of, image}
+
+-- There is no database: the database file is empty, whatever its log holds, or is what was left of
+-- a first page of 512 bytes that was not made to its end.
+abbrev pub HaveNoDatabase : Image → Type 0
+HaveNoDatabase = IsBlankFile 512
 
 module _ {D : Type 0} {g : Ghosts D} where
   -- the store's pages are those that these contents of a log and a database file stand for

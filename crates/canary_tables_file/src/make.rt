@@ -3,6 +3,7 @@ ghost use Rattle.std.specs.Prelude.{◌≡◌, IsTrue, IfOk, IfErr};
 ghost use Rattle.sqlite.specs.Opening.{is_open_error};
 ghost use Rattle.sqlite_pager.specs.Pager.{files as files_below};
 ghost use Rattle.sqlite_store.specs.Unopened.{files_of, AreUsable};
+ghost use Rattle.sqlite_wal.specs.Reads.{AreClean};
 
 use crate::fault::{IO, NO_MEMORY, error_alone, error_of};
 use crate::options::first_options;
@@ -25,6 +26,8 @@ pub(crate) fn make<D: Disk + Drop>(
     ensures named { IfErr result (λ e. IsTrue (is_open_error e)) }
     ensures usable { IfOk result
         (λ files. IsTrue (D.Disk.is_usable files.log) × IsTrue (D.Disk.is_usable files.db)) }
+    ensures clean { IfOk result
+        (λ made. AreClean D.Disk made.log made.db → AreClean D.Disk files.log files.db) }
 {
     let unopened = unopened(alloc, files, new_size(), first_options(seed))?;
     match unopened.create().map_err(error_alone) {
@@ -38,6 +41,7 @@ fn usable<D: Disk + Drop>(files: Files<D>) -> Result<Files<D>, Error>
     ensures named { IfErr result (λ e. IsTrue (is_open_error e)) }
     ensures usable { IfOk result
         (λ files. IsTrue (D.Disk.is_usable files.log) × IsTrue (D.Disk.is_usable files.db)) }
+    ensures same { IfOk result (λ same. (same.log ≡ files.log) × (same.db ≡ files.db)) }
 {
     if files.may_be_used() {
         Ok(files)
