@@ -1,2 +1,3 @@
 mod Found
 mod Connected
+mod Made

@@ -1,5 +1,6 @@
 -- What is found in files that are opened.
 use Rattle.std.specs.Prelude.{◌≡◌, List, true, IsTrue}
+use Rattle.sqlite.specs.Files.{HoldsDatabase, IsEmpty}
 use Rattle.sqlite_disk.specs.declared.Disk.{Ghosts}
 use Rattle.sqlite_wal.specs.Recovery.{Image, Pages}
 use Rattle.sqlite_wal.specs.Files.{seen_image}
@@ -11,11 +12,16 @@ use Rattle.sqlite_store.specs.FileStore.{state, view}
 use Rattle.sqlite_store.specs.Listing.{file_trees, IsOurs}
 use Rattle.sqlite_store.specs.declared.catalog.Wanted.{Wanted}
 use Rattle.sqlite_store.specs.Unopened.{state_of, image}
+use Rattle.sqlite_trees.specs.Tree.{Trees}
 
 -- There is no database: the database file is empty, whatever its log holds, or is what was left of
 -- a first page of 512 bytes that was not made to its end.
 abbrev pub HaveNoDatabase : Image → Type 0
 HaveNoDatabase = IsBlankFile 512
+
+-- they are a database with nothing in it
+abbrev pub HoldNothing : Image → Type 0
+HoldNothing image = (db : Trees) × HoldsDatabase image db × IsEmpty db
 
 module _ {D : Type 0} {g : Ghosts D} where
   -- the store's pages are those that these contents of a log and a database file stand for
