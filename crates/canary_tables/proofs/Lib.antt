@@ -11,3 +11,4 @@ mod EntryLemmas
 mod HistoryLemmas
 mod KeptLemmas
 mod KnownRows
+mod Openings

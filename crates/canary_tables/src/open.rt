@@ -1,12 +1,16 @@
 //! A book over a file.
 ghost use Rattle.std.specs.Prelude.{◌≡◌, ◌↔◌, false, IsTrue, IfOk, IfSome};
-ghost use Rattle.sqlite.specs.Files.{file_state};
+ghost use Rattle.sqlite.specs.Files.{file_state, AreFoundIn};
 ghost use Rattle.sqlite.specs.Held.{state};
 ghost use Rattle.sqlite.specs.Steps.{IsFresh};
 ghost use Rattle.sqlite_trees.specs.View.{IsClean};
+ghost use Rattle.sqlite_wal.specs.Files.{image_at};
+ghost use Rattle.canary_once.specs.Contents.{no_contents};
 ghost use Rattle.canary_tables_schema.specs.Formed.{IsRising, HasWholeTallies};
 ghost use Rattle.canary_tables_schema.specs.Stores.{IsUsable};
 ghost use Rattle.canary_tables.specs.Adopts.{IsAdopted, IsSoundDesk, IsBegun, IsMadeOf};
+ghost use Rattle.canary_tables.specs.Desk.{contents_in};
+ghost use Rattle.canary_tables.specs.Opened.{IsOpenedAt};
 
 use crate::book::TableBook;
 use crate::fault::TableFault;
@@ -18,7 +22,7 @@ use canary_tables_schema::fault::fault_of;
 use canary_tables_schema::laws as schema_laws;
 use canary_tables_schema::recognize::is_empty;
 use canary_tables_schema::reopen::open_desk;
-use sqlite::{Alter, Connection, Error, ErrorCode, File, FileStore, Unknown};
+use sqlite::{Alter, Connection, Error, ErrorCode, File, FileFrom, FileStore, Start, Unknown};
 use std::alloc::Global;
 
 impl<P: ReadingProgress> TableBook<FileStore<ReportingDisk<File, P>>> {
@@ -45,26 +49,32 @@ impl<P: ReadingProgress> TableBook<FileStore<ReportingDisk<File, P>>> {
     ) -> Result<TableBook<FileStore<ReportingDisk<File, P>>>, TableFault>
         ensures sound { IfOk result (λ book. IsUsable (file_state book)
             → IsSoundDesk (file_state book)) }
+        ensures nothing { IfOk result (λ book. IsUsable (file_state book)
+            → contents_in (file_state book) ≡ no_contents) }
     {
-        match open_desk_file(rt, path, reading, progress) {
+        match open_desk_file(rt, path, reading, progress, Unknown) {
             Ok(Some(book)) => Ok(book),
-            Ok(None) => open_file(rt, path, reading, progress),
+            Ok(None) => open_file(rt, path, reading, progress, Unknown),
             Err(fault) => Err(fault),
         }
     }
 }
 
 // Opens the file if it has a desk's tables, each row of which is held against the schema once.
-fn open_desk_file<P: ReadingProgress, G: JudgingProgress>(
+// `start` stands for what the file and its log held.
+fn open_desk_file<S: Start, P: ReadingProgress, G: JudgingProgress>(
     rt: &HostRuntime,
     path: &str,
     reading: &P,
     progress: &mut G,
-) -> Result<Option<TableBook<FileStore<ReportingDisk<File, P>>>>, TableFault>
-    ensures { IfOk result (λ found. IfSome found (λ book. IsUsable (file_state book)
+    start: S,
+) -> Result<Option<TableBook<FileStore<ReportingDisk<FileFrom<S>, P>>>>, TableFault>
+    ensures sound { IfOk result (λ found. IfSome found (λ book. IsUsable (file_state book)
         → IsSoundDesk (file_state book))) }
+    ensures found { IfOk result (λ found. IfSome found (λ book. IsUsable (file_state book)
+        → AreFoundIn (image_at S.Start) (file_state book).now.trees)) }
 {
-    match open_store(rt, path, reading.again(), Unknown) {
+    match open_store(rt, path, reading.again(), start) {
         Ok(Some(store)) => adopt_store(rt.alloc(), store, progress),
         Ok(None) => Ok(None),
         Err(error) => Err(open_fault(error)),
@@ -111,16 +121,20 @@ fn adopt_connection<S: Alter + Drop, G: JudgingProgress>(
     }
 }
 
-// Opens any file, or makes it.
-fn open_file<P: ReadingProgress, G: JudgingProgress>(
+// Opens any file, or makes it. `start` stands for what the file and its log held.
+fn open_file<S: Start, P: ReadingProgress, G: JudgingProgress>(
     rt: &HostRuntime,
     path: &str,
     reading: &P,
     progress: &mut G,
-) -> Result<TableBook<FileStore<ReportingDisk<File, P>>>, TableFault>
-    ensures { IfOk result (λ book. IsUsable (file_state book) → IsSoundDesk (file_state book)) }
+    start: S,
+) -> Result<TableBook<FileStore<ReportingDisk<FileFrom<S>, P>>>, TableFault>
+    ensures sound { IfOk result (λ book. IsUsable (file_state book)
+        → IsSoundDesk (file_state book)) }
+    ensures found { IfOk result (λ book. IsUsable (file_state book)
+        → IsOpenedAt (image_at S.Start) (file_state book)) }
 {
-    match connect(rt, path, reading.again(), Unknown) {
+    match connect(rt, path, reading.again(), start) {
         Ok(conn) => book_of(rt.alloc(), conn, progress),
         Err(error) => Err(open_fault(error)),
     }

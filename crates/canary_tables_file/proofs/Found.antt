@@ -13,7 +13,17 @@ use Rattle.sqlite_store.specs.declared.store.FileStore.{FileStore}
 use Rattle.sqlite_store.specs.declared.store.open.Unopened.{Unopened}
 use Rattle.sqlite_store.specs.FileStore.{state, view}
 use Rattle.sqlite_store.specs.Unopened.{state_of, image, HasSameFiles, IsCatalogOf, Opens}
-use Rattle.canary_tables_file.specs.Found.{HasPagesOf, StandsAsBefore, IsOpenedFrom}
+use Rattle.sqlite_pool.proofs.ResealLemmas.{adopts_of}
+use Rattle.sqlite_store.specs.Listing.{file_trees, IsOurs}
+use Rattle.sqlite_store.specs.Saved.{kept_schema}
+use Rattle.sqlite_trees.proofs.Doubt.{no_doubt}
+use Rattle.sqlite_trees.specs.Tree.{no_trees}
+use Rattle.sqlite_store.specs.FileStore.{IsReady}
+use Rattle.sqlite.specs.Files.{AreFoundIn}
+use Rattle.std.proofs.Common.{inl}
+use Rattle.std.proofs.Math.Logic.{∥∥₁_map}
+use Rattle.std.proofs.lemmas.Bool.{cond-true}
+use Rattle.canary_tables_file.specs.Found.{HasPagesOf, StandsAsBefore, ReadsItsPages, IsOpenedFrom}
 
 abbrev pub image_at : List ℕ → List ℕ → Image
 image_at log db = record { log = log; db = db }
@@ -54,3 +64,22 @@ module _ {D : Type 0} {g : Ghosts D} where
   pub all_of : {E : Type 0} (first second : Image) → first ≡ second → (r : Result (Option (FileStore D g)) E)
       → IfOk r (λ found. IfSome found (λ store. IsTrue (view store).is_clean → HasPagesOf first store)) → IfOk r (λ found. IfSome found (λ store. IsTrue (view store).is_clean → HasPagesOf second store))
   all_of first second same r is = subst (λ (i : Image). IfOk r (λ found. IfSome found (λ store. IsTrue (view store).is_clean → HasPagesOf i store))) same is
+
+  -- a store in which nothing is written reads its pages by its schema
+  pub reads_pages : (store : FileStore D g) → IsReady store → IsTrue (view store).is_numbered → IsTrue (view store).is_clean → ReadsItsPages store
+  reads_pages store ready numbered clean =
+      let size = (state store).page_size in
+      let wanted = kept_schema store.saved store.schema.items in (
+        wanted,
+        ∥∥₁_map (store.stored (ready.is_open (no_doubt _ clean))) (λ s. subst (λ b. IsOurs size b wanted (state store).committed) numbered s.ours),
+        ready.clean ∙ cond-true _ (file_trees size wanted (state store).committed) no_trees clean,
+      )
+
+  -- so they are what these contents read as, if the pages are theirs
+  pub all_trees_of : {E : Type 0} (first : Image) (r : Result (Option (FileStore D g)) E) → IfOk r (λ found. IfSome found (λ store. IsTrue (view store).is_clean → HasPagesOf first store))
+      → IfOk r (λ found. IfSome found (λ store. IsTrue (view store).is_clean → ReadsItsPages store)) → IfOk r (λ found. IfSome found (λ store. IsTrue (view store).is_clean → AreFoundIn first (view store).trees))
+  all_trees_of first (Ok (Some store)) pages reads = λ clean.
+      let it = reads clean in
+      inl ((state store).page_size, (state store).committed, it.0, adopts_of (state store).page_size first (state store).committed (pages clean), it.1, it.2)
+  all_trees_of first (Ok None) pages reads = tt
+  all_trees_of first (Err e) pages reads = tt

@@ -1,13 +1,27 @@
 -- What is found in files that are opened.
-use Rattle.std.specs.Prelude.{◌≡◌, IsTrue}
+use Rattle.std.specs.Prelude.{◌≡◌, List, true, IsTrue}
+use Rattle.sqlite.specs.Files.{HoldsDatabase, IsEmpty}
 use Rattle.sqlite_disk.specs.declared.Disk.{Ghosts}
 use Rattle.sqlite_wal.specs.Recovery.{Image, Pages}
 use Rattle.sqlite_wal.specs.Files.{seen_image}
 use Rattle.sqlite_pool.specs.Stored.{Recovers}
+use Rattle.sqlite_pool.specs.Opening.{IsBlankFile}
 use Rattle.sqlite_store.specs.declared.store.FileStore.{FileStore}
 use Rattle.sqlite_store.specs.declared.store.open.Unopened.{Unopened}
-use Rattle.sqlite_store.specs.FileStore.{state}
+use Rattle.sqlite_store.specs.FileStore.{state, view}
+use Rattle.sqlite_store.specs.Listing.{file_trees, IsOurs}
+use Rattle.sqlite_store.specs.declared.catalog.Wanted.{Wanted}
 use Rattle.sqlite_store.specs.Unopened.{state_of, image}
+use Rattle.sqlite_trees.specs.Tree.{Trees}
+
+-- There is no database: the database file is empty, whatever its log holds, or is what was left of
+-- a first page of 512 bytes that was not made to its end.
+abbrev pub HaveNoDatabase : Image → Type 0
+HaveNoDatabase = IsBlankFile 512
+
+-- they are a database with nothing in it
+abbrev pub HoldNothing : Image → Type 0
+HoldNothing image = (db : Trees) × HoldsDatabase image db × IsEmpty db
 
 module _ {D : Type 0} {g : Ghosts D} where
   -- the store's pages are those that these contents of a log and a database file stand for
@@ -17,6 +31,14 @@ module _ {D : Type 0} {g : Ghosts D} where
   -- the same of what is seen of a log and a database file
   abbrev pub HasPagesSeen : D → D → FileStore D g → Type 0
   HasPagesSeen log db store = HasPagesOf (seen_image g log db) store
+
+  -- the store's trees are what its pages read as, by the schema that they list
+  abbrev pub ReadsItsPages : FileStore D g → Type 0
+  ReadsItsPages store =
+      let size = (state store).page_size in
+      let pages = (state store).committed in
+      (wanted : List Wanted) × ∥ IsOurs size true wanted pages ∥₁
+      × ((view store).trees ≡ file_trees size wanted pages)
 
   -- what the files stand for now, they stood for before
   pub record StandsAsBefore (old new : Unopened D g) : Type 0 where

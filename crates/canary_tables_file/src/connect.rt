@@ -1,11 +1,15 @@
 //! Opening the file at a path as a database of SQLite.
 ghost use Rattle.std.specs.Prelude.{codes, ◌≡◌, ◌==◌, true, false, IsTrue, IfOk, IfErr};
 ghost use Rattle.std.specs.List.{starts_with};
-ghost use Rattle.sqlite.specs.Files.{file_state, IsOpened};
+ghost use Rattle.sqlite.specs.Files.{file_state, IsEmpty, IsOpened, Finds};
 ghost use Rattle.sqlite.specs.Held.{IsNew};
 ghost use Rattle.sqlite.specs.Opening.{is_open_error};
+ghost use Rattle.sqlite.specs.Start.{FindsIn};
 ghost use Rattle.sqlite.specs.State.{HasCleanDisk};
 ghost use Rattle.sqlite_std_file.specs.File.{file_is_usable, IsFresh};
+ghost use Rattle.sqlite_wal.specs.Files.{image_at, seen_image};
+ghost use Rattle.sqlite_wal.specs.Reads.{AreClean};
+ghost use Rattle.canary_tables_file.specs.Found.{HaveNoDatabase, HoldNothing};
 
 use crate::fault::{CANNOT_OPEN, NO_MEMORY};
 use crate::make::make;
@@ -45,6 +49,10 @@ pub fn connect<S: Start, P: ReadingProgress>(
     ensures fresh { IfOk result IsNew }
     ensures guarded { IfOk result
         (λ c. HasCleanDisk (file_state c) → (file_state c).IsShielded) }
+    ensures found { IfOk result (λ c. HasCleanDisk (file_state c)
+        → ¬ HaveNoDatabase (image_at S.Start) → FindsIn (image_at S.Start) (file_state c)) }
+    ensures made { IfOk result (λ c. HasCleanDisk (file_state c)
+        → HaveNoDatabase (image_at S.Start) → IsEmpty (file_state c).committed.trees) }
 {
     let seed = seed(rt)?;
     let files = whole_files(rt, path, seed, start)?;
@@ -64,6 +72,7 @@ fn connection<D: Disk + Drop>(
     ensures fresh { IfOk result IsNew }
     ensures guarded { IfOk result
         (λ c. HasCleanDisk (file_state c) → (file_state c).IsShielded) }
+    ensures found { IfOk result (λ c. HasCleanDisk (file_state c) → Finds files c) }
 {
     match page_size(&mut files) {
         Ok(size) => connection_by(alloc, files, options(size, seed)),
@@ -84,6 +93,7 @@ fn connection_by<D: Disk + Drop>(
     ensures fresh { IfOk result IsNew }
     ensures guarded { IfOk result
         (λ c. HasCleanDisk (file_state c) → (file_state c).IsShielded) }
+    ensures found { IfOk result (λ c. HasCleanDisk (file_state c) → Finds files c) }
 {
     match Connection::open_files(alloc, files, options) {
         Ok(conn) => Ok(conn),
@@ -106,6 +116,12 @@ fn whole_files<S: Start>(
     ensures named { IfErr result (λ e. IsTrue (is_open_error e)) }
     ensures usable { IfOk result (λ files. IsTrue (file_is_usable S.Start files.log)
         × IsTrue (file_is_usable S.Start files.db)) }
+    ensures found { IfOk result (λ files. AreClean ⟦<FileFrom<S> as Disk>⟧ files.log files.db
+        → ¬ HaveNoDatabase (image_at S.Start)
+        → seen_image ⟦<FileFrom<S> as Disk>⟧ files.log files.db ≡ image_at S.Start) }
+    ensures made { IfOk result (λ files. AreClean ⟦<FileFrom<S> as Disk>⟧ files.log files.db
+        → HaveNoDatabase (image_at S.Start)
+        → ∥ HoldNothing (seen_image ⟦<FileFrom<S> as Disk>⟧ files.log files.db) ∥₁) }
 {
     let mut files = open_pair(rt, path, start)?;
     match is_blank(rt.alloc(), &mut files) {

@@ -8,7 +8,7 @@
 //!
 //! In use (canary_tables, src/open.rt):
 //!
-//!     match connect(rt, path, reading.again(), Unknown) {
+//!     match connect(rt, path, reading.again(), start) {
 //!         Ok(conn) => book_of(rt.alloc(), conn, progress),
 //!         Err(error) => Err(open_fault(error)),
 //!     }

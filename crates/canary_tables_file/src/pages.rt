@@ -1,6 +1,10 @@
 //! What the pages of a file are, before it is opened.
-ghost use Rattle.std.specs.Prelude.{◌≡◌, IsTrue, IfErr};
+ghost use Rattle.std.specs.Prelude.{◌≡◌, ◌↔◌, IsTrue, IfOk, IfErr};
 ghost use Rattle.sqlite.specs.Opening.{is_open_error};
+ghost use Rattle.sqlite_wal.specs.Files.{seen_image};
+ghost use Rattle.sqlite_wal.specs.PageSize.{bytes_of};
+ghost use Rattle.sqlite_wal.specs.Reads.{AreClean};
+ghost use Rattle.canary_tables_file.specs.Found.{HaveNoDatabase};
 
 use crate::fault::{IO, NO_MEMORY};
 use sqlite::{Error, ErrorCode, Files};
@@ -24,7 +28,9 @@ const FIRST: u8 = b'S';
 const WITH_SUMS: u32 = 0x0840_2020;
 
 // The page size of a file that is made. `NEW_PAGE` is a valid one.
-pub(crate) fn new_size() -> PageSize {
+pub(crate) fn new_size() -> PageSize
+    ensures { bytes_of result ≡ NEW_PAGE }
+{
     PageSize::new(NEW_PAGE).unwrap()
 }
 
@@ -36,6 +42,10 @@ pub(crate) fn is_blank<D: Disk>(alloc: Global, files: &mut Files<D>) -> Result<b
     ensures db { IsTrue (D.Disk.is_usable files.new.db) }
     ensures same_log { D.Disk.seen files.new.log ≡ D.Disk.seen files.old.log }
     ensures same_db { D.Disk.seen files.new.db ≡ D.Disk.seen files.old.db }
+    ensures clean { AreClean D.Disk files.new.log files.new.db
+        → AreClean D.Disk files.old.log files.old.db }
+    ensures blank { IfOk result (λ is_blank. AreClean D.Disk files.new.log files.new.db
+        → (IsTrue is_blank ↔ HaveNoDatabase (seen_image D.Disk files.old.log files.old.db))) }
     ensures named { IfErr result (λ e. IsTrue (is_open_error e)) }
 {
     match probe_blank(alloc, files, new_size(), false) {
@@ -54,6 +64,8 @@ pub(crate) fn page_size<D: Disk>(files: &mut Files<D>) -> Result<PageSize, Error
     ensures db { IsTrue (D.Disk.is_usable files.new.db) }
     ensures same_log { D.Disk.seen files.new.log ≡ D.Disk.seen files.old.log }
     ensures same_db { D.Disk.seen files.new.db ≡ D.Disk.seen files.old.db }
+    ensures clean { AreClean D.Disk files.new.log files.new.db
+        → AreClean D.Disk files.old.log files.old.db }
     ensures named { IfErr result (λ e. IsTrue (is_open_error e)) }
 {
     match probe_page_size(files) {

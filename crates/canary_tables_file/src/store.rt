@@ -1,13 +1,15 @@
 //! Opening the file at a path as a store, over which there is no connection yet.
 ghost use Rattle.std.specs.Prelude.{codes, ◌≡◌, ◌==◌, IsTrue, IfOk, IfErr, IfSome, OnOk};
 ghost use Rattle.std.specs.List.{starts_with};
+ghost use Rattle.sqlite.specs.Files.{AreFoundIn};
 ghost use Rattle.sqlite.specs.Opening.{is_open_error};
 ghost use Rattle.sqlite.specs.Steps.{IsFresh};
 ghost use Rattle.sqlite_store.specs.FileStore.{view, is_shielded};
 ghost use Rattle.sqlite_store.specs.Unopened.{image, AreUsable};
 ghost use Rattle.sqlite_trees.specs.View.{IsClean};
 ghost use Rattle.sqlite_wal.specs.Files.{image_at};
-ghost use Rattle.canary_tables_file.specs.Found.{HasPagesOf, HasPagesSeen, IsOpenedFrom};
+ghost use Rattle.canary_tables_file.specs.Found.{HasPagesOf, HasPagesSeen, ReadsItsPages};
+ghost use Rattle.canary_tables_file.specs.Found.{IsOpenedFrom};
 
 use crate::connect::{open_pair, seed};
 use crate::fault::error_of;
@@ -46,6 +48,8 @@ pub fn open_store<S: Start, P: ReadingProgress>(
         (λ store. IsClean (view store) → IsFresh (view store))) }
     ensures found { IfOk result (λ found. IfSome found
         (λ store. IsTrue (view store).is_clean → HasPagesOf (image_at S.Start) store)) }
+    ensures trees { IfOk result (λ found. IfSome found (λ store. IsTrue (view store).is_clean
+        → AreFoundIn (image_at S.Start) (view store).trees)) }
     ensures guarded { IfOk result (λ found. IfSome found
         (λ store. IsTrue (view store).is_clean → is_shielded store)) }
 {
@@ -67,6 +71,8 @@ fn store_of<D: Disk + Drop>(
         (λ store. IsClean (view store) → IsFresh (view store))) }
     ensures found { IfOk result (λ found. IfSome found
         (λ store. IsTrue (view store).is_clean → HasPagesSeen files.log files.db store)) }
+    ensures reads { IfOk result (λ found. IfSome found
+        (λ store. IsTrue (view store).is_clean → ReadsItsPages store)) }
     ensures guarded { IfOk result (λ found. IfSome found
         (λ store. IsTrue (view store).is_clean → is_shielded store)) }
 {
@@ -91,6 +97,8 @@ fn store_over<D: Disk + Drop>(
         (λ store. IsClean (view store) → IsFresh (view store))) }
     ensures found { IfOk result (λ found. IfSome found
         (λ store. IsTrue (view store).is_clean → HasPagesOf (image unopened) store)) }
+    ensures reads { IfOk result (λ found. IfSome found
+        (λ store. IsTrue (view store).is_clean → ReadsItsPages store)) }
     ensures guarded { IfOk result (λ found. IfSome found
         (λ store. IsTrue (view store).is_clean → is_shielded store)) }
 {
@@ -108,6 +116,8 @@ fn opened<D: Disk + Drop>(unopened: Unopened<D>) -> Result<Option<FileStore<D>>,
         (λ store. IsClean (view store) → IsFresh (view store))) }
     ensures found { IfOk result (λ found. IfSome found
         (λ store. IsTrue (view store).is_clean → IsOpenedFrom unopened store)) }
+    ensures reads { IfOk result (λ found. IfSome found
+        (λ store. IsTrue (view store).is_clean → ReadsItsPages store)) }
     ensures guarded { IfOk result (λ found. IfSome found
         (λ store. IsTrue (view store).is_clean → is_shielded store)) }
 {
