@@ -4,7 +4,7 @@
 //! Callers may rest on this: the book is a `Book`, honest where its connection is usable, so all
 //! that is proved of one holds of it. `create` takes an empty database alone, and `adopt` one whose
 //! rows are those of sound contents alone; a fault hands back the connection or its store, with the
-//! database as it was. What `open` opens no contract says.
+//! database as it was. No contract says what `open` opens.
 //!
 //! In use (canary_cli, src/file/open.rt):
 //!
