@@ -19,6 +19,12 @@ REPLIES = r'^\d+ +(?:write|sendto)\(\d+, "HTTP/1\.1 .* = (\d+)$'
 NOBODY = '{"promote":{"service":"nobody"}}'
 
 
+def sizes_in(calls):
+    """How many bytes of replies each call sent, by the file of a tracer."""
+    with open(calls, encoding="utf-8", errors="replace") as found:
+        return [int(it) for it in re.findall(REPLIES, found.read(), re.M)]
+
+
 def main():
     port, desk = int(sys.argv[1]), int(sys.argv[2])
     clients = [Client(port) for _ in range(CLIENTS)]
@@ -40,14 +46,16 @@ def main():
         for client in clients:
             while not client.is_answered(REQUESTS):
                 pass
+        wanted, until = CLIENTS * REQUESTS * length, time.monotonic() + 10
+        # A client has the last reply before the tracer has seen the end of its call.
+        while sum(sizes_in(calls.name)) < wanted and time.monotonic() < until:
+            time.sleep(0.05)
         tracer.send_signal(signal.SIGINT)
         tracer.communicate()
-    with open(calls.name, encoding="utf-8", errors="replace") as found:
-        sent = re.findall(REPLIES, found.read(), re.M)
+    sizes = sizes_in(calls.name)
     os.unlink(calls.name)
-    sizes = [int(it) for it in sent]
-    if sum(sizes) != CLIENTS * REQUESTS * length:
-        sys.exit(f"{sum(sizes)} bytes of replies in place of {CLIENTS * REQUESTS * length}")
+    if sum(sizes) != wanted:
+        sys.exit(f"{sum(sizes)} bytes of replies in place of {wanted}")
     # The last clients share the time among fewer, so some turns have more than one.
     if 2 * len(sizes) < CLIENTS * REQUESTS:
         sys.exit(f"{CLIENTS * REQUESTS} requests of {CLIENTS} clients took {len(sizes)} turns")
