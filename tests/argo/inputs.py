@@ -77,8 +77,15 @@ def try_documents(trial):
             expect(f"{file} from its end", (status, sorted(
                 it["metadata"]["name"] for it in found["templates"])), (0, sorted(
                     it["metadata"]["name"] for it in TAKEN[file].templates)))
+    held = {"kind": "Rollout", "metadata": {"name": "web"},
+            "spec": {"strategy": {"canary": {"steps": [{"pause": {}}]}}}}
+    for mark in (b"", b"\xef\xbb\xbf"):
+        with faults:
+            status, found = in_json(trial, ["-"], mark + json.dumps(held).encode(), cwd=place)
+            expect(f"JSON after {mark!r}", (status, [
+                it["metadata"]["name"] for it in found["services"]]), (0, ["web"]))
     faults.end()
-    return f"{5 * len(TAKEN)} ways to read documents"
+    return f"{5 * len(TAKEN) + 2} ways to read documents"
 
 
 def listed(*items):

@@ -237,7 +237,8 @@ def try_warnings(program, folder):
     for name, content in (("held.json", MANIFEST), ("timed.json", timed),
                           ("body.json", b'{"service":{"version":"v1","manifest":%s}}' % timed),
                           ("wrong.json", wrong),
-                          ("two.yaml", b"---\n" + MANIFEST + b"\n---\n" + wrong)):
+                          ("two.yaml", b"---\n" + MANIFEST + b"\n---\n" + wrong),
+                          ("both.yaml", b"---\n" + timed + b"\n---\n" + timed)):
         with open(os.path.join(place, name), "wb") as file:
             file.write(content)
     warned = (b"spec.strategy.canary.steps: no step after weight 20 waits for anybody: a version "
@@ -257,6 +258,8 @@ def try_warnings(program, folder):
         ("wrong.json", 1, found, b""),
         ("--strict wrong.json", 1, found, b""),
         ("two.yaml", 1, b"document of line 3: " + found, b""),
+        ("both.yaml", 0, b"ok\n", b"".join(
+            b"canary: warning: document of line %d: %s" % (line, warned) for line in (1, 3))),
     )
     for words, status, output, errors in rows:
         done = run(program, ["check", *words.split()], place, capture_output=True)
