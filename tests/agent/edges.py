@@ -62,6 +62,12 @@ def try_statuses(world, server):
         desk.write("bad.json", '{"kind": ')
         want_ended("invalid", run_agent(desk, "bad.json", options=ONCE), WORDS, "bad.json:1:")
         want_ended("no such file", run_agent(desk, "none.json", options=ONCE), WORDS, "none.json")
+        want_ended("standard input", run_agent(desk, "-", options=ONCE), WORDS,
+                   "- is no FILE of agent")
+        (desk.folder / "empty").mkdir()
+        ended = run_agent(desk, "empty", options=ONCE)
+        want_ended("an empty folder", ended, WORDS, "Rollout")
+        expect("no file is named", ":1:1" in ended.errors, False)
         desk.write("template.json", listed(*services(server.port)))
         want_ended("no Rollout", run_agent(desk, "template.json", options=ONCE), WORDS, "Rollout")
         desk.write("more.json", listed(*services(server.port, "web", "unknown")))

@@ -137,7 +137,7 @@ FRAMES = [
     web("gzip-chunks", HEAD + b"Transfer-Encoding: gzip, chunked\r\n\r\n4\r\n0.25\r\n0\r\n\r\n",
         says=NO_HTTP),
     web("gzip-body", reply(gzip.compress(GOOD), "200 OK", "Content-Encoding: gzip"),
-        says="JSON|compressed"),
+        says="compressed by gzip"),
     web("chunked-twice", HEAD + b"Transfer-Encoding: chunked, chunked\r\n\r\n4\r\n0.25\r\n0\r\n"
         b"\r\n", says=NO_HTTP),
     web("chunked-not-last", HEAD + b"Transfer-Encoding: chunked, gzip\r\n\r\n4\r\n0.25\r\n0\r\n"
