@@ -109,7 +109,9 @@ def try_stops(program, folder):
             after = [[(call, "error=EIO", f"{names[:at].count(call) + 1}+") for call in CALLS]
                      for at in range(len(names))]
             found = try_rows(stopped, "fails alone", alone, refused("storage"))
-            last = max(at for at, name in enumerate(names) if name in SYNCS)
+            syncs = [at for at, name in enumerate(names) if name in SYNCS]
+            want("each sync that fails alone ends it", {found[at][0] for at in syncs}, {True})
+            last = max(syncs)
             want("the last sync, as the file is closed, fails alone: whether it ends so, and"
                  " whether it is migrated", found[last], (True, True))
             try_rows(stopped, "fails with all after it", after, refused("storage"))

@@ -1,4 +1,4 @@
-manifests 197
+manifests 198
 
 # Texts.
 between ...
@@ -74,6 +74,10 @@ between {"kind":"AnalysisTemplate","metadata":{"name":"t"},"spec":{ ... }}
      expected a duration in a text, as 90s or 1h30m, up to 8760h
      |     instead: write "60s" |
      spec.metrics[1].name: missing; expected 1 to 63 bytes of A-Z a-z 0-9 . _ -
+"metrics":[{"name":"m","interval":"60"},{"name":"n","interval":"6x"}] =>
+     spec.metrics[0].interval (metric "m"): expected a duration in a text, as 90s or 1h30m, up to
+     8760h |     instead: write "60s" | spec.metrics[1].interval (metric "n"): expected a duration
+     in a text, as 90s or 1h30m, up to 8760h
 
 # Metrics.
 between {"kind":"AnalysisTemplate","metadata":{"name":"t"},"spec":{"metrics":[{"name":"errors", ... }]}}
