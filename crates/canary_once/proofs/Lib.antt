@@ -8,6 +8,7 @@ mod Keeping
 pub mod BookLemmas
 pub mod MessageLemmas
 pub mod TemplateLemmas
+pub mod Histories
 pub mod Worlds
 mod Rows
 mod Lawful

@@ -1,5 +1,5 @@
 -- What a book told, as effects leave it, is what the past that has grown by them says.
-use Rattle.std.proofs.Common.{◌≡◌, ℕ, zero, suc, ◌+◌, ◌<◌, List, [], ◌∷◌, ◌++◌, length, drop, get_or, refl, sym, ap, ◌∙◌, drop-cons, arith}
+use Rattle.std.proofs.Common.{◌≡◌, ℕ, zero, suc, ◌+◌, ◌<◌, List, [], ◌∷◌, ◌++◌, length, drop, get_or, refl, sym, ap, ◌∙◌}
 use Rattle.std.specs.Prelude.{true, false, if◌then◌else◌, cond, ◌==◌, map, find, replicate, Option, Some, None, option_map}
 use Rattle.std.specs.List.{AllByRecursion}
 use Rattle.canary_metric.specs.Counts.{counts}
@@ -12,35 +12,14 @@ use Rattle.canary_release.specs.Pasts.{Run, Past, opened_run, closed_in, counts_
 use Rattle.canary_release.specs.Effects.{IsQuiet}
 use Rattle.canary_once.specs.declared.record.RunRecord.{RunRecord}
 use Rattle.canary_once.specs.Records.{record_of, is_numbered, record_numbered}
-use Rattle.canary_once.specs.Showing.{lines_then, lines_after, opened_record, closed_record, opened_of, record_then, record_after}
+use Rattle.canary_once.specs.Showing.{opened_record, closed_record, opened_of, record_then, record_after}
+use Rattle.canary_once.proofs.Histories.{left_more}
 
 -- Loops over effects.
-
--- what is left of a list, with its first element apart
-left_more : (xs : List Effect) (i : ℕ) (x : Effect) → i < length xs → x ≡ get_or xs i x → drop i xs ≡ x ∷ drop (i + 1) xs
-left_more xs i x lt is =
-    let next : suc i ≡ i + 1 = omega arith in
-    drop-cons xs i x lt ∙ (λ k. sym is k ∷ drop (next k) xs)
-
-pub lines_more : (old new whole : List Line) (xs : List Effect) (i : ℕ) (x : Effect) → i < length xs → x ≡ get_or xs i x → lines_after old (drop i xs) ≡ whole → new ≡ lines_then old x → lines_after new (drop (i + 1) xs) ≡ whole
-lines_more old new whole xs i x lt is so_far one =
-    ap (λ (ls : List Line). lines_after ls (drop (i + 1) xs)) one ∙ sym (ap (lines_after old) (left_more xs i x lt is)) ∙ so_far
 
 pub record_more : (number : ℕ) (old new whole : Option RunRecord) (xs : List Effect) (i : ℕ) (x : Effect) → i < length xs → x ≡ get_or xs i x → record_after number old (drop i xs) ≡ whole → new ≡ record_then number old x → record_after number new (drop (i + 1) xs) ≡ whole
 record_more number old new whole xs i x lt is so_far one =
     ap (λ (r : Option RunRecord). record_after number r (drop (i + 1) xs)) one ∙ sym (ap (record_after number old) (left_more xs i x lt is)) ∙ so_far
-
--- Lines.
-
-line_grows : (p : Past) (x : Effect) → lines_then p.history x ≡ (past_with p x).history
-line_grows p (LineAdded line) = refl
-line_grows p (RunOpened x) = refl
-line_grows p (MeasurementRecorded x) = refl
-line_grows p (RunClosed x tallies) = refl
-
-pub lines_grow : (p : Past) (xs : List Effect) → lines_after p.history xs ≡ (past_with_all p xs).history
-lines_grow p [] = refl
-lines_grow p (x ∷ xs) = ap (λ (ls : List Line). lines_after ls xs) (line_grows p x) ∙ lines_grow (past_with p x) xs
 
 -- Runs.
 

@@ -22,7 +22,8 @@ use Rattle.canary_once.specs.Contents.{Contents}
 use Rattle.canary_once.specs.Records.{past_in, past_of}
 use Rattle.canary_once.specs.Views.{found, history_view, run_reply, view_passed, view_service, asked_of, view_of}
 use Rattle.canary_once.specs.Showing.{shown}
-use Rattle.canary_once.proofs.ViewsAfter.{lines_grow, record_grow}
+use Rattle.canary_once.proofs.Histories.{lines_grow}
+use Rattle.canary_once.proofs.ViewsAfter.{record_grow}
 
 -- a service of the model is, as time passes, what is kept of it
 kept_is : WatchesAlike → (m : ModelService) → stored_evolution (stored_form m) ≡ model_evolution m

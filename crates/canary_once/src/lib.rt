@@ -16,6 +16,7 @@ pub mod book;
 mod callers;
 pub mod clock;
 pub mod event;
+pub mod history;
 mod kept_desk;
 mod kept_past;
 mod kept_run;

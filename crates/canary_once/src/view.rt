@@ -8,7 +8,7 @@ ghost use Rattle.canary_once.specs.Showing.{shown, Shows};
 
 use crate::book::{Book, BookFault};
 use crate::event::{Answer, Query};
-use crate::{view_past, view_text};
+use crate::{history, view_past, view_text};
 use canary_base::moments::Moment;
 use canary_base::names::Name;
 use canary_base::numbers::Number;
@@ -81,7 +81,7 @@ fn show_history<B: Book>(
         (B.state book.old) (B.state book.new) result }
 {
     let history = book.history(name)?;
-    let lines = view_past::lines_after(history, passed.effects.as_slice())?;
+    let lines = history::lines_after(history, passed.effects.as_slice())?;
     Ok(view_text::history_reply(alloc, passed.service.name(), lines.as_slice())?)
 }
 

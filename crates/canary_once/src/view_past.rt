@@ -1,59 +1,15 @@
-//! What a book tells of a service, as the effects of time that passed leave it.
-ghost use Rattle.std.specs.Prelude.{◌≡◌, [], ◌∷◌, ◌++◌, IfOk, option_map, replicate};
+//! What a book tells of a run, as the effects of time that passed leave it.
+ghost use Rattle.std.specs.Prelude.{◌≡◌, [], IfOk, option_map, replicate};
 ghost use Rattle.canary_metric.specs.Counts.{counts};
-ghost use Rattle.canary_plan.specs.Lines.{line_at};
-ghost use Rattle.canary_once.specs.Showing.{lines_then, lines_after, opened_record};
-ghost use Rattle.canary_once.specs.Showing.{closed_record, opened_of, record_then, record_after};
+ghost use Rattle.canary_once.specs.Showing.{opened_record, closed_record, opened_of};
+ghost use Rattle.canary_once.specs.Showing.{record_then, record_after};
 
 use crate::record::RunRecord;
 use canary_base::error::Memory;
-use canary_base::lists::Listed;
-use canary_base::moments::Moment;
 use canary_metric::tally::Tally;
-use canary_plan::line::{Line, LineEvent};
 use canary_release::effect::{Closing, Effect, Opening};
 use canary_release::runs::new_tallies;
 use std::alloc::Global;
-
-/// A history with the lines that these effects tell at its end.
-pub(crate) fn lines_after(history: Listed<Line>, effects: &[Effect]) -> Result<Listed<Line>, Memory>
-    ensures { IfOk result (λ lines. lines ≡ lines_after history effects.now) }
-{
-    let mut lines = history;
-    for effect in effects {
-        lines = lines_then(lines, effect)?;
-    }
-    Ok(lines)
-}
-
-// The lines after one effect, which adds a line at the end or leaves them as they are.
-fn lines_then(lines: Listed<Line>, effect: &Effect) -> Result<Listed<Line>, Memory>
-    ensures { IfOk result (λ more. more ≡ lines_then lines effect.now) }
-{
-    match effect {
-        Effect::LineAdded(line) => with_line(lines, line),
-        Effect::RunOpened(_) => Ok(lines),
-        Effect::MeasurementRecorded(_) => Ok(lines),
-        Effect::RunClosed { .. } => Ok(lines),
-    }
-}
-
-// The lines with a copy of this one at the end, or `Memory`.
-fn with_line(lines: Listed<Line>, line: &Line) -> Result<Listed<Line>, Memory>
-    ensures { IfOk result (λ more. more ≡ lines ++ line.now ∷ []) }
-{
-    let Line { moment, event } = *line;
-    push_line(lines, moment, event)
-}
-
-// The line is made where it is put into the list.
-fn push_line(lines: Listed<Line>, moment: Moment, event: LineEvent) -> Result<Listed<Line>, Memory>
-    ensures { IfOk result (λ more. more ≡ lines ++ line_at moment event ∷ []) }
-{
-    let mut lines = lines;
-    lines.push(Line { moment, event })?;
-    Ok(lines)
-}
 
 /// The run of that number after these effects, none of which is a measurement: it may be opened, or
 /// closed, and its tallies stay.

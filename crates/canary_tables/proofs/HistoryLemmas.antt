@@ -1,5 +1,5 @@
 -- The histories that are kept stay those of the contents.
-use Rattle.std.proofs.Common.{◌≡◌, ℕ, suc, ◌+◌, ◌<◌, List, [], ◌∷◌, length, drop, get_or, Bool, true, false, Some, None, refl, sym, ap, ◌∙◌, subst, drop-cons, arith}
+use Rattle.std.proofs.Common.{◌≡◌, ℕ, List, Bool, true, false, Some, None, refl, sym, ap, ◌∙◌, subst}
 use Rattle.std.specs.Prelude.{Option, cond, option_map}
 use Rattle.std.specs.Cmp.Lexicographic.{nat_list_cmp_total}
 use Rattle.std.specs.FinMap.{get, insert, remove, get-insert, get-remove}
@@ -9,31 +9,19 @@ use Rattle.canary_plan.specs.Commands.{subject_of}
 use Rattle.canary_release.specs.declared.service.ServiceParts.{ServiceParts}
 use Rattle.canary_release.specs.declared.state.ServiceState.{ServiceState}
 use Rattle.canary_release.specs.declared.effect.Effect.{Effect}
-use Rattle.canary_release.specs.declared.effect.Effect.TheVariants.{LineAdded, RunOpened, MeasurementRecorded, RunClosed}
 use Rattle.canary_release.specs.declared.decide.DeskChange.{DeskChange}
 use Rattle.canary_release.specs.declared.decide.DeskChange.TheVariants.{Nothing, Template as AddsTemplate, Service as Updates}
-use Rattle.canary_release.specs.Pasts.{Past, no_past, past_with, past_with_all}
+use Rattle.canary_release.specs.Pasts.{no_past}
 use Rattle.canary_release.specs.Desks.{ModelService, Desk, after, ruling_on, apply}
 use Rattle.canary_release.specs.Stored.{stored_form, stored_service, change_of, desk_with, stored_by, KeepsWhatIsSeen}
 use Rattle.canary_release.specs.Order.{AreInOrder}
 use Rattle.canary_once.specs.Contents.{Contents, put_some}
 use Rattle.canary_once.specs.Records.{past_in}
-use Rattle.canary_once.specs.Showing.{lines_then, lines_after}
+use Rattle.canary_once.specs.Showing.{lines_after}
+use Rattle.canary_once.proofs.Histories.{lines_grow}
 use Rattle.canary_tables.specs.CacheMaps.{Named, IsWithin}
 use Rattle.canary_tables.specs.Caches.{AreHistories, with_lines, with_told}
 use Rattle.canary_tables.proofs.EntryLemmas.{is_it, equal_names, put_anew}
-
--- Loops over effects.
-
--- what is left of a list, with its first element apart
-left_more : (xs : List Effect) (i : ℕ) (x : Effect) → i < length xs → x ≡ get_or xs i x → drop i xs ≡ x ∷ drop (i + 1) xs
-left_more xs i x lt is =
-    let next : suc i ≡ i + 1 = omega arith in
-    drop-cons xs i x lt ∙ (λ k. sym is k ∷ drop (next k) xs)
-
-pub lines_more : (old new whole : List Line) (xs : List Effect) (i : ℕ) (x : Effect) → i < length xs → x ≡ get_or xs i x → lines_after old (drop i xs) ≡ whole → new ≡ lines_then old x → lines_after new (drop (i + 1) xs) ≡ whole
-lines_more old new whole xs i x lt is so_far one =
-    ap (λ (ls : List Line). lines_after ls (drop (i + 1) xs)) one ∙ sym (ap (lines_after old) (left_more xs i x lt is)) ∙ so_far
 
 -- A history that is taken out, and may be put back.
 
@@ -72,16 +60,6 @@ lines_so m n change s effects name is named within =
     subst (λ (x : DeskChange). IsWithin n (with_lines m x)) (sym is) (subst (λ (k : List ℕ). IsWithin n (with_told m k effects)) named within)
 
 -- A request is settled.
-
-line_grows : (p : Past) (x : Effect) → lines_then p.history x ≡ (past_with p x).history
-line_grows p (LineAdded line) = refl
-line_grows p (RunOpened x) = refl
-line_grows p (MeasurementRecorded x) = refl
-line_grows p (RunClosed x tallies) = refl
-
-lines_grow : (p : Past) (xs : List Effect) → lines_after p.history xs ≡ (past_with_all p xs).history
-lines_grow p [] = refl
-lines_grow p (x ∷ xs) = ap (λ (ls : List Line). lines_after ls xs) (line_grows p x) ∙ lines_grow (past_with p x) xs
 
 -- the history of a service, on a desk
 abbrev history_on : Desk → List ℕ → List Line

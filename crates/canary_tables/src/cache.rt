@@ -8,7 +8,6 @@ ghost use Rattle.canary_tables.specs.Caches.{IsCacheOf, with_changed, kept_of, w
 ghost use Rattle.canary_tables.specs.Caches.{AreReceipts, with_lines, with_told, KeepsNothing};
 
 use crate::cache_map::CacheMap;
-use crate::pages::lines_after;
 use crate::weights::{
     BYTES_OF_COUNT, bytes_of_history, bytes_of_receipt, bytes_of_service, bytes_of_template,
 };
@@ -16,6 +15,7 @@ use canary_base::lists::Listed;
 use canary_base::names::{MAX_BYTES, Name};
 use canary_base::numbers::Number;
 use canary_once::book::{Receipt, Settlement};
+use canary_once::history::lines_after;
 use canary_plan::line::Line;
 use canary_plan::template::Template;
 use canary_release::decide::DeskChange;

@@ -3,10 +3,8 @@ ghost use Rattle.std.specs.Prelude.{◌≡◌, ◌≢◌, ◌∷◌, ◌++◌, �
 ghost use Rattle.sqlite.specs.Effect.{Database};
 ghost use Rattle.sqlite.specs.Held.{state};
 ghost use Rattle.canary_plan.specs.declared.line.Line.{Line};
-ghost use Rattle.canary_plan.specs.Lines.{line_at};
 ghost use Rattle.canary_release.specs.declared.effect.Recorded.{Recorded};
 ghost use Rattle.canary_once.specs.Records.{history_of, measurements_of};
-ghost use Rattle.canary_once.specs.Showing.{lines_then, lines_after};
 ghost use Rattle.canary_tables_schema.specs.Stores.{IsUsable};
 ghost use Rattle.canary_tables_read.specs.Places.{IsMark, IsPlacedPage, row_of};
 ghost use Rattle.canary_tables_rows.specs.Tables.{Tables};
@@ -16,12 +14,11 @@ ghost use Rattle.canary_tables.specs.Notes.{IsMarked};
 
 use crate::load::store_fault;
 use crate::notes::Mark;
-use canary_base::error::Memory;
 use canary_base::lists::Listed;
-use canary_base::moments::Moment;
 use canary_base::names::Name;
-use canary_plan::line::{Line, LineEvent};
-use canary_release::effect::{Effect, Recorded};
+use canary_once::history::push_line;
+use canary_plan::line::Line;
+use canary_release::effect::Recorded;
 use canary_tables_contents::{laws, reading};
 use canary_tables_read::after::{self, MeasurementAt};
 use canary_tables_read::histories;
@@ -74,49 +71,6 @@ fn with_line(lines: Listed<Line>, row: &HistoryRow) -> Result<Listed<Line>, Stor
         Ok(line) => Ok(push_line(lines, line.moment, line.event)?),
         Err(fault) => Err(store_fault(fault)),
     }
-}
-
-// The lines, and after them one of that moment and event; or `Memory`.
-fn push_line(lines: Listed<Line>, moment: Moment, event: LineEvent) -> Result<Listed<Line>, Memory>
-    ensures { IfOk result (λ longer. longer ≡ lines ++ line_at moment event ∷ []) }
-{
-    let mut lines = lines;
-    lines.push(Line { moment, event })?;
-    Ok(lines)
-}
-
-/// A history with the lines that these effects tell at its end.
-///
-/// # Errors
-/// `Memory` where there is not enough for them.
-pub(crate) fn lines_after(history: Listed<Line>, effects: &[Effect]) -> Result<Listed<Line>, Memory>
-    ensures { IfOk result (λ lines. lines ≡ lines_after history effects.now) }
-{
-    let mut lines = history;
-    for effect in effects {
-        lines = lines_then(lines, effect)?;
-    }
-    Ok(lines)
-}
-
-// The lines after one effect, which adds a line at the end or leaves them as they are.
-fn lines_then(lines: Listed<Line>, effect: &Effect) -> Result<Listed<Line>, Memory>
-    ensures { IfOk result (λ more. more ≡ lines_then lines effect.now) }
-{
-    match effect {
-        Effect::LineAdded(line) => with_copy(lines, line),
-        Effect::RunOpened(_) => Ok(lines),
-        Effect::MeasurementRecorded(_) => Ok(lines),
-        Effect::RunClosed { .. } => Ok(lines),
-    }
-}
-
-// The lines with a copy of this one at the end, or `Memory`.
-fn with_copy(lines: Listed<Line>, line: &Line) -> Result<Listed<Line>, Memory>
-    ensures { IfOk result (λ more. more ≡ lines ++ line.now ∷ []) }
-{
-    let Line { moment, event } = *line;
-    push_line(lines, moment, event)
 }
 
 /// A page of a service's measurements, and how far they are read by it; no mark where it is empty.

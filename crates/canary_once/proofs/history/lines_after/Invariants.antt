@@ -1,6 +1,6 @@
 use Rattle.std.proofs.Common.{◌≡◌, drop}
 use Rattle.canary_once.specs.Showing.{lines_after}
-use Rattle.canary_once.proofs.view_past.lines_after.Given as goal
+use Rattle.canary_once.proofs.history.lines_after.Given as goal
 
 -- what is left leads to where all effects lead
 abbrev pub invariant-loop-effect : goal.invariant-loop-effect

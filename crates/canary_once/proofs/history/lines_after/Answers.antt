@@ -1,6 +1,6 @@
 use Rattle.canary_once.specs.Showing.{lines_after}
-use Rattle.canary_once.proofs.ViewsAfter.{lines_more}
-use Rattle.canary_once.proofs.view_past.lines_after.Goals as goal
+use Rattle.canary_once.proofs.Histories.{lines_more}
+use Rattle.canary_once.proofs.history.lines_after.Goals as goal
 
 pub loop-effect-preserved : goal.loop-effect-preserved
 loop-effect-preserved c =
