@@ -72,7 +72,7 @@ AreEntriesOf served [] (e ∷ es) = ⊥
 AreEntriesOf served (t ∷ taken) (e ∷ es) =
     (IsEntryOf served t e × AreEntriesOf served taken es) ⊎ AreEntriesOf served taken (e ∷ es)
 
--- the entries are these, or one of this measurement stands behind them
+-- the entries are these, or one of this measurement stands after them
 abbrev pub IsWithEntry : Served → Taken → List Entry → List Entry → Type 0
 IsWithEntry served t es new =
     (new ≡ es) ⊎ ((e : Entry) × IsEntryOf served t e × (new ≡ es ++ e ∷ []))

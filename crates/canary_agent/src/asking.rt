@@ -72,7 +72,7 @@ impl ProviderClient {
     /// None.
     ///
     /// # Errors
-    /// `Poll` if the system tells nothing of connections; `Memory`.
+    /// `Poll` if the system reports nothing of connections; `Memory`.
     pub(crate) fn new(rt: &HostRuntime) -> Result<ProviderClient, FetchFault> {
         Ok(ProviderClient {
             fetcher: Fetcher::new(rt, MOST)?,
@@ -138,7 +138,7 @@ impl ProviderClient {
     /// Waits until something comes of a message, so many milliseconds at most.
     ///
     /// # Errors
-    /// `Poll` if the system tells nothing of connections.
+    /// `Poll` if the system reports nothing of connections.
     pub(crate) fn wait(&mut self, rt: &HostRuntime, most: u64) -> Result<(), FetchFault> {
         self.fetcher.wait(rt, Duration::from_millis(most))
     }

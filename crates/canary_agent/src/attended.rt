@@ -11,7 +11,7 @@ use crate::journal::OpenJournal;
 use crate::late::{Lateness, Sightings, is_late, is_too_late, seconds_late};
 use crate::look::{Due, Looked, look};
 use crate::options::AgentOptions;
-use crate::pauses::{NEVER, is_away, is_of_writing, look_after, look_at, pause_after};
+use crate::pauses::{NEVER, is_away, is_of_writing, look_after, look_again, look_at, pause_after};
 use crate::plan::{PlannedMetric, Served};
 use crate::taken::{Came, failed};
 use crate::taking::{Settling, Takings};
@@ -371,20 +371,21 @@ impl Attended {
         alloc: Global,
         token: usize,
         fetched: &Fetched,
+        now: u64,
     ) -> Result<bool, Memory> {
         let settling = self.takings.settle(alloc, token, fetched)?;
         if settling == Settling::Forgotten {
-            self.look_anew();
+            self.look_anew(now);
         }
         Ok(settling != Settling::Foreign)
     }
 
-    // This machine could not measure something: it is looked at at once, unless it is looked at
-    // once in all.
-    fn look_anew(&mut self) {
+    // This machine could not measure something: it is looked at again after a pause, unless it is
+    // looked at once in all.
+    fn look_anew(&mut self, now: u64) {
         self.outcome = worse(self.outcome, ClientExit::Local);
         if self.look_at != NEVER {
-            self.look_at = 0;
+            self.look_at = look_again(now);
         }
     }
 

@@ -22,7 +22,7 @@ pub(crate) enum AgentStop {
     NoService,
     /// The file with values cannot be read.
     Values,
-    /// The system tells nothing of connections.
+    /// The system reports nothing of connections.
     Connections,
 }
 

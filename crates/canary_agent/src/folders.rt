@@ -51,7 +51,7 @@ fn is_read(rt: &HostRuntime, folder: &str, names: &mut FolderNames) -> Result<bo
 }
 
 impl FolderNames {
-    // Adds what is listed, names with a NUL behind each. Whether that was read to its end.
+    // Adds what is listed, names with a NUL after each. Whether that was read to its end.
     fn add_listed<R: Read + Drop>(
         &mut self,
         alloc: Global,
@@ -70,7 +70,7 @@ impl FolderNames {
         Ok(false)
     }
 
-    // Adds these names, with a NUL behind each.
+    // Adds these names, with a NUL after each.
     fn add_all(&mut self, alloc: Global, folder: &str, names: &[u8]) -> Result<(), Memory> {
         for name in names.split(|byte| *byte == 0) {
             self.add(alloc, folder, name)?;

@@ -54,7 +54,7 @@ impl OpenJournal {
     }
 
     /// The same; or, if it is long and nothing is pending, a new journal, and this one's file has
-    /// `.old` behind its name. So nothing is lost that may still come.
+    /// `.old` after its name. So nothing is lost that may still come.
     ///
     /// # Errors
     /// `Journal` if the file cannot be renamed; what `open` answers.

@@ -32,7 +32,7 @@ pub(crate) fn is_of_writing(stop: Stop) -> bool {
     }
 }
 
-/// The pause behind this one, before a service is looked at again that could not be.
+/// The pause after this one, before a service is looked at again that could not be.
 pub(crate) fn pause_after(stop: Stop, pause: u64) -> u64 {
     if stop == Stop::NoService {
         return ABSENT;
@@ -48,6 +48,12 @@ pub(crate) fn look_after(is_refused: bool, now: u64) -> u64 {
     } else {
         now
     }
+}
+
+/// When a service is looked at again of which this machine could not measure something: after a
+/// second, since what is missing may be missing at each try.
+pub(crate) fn look_again(now: u64) -> u64 {
+    now.saturating_add(IDLE)
 }
 
 /// When a service is looked at again that was found so.

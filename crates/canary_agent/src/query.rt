@@ -87,7 +87,7 @@ impl ProviderQuery {
         Ok(filled)
     }
 
-    // Appends a piece of the plan, and what the two brackets close that stand behind it.
+    // Appends a piece of the plan, and what the two brackets close that stand after it.
     fn push_piece(
         &self,
         filled: &mut String,

@@ -4,6 +4,7 @@ use mio::{Events, Interest, Poll, Token};
 use std::alloc::{AllocError, Global};
 use std::fs::{self, File, OpenOptions};
 use std::io::{self, ErrorKind, Read};
+use std::mem;
 use std::net::Net;
 use std::os::fd::{AsRawFd, RawFd};
 use std::os::unix::fs::FileTypeExt;
@@ -73,6 +74,8 @@ pub(crate) struct LineReader {
     // Whether the line that is held is too long, so that the rest of it is left out.
     is_too_long: bool,
     is_ended: bool,
+    // Whether the last read failed.
+    is_failing: bool,
 }
 
 /// What a reader has.
@@ -84,8 +87,23 @@ pub(crate) enum ReadLine {
     TooLong,
     /// That no more comes.
     End,
+    /// That it cannot be read now, which comes once until a read succeeds.
+    Unreadable,
     /// Nothing now.
     Nothing,
+}
+
+// What came of a read.
+#[derive(Clone, Copy)]
+enum InputRead {
+    // Some bytes more.
+    More,
+    // Nothing: that is the end.
+    End,
+    // Nothing now: a signal came first, or nothing is there.
+    Interrupted,
+    // The system cannot read it.
+    Failed,
 }
 
 impl LineReader {
@@ -106,6 +124,7 @@ impl LineReader {
             held: Vec::new(rt.alloc()),
             is_too_long: false,
             is_ended: false,
+            is_failing: false,
         })
     }
 
@@ -127,12 +146,28 @@ impl LineReader {
                 return Ok(ReadLine::Nothing);
             }
             match self.read(input)? {
-                Some(0) if self.has_an_end() => return self.rest(alloc),
-                Some(0) | None => return Ok(ReadLine::Nothing),
-                Some(_) => {}
+                InputRead::More => self.is_failing = false,
+                InputRead::End if self.has_an_end() => return self.rest(alloc),
+                InputRead::End => return Ok(self.none_yet()),
+                InputRead::Interrupted => return Ok(ReadLine::Nothing),
+                InputRead::Failed => return Ok(self.failed()),
             }
         }
         Ok(ReadLine::Nothing)
+    }
+
+    // Nothing now: it was read to its end, and may grow.
+    fn none_yet(&mut self) -> ReadLine {
+        self.is_failing = false;
+        ReadLine::Nothing
+    }
+
+    // That it cannot be read; nothing if that was answered before.
+    fn failed(&mut self) -> ReadLine {
+        if mem::replace(&mut self.is_failing, true) {
+            return ReadLine::Nothing;
+        }
+        ReadLine::Unreadable
     }
 
     // Whether no more comes after its end: of standard input, and not of a file, which may grow.
@@ -179,22 +214,30 @@ impl LineReader {
         }
     }
 
-    // Reads some bytes more: none at the end, or if the file cannot be read. No answer if the read
-    // was interrupted.
-    fn read<R: Read>(&mut self, input: &mut R) -> Result<Option<usize>, AllocError> {
+    // Reads some bytes more.
+    fn read<R: Read>(&mut self, input: &mut R) -> Result<InputRead, AllocError> {
         let mut piece = [0u8; INPUT_PIECE];
         let count = match &mut self.origin {
             Origin::Input => input.read(&mut piece),
             Origin::File(file) => file.read(&mut piece),
         };
-        let count = match count {
-            Ok(count) => count,
-            Err(error) if error.kind() == ErrorKind::Interrupted => return Ok(None),
-            Err(_) => 0,
-        };
-        self.held
-            .extend_from_slice(piece.get(..count).unwrap_or(&[]))?;
-        Ok(Some(count))
+        match count {
+            Ok(0) => Ok(InputRead::End),
+            Ok(count) => {
+                self.held
+                    .extend_from_slice(piece.get(..count).unwrap_or(&[]))?;
+                Ok(InputRead::More)
+            }
+            Err(error) => Ok(without_bytes(error.kind())),
+        }
+    }
+}
+
+// What came of a read that the system refused.
+fn without_bytes(kind: ErrorKind) -> InputRead {
+    match kind {
+        ErrorKind::Interrupted | ErrorKind::WouldBlock => InputRead::Interrupted,
+        _ => InputRead::Failed,
     }
 }
 

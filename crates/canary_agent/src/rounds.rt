@@ -46,6 +46,8 @@ const USED_AGAIN: &str = "nothing is found in the files any more: they are used 
 
 const ENDED: &str = "the program that gives values has ended: no more come";
 
+const UNREADABLE: &str = "the file with values cannot be read now";
+
 const GONE: &str = "not measured any more: no file has a Rollout of this name";
 
 const NO_CALLER: &str = "not measured: its caller's name would have more than 63 bytes";
@@ -193,7 +195,8 @@ impl Rounds {
             return Ok(Some(self.ended()));
         }
         self.wait(rt)?;
-        self.settle(rt.alloc())?;
+        let now = self.watch.now(rt)?;
+        self.settle(rt.alloc(), now)?;
         self.tell_hindrance(rt.alloc(), now, errors)?;
         Ok(None)
     }
@@ -276,6 +279,10 @@ impl Rounds {
                 ReadLine::Line(line) => self.read_line(alloc, line.as_slice(), now, errors)?,
                 ReadLine::TooLong => say(errors, LONG_LINE),
                 ReadLine::End => say(errors, ENDED),
+                ReadLine::Unreadable => {
+                    self.outcome = worse(self.outcome, ClientExit::Local);
+                    say(errors, UNREADABLE);
+                }
                 ReadLine::Nothing => return Ok(()),
             }
         }
@@ -376,13 +383,13 @@ impl Rounds {
     }
 
     // Has each service what came for it.
-    fn settle(&mut self, alloc: Global) -> Result<(), Memory> {
+    fn settle(&mut self, alloc: Global, now: u64) -> Result<(), Memory> {
         for _ in 0..u64::MAX {
             let Some(answer) = self.asking.answer() else {
                 return Ok(());
             };
             for attended in self.list.iter_mut() {
-                if attended.settle(alloc, answer.token, &answer.outcome)? {
+                if attended.settle(alloc, answer.token, &answer.outcome, now)? {
                     break;
                 }
             }

@@ -31,7 +31,7 @@ impl Said<'_> {
     }
 }
 
-// The first word of a text, and what stands behind it.
+// The first word of a text, and what stands after it.
 fn word_of(text: &str) -> Option<(&str, &str)> {
     let (word, rest) = text.trim_start().split_once(' ')?;
     if word.is_empty() {

@@ -120,7 +120,7 @@ asked_apart : (b : Bool) (c : Comparison) (z t : ℤ) → (b ≡ true → z ≢ 
 asked_apart false c z t apart = refl
 asked_apart true c z t apart = ap (and_of (verdict_of_test (compares c z t))) (apart_so z (apart refl)) ∙ and_true (compares c z t)
 
--- of NaN: with the guard where it would be below the constant
+-- of NaN: with the guard if it would be below the constant
 asked_nan : (turned_so : Bool) (c : Comparison) (t : ℤ) → nan <ℤ t → asked (is_below (in_turn turned_so c)) (in_turn turned_so c) (Some nan) t ≡ verdict_of_test (compares_nan c)
 asked_nan false Equal t h = ap verdict_of_test (low_compares Equal nan t h)
 asked_nan false NotEqual t h = ap verdict_of_test (low_compares NotEqual nan t h)
@@ -228,7 +228,7 @@ no_infinite NaNBeside e = refl
 no_infinite InfiniteBeside e = e
 no_infinite NullBeside e = e
 
--- the value of a comparison with a whole number, where NaN is not reported
+-- the value of a comparison with a whole number, if NaN is not reported
 edge_so : ComparesAsDecimals → ShortConstants → (form : Form) (test : Test) (d : DeskTest) (m : Measured) (v : Value) → has_nan form.beside ≡ false → desk_test form test ≡ Some d → IsReported form m v → value (compare_of (Some d)) v ≡ test_value test (given_at test.look.place m)
 edge_so law short form test d m v none e h =
     ap (λ (b : Bool). asked (b && is_below d.comparison) d.comparison (operand_value d.operand v) d.constant) (sym none)
@@ -452,7 +452,7 @@ constant_stands z x n (minus, tens, e, fits, exact) c sign k small =
 constants_ordered : ComparesAsDecimals → (b : Bool) (c : Comparison) (z t : ℤ) (x y : Fraction) (n : ℕ) → IsConstant z x n → IsConstant t y n → compares (in_turn b c) z t ≡ in_order b (compares_exactly c) x y
 constants_ordered law b c z t x y n hx hy = in_order_so b c z t x y (law z t x y n (constant_stands z x n hx) hy)
 
--- of each value, where all is reported
+-- of each value, if all is reported
 default_given : ComparesAsDecimals → (test : Test) (d : ShortDecimal) (z t : ℤ) (n : ℕ) (number : Option ℤ) (given : Option Given) → IsConstant z (fraction_of d) n → IsConstant t (fraction_of test.amount.number) n → IsAlike NullBeside n number given → null_asked (takes_null (in_turn test.turned test.comparison)) (compares (in_turn test.turned test.comparison) z t) (in_turn test.turned test.comparison) number t ≡ test_value test (applied (Default d) given)
 default_given law test d z t n None None hx hy h = null_fault (takes_null (in_turn test.turned test.comparison)) (compares (in_turn test.turned test.comparison) z t) (in_turn test.turned test.comparison) t
 default_given law test d z t n None (Some g) hx hy h = absurd h

@@ -14,7 +14,7 @@ use Rattle.canary_argo.specs.Meaning.{Given, Measured}
 use Rattle.canary_argo.specs.Meaning.Given.{Decimal, NotANumber, Infinite, MinusInfinite, Nothing}
 use Rattle.canary_argo.specs.Meaning.Measured.{One, Several}
 
--- what is reported of what is no decimal, where it is reported
+-- what is reported of what is no decimal, if it is reported
 abbrev pub nan : ℤ
 nan = negsuc 9223372036854775807
 
@@ -40,7 +40,7 @@ abbrev pub has_null : Beside → Bool
 has_null NullBeside = true
 has_null beside = false
 
--- no number that is reported of a decimal is one of these, where they are reported
+-- no number that is reported of a decimal is one of these, if they are reported
 abbrev pub IsApart : Beside → ℤ → Type 0
 IsApart NothingBeside z = Unit {0}
 IsApart NaNBeside z = z ≢ nan

@@ -112,7 +112,7 @@ abbrev pub is_value : ResultPart → Bool
 is_value LengthPlace = false
 is_value place = true
 
--- where null is reported, each value has its `default`
+-- if null is reported, each value has its `default`
 abbrev pub plain_atom : Form → Test → Option DeskAtom
 plain_atom form t =
     if has_null form.beside && is_value t.look.place then None
@@ -202,7 +202,7 @@ abbrev pub except_null : Bool → DeskTest → DeskAtom
 except_null true t = All t (guard t) (at_null NotEqual t)
 except_null false t = Both t (at_null NotEqual t)
 
--- whether null is wanted, where the comparison alone takes it, or does not
+-- whether null is wanted, if the comparison alone takes it, or does not
 abbrev pub null_by : Bool → Bool → DeskTest → DeskAtom
 null_by true true t = guarded_by (is_below t.comparison) t
 null_by true false t = except_null (is_below t.comparison) t

@@ -43,7 +43,7 @@ pub enum UnsupportedSyntax {
     Chain,
     /// `!` before a comparison.
     NotBeforeComparison,
-    /// A place of a list that is no plain number, or lies behind the 16th value.
+    /// A place of a list that is no plain number, or lies after the 16th value.
     Place,
     /// Something else where a comparison must stand.
     Comparison,

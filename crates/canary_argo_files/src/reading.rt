@@ -148,7 +148,7 @@ enum FileContent {
 // Reads the bytes of a file as JSON or, unless they are meant as JSON, as YAML. What is unreadable
 // is a `Refused`, and no error.
 fn documents_of(alloc: Global, bytes: &[u8]) -> Result<FileContent, Memory> {
-    // kubectl takes JSON behind a byte order mark, too
+    // kubectl takes JSON after a byte order mark, too
     let text = bytes.strip_prefix(BYTE_ORDER_MARK).unwrap_or(bytes);
     match Value::from_slice(alloc, text) {
         Ok(value) => return Ok(FileContent::Json(value)),

@@ -4,10 +4,10 @@
 //! the last byte that makes them count is written when all others are: who reads a log from its
 //! start finds all frames of a commit or does not count them, also while it is written. The file is
 //! written by a checkpoint alone: it writes pages that the log has to the file, syncs the file, and
-//! only then begins the log anew, with another header, which no earlier log had. So where the log's
+//! only then begins the log anew, with another header, which no earlier log had. So if the log's
 //! header is the same before the file is copied and after the log is, the log was not begun anew
 //! between: its frames were only added to. Each page that a checkpoint wrote meanwhile, whole or in
-//! part, has its frame in the log that was copied behind it, and all other pages are as they were.
+//! part, has its frame in the log that was copied after it, and all other pages are as they were.
 //! Whoever opens the copy reads these frames over the file, and has the commits up to the last one
 //! that the copied log has whole. A log that is missing, or too short for a header, has no frames,
 //! and no checkpoint writes the file before one was written: it has to be as short afterwards.
@@ -45,7 +45,7 @@ impl Pair {
     /// The files of the database of this name.
     ///
     /// # Errors
-    /// `Memory` where an allocation was refused.
+    /// `Memory` if an allocation was refused.
     pub fn of(alloc: Global, name: &str) -> Result<Pair, BackupFault> {
         let database = format!(in alloc; "{name}")?;
         let log = format!(in alloc; "{name}-wal")?;
@@ -112,7 +112,7 @@ impl Pair {
         self.database.as_str()
     }
 
-    /// Removes both, where they are there.
+    /// Removes both, if they are there.
     pub fn remove(&self, rt: &HostRuntime) {
         let _ = fs::remove_file(rt, self.database.as_str());
         let _ = fs::remove_file(rt, self.log.as_str());
@@ -173,7 +173,7 @@ pub(crate) fn file_fault(kind: ErrorKind) -> BackupFault
     }
 }
 
-// The name as it is where no link is left in its folder; as it is given if there is no such folder.
+// The name as it is with no link left in its folder; as it is given if there is no such folder.
 fn real_name(rt: &HostRuntime, name: &str) -> Result<String, BackupFault> {
     let (folder, last) = split(name);
     match fs::canonicalize(rt, folder) {
@@ -276,8 +276,8 @@ impl StagedCopy {
     /// that are given one name at the same time at most one has it.
     ///
     /// # Errors
-    /// `File` if the disk fails, or the database cannot have its names, which is so where the
-    /// system knows no hard links. There is no file of these names then.
+    /// `File` if the disk fails, or the database cannot have its names, which is so if the system
+    /// knows no hard links. There is no file of these names then.
     pub fn name(&self, rt: &HostRuntime) -> Result<(), BackupFault> {
         match self.take_names(rt) {
             Ok(()) => Ok(()),
@@ -345,7 +345,7 @@ pub(crate) fn copy_pair(rt: &HostRuntime, from: &Pair, to: &Pair) -> Result<(), 
     Err(BackupFault::InUse)
 }
 
-// Copies the files, and tells whether the log was not begun anew meanwhile.
+// Copies the files, and says whether the log was not begun anew meanwhile.
 fn is_copied_at_once(rt: &HostRuntime, from: &Pair, to: &Pair) -> Result<bool, BackupFault> {
     let before = header(rt, from.log.as_str())?;
     copy_once(rt, from, to)?;

@@ -4,11 +4,11 @@
 //! what stands there. So what is copied to be looked at stands in a folder of its own, which its
 //! owner alone may read and change: nobody else can put a file or a link in the place of the copy.
 //! Nobody can remove or rename that folder either, if the folder around it is the caller's or
-//! root's, and is closed to others or sticky, as /tmp is. Such a one is looked for first. Where
-//! there is none, the folder stands beside the file, and somebody who may write there may put
-//! another in its place. So it is looked at again once the copy is made. A name in it is a random
-//! number, which nobody else can read there, so that what is made and removed under such a name is
-//! never another's file.
+//! root's, and is closed to others or sticky, as /tmp is. Such a one is looked for first. If there
+//! is none, the folder stands beside the file, and somebody who may write there may put another in
+//! its place. So it is looked at again once the copy is made. A name in it is a random number,
+//! which nobody else can read there, so that what is made and removed under such a name is never
+//! another's file.
 use crate::copying::{Pair, copy_pair};
 use crate::fault::BackupFault;
 use crate::node::{Node, is_kept, own_folder, random, split};

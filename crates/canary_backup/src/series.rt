@@ -276,7 +276,7 @@ fn known(entry: io::Result<DirEntry>) -> Result<Option<DirEntry>, BackupFault> {
     }
 }
 
-// Removes the databases of these names, without their logs. Tells whether none is left.
+// Removes the databases of these names, without their logs. Says whether none is left.
 fn remove_databases(
     rt: &HostRuntime,
     desk: &Pair,
@@ -301,7 +301,7 @@ fn is_database_removed(
     is_removed(rt, desk, path.as_str())
 }
 
-// Removes a file, but one of the desk's. Tells whether it is removed, or was not to be.
+// Removes a file, but one of the desk's. Says whether it is removed, or was not to be.
 fn is_removed(rt: &HostRuntime, desk: &Pair, path: &str) -> Result<bool, BackupFault> {
     if desk.has_name(rt, path)? {
         return Ok(true);
@@ -321,7 +321,7 @@ fn sync(rt: &HostRuntime, folder: &str, name: &str) -> Result<(), BackupFault> {
     }
 }
 
-// Removes the logs that are alone and older than this name. Tells whether none is left.
+// Removes the logs that are alone and older than this name. Says whether none is left.
 fn remove_logs(
     rt: &HostRuntime,
     desk: &Pair,

@@ -2,7 +2,7 @@
 use Rattle.std.specs.Prelude.{◌≡◌, ℕ, ◌<◌, List, [], ◌++◌, length, Option, Result, OnOk, OnErr}
 use Rattle.std.specs.Io.KnownBytes.{Appends}
 
--- the bytes that a reader has left or that a writer holds, where they are known
+-- the bytes that a reader has left or that a writer holds, if they are known
 abbrev pub Known : Type 0
 Known = Option (List ℕ)
 

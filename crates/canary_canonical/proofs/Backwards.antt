@@ -241,7 +241,7 @@ command_back other h = by_name _ (subject_of other) h
 -- ---- texts
 
 -- a text that is read as what a command is in JSON is read as the command
--- and where it is the command's text, it is canonical
+-- and if it is the command's text, it is canonical
 pub canonical_read : (text : List ℕ) (c : Command) → KeepsLimits c → read text ≡ Some (command_data c) → text ≡ command_text c → canonical_in text ≡ Some c
 unfolding canonical_in
 canonical_read text c h e same =

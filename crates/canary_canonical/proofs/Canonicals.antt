@@ -27,6 +27,6 @@ same_tests law s t is it false false e f = refl
 same_tests law s t is it true false e f = sym ((law _ _).1 (ap command_of ((bytes_eq-Decides s t).0 e))) ∙ f
 same_tests law s t is it false true e f = sym e ∙ (bytes_eq-Decides s t).1 (sym (text_is s is) ∙ ap command_text ((law _ _).0 f) ∙ text_is t it)
 
--- canonical texts are equal exactly where their commands are the same
+-- canonical texts are equal exactly if their commands are the same
 pub same_by_text : SameWhereEqual → (s t : List ℕ) → IsCanonical s → IsCanonical t → bytes_eq s t ≡ same_command (command_of s) (command_of t)
 same_by_text law s t is it = same_tests law s t is it (bytes_eq s t) (same_command (command_of s) (command_of t)) refl refl

@@ -15,7 +15,7 @@ use Rattle.serde_json.specs.Written.{number_text, outline, items_outline, member
 use Rattle.serde_json.proofs.Numbers.{number_of-decimal, number_of-negative}
 use Rattle.serde_json.proofs.Texts.{print-outline}
 
--- 64 bits hold it; a whole number has a sign where it is below 0
+-- 64 bits hold it; a whole number has a sign if it is below 0
 abbrev pub FitsWord : Num → Type 0
 FitsWord (unsigned n) = n < 2 ^ 64
 FitsWord (negative (pos n)) = ⊥

@@ -20,7 +20,7 @@ abbrev pub if_given : {A : Type 0} → (Data → Option A) → Option Data → O
 if_given form None = Some None
 if_given form (Some value) = option_map Some (form value)
 
--- the same, or none where there is no member of that key
+-- the same, or none if there is no member of that key
 abbrev pub at_if : {A : Type 0} → List ℕ → (Data → Option A) → Data → Option (Option A)
 at_if key form value = if_given form (get key value)
 
@@ -85,7 +85,7 @@ list_of form value = option_and_then (each form) (as_array value)
 
 -- ---- limits
 
--- what is made where a limit is kept
+-- what is made if a limit is kept
 abbrev pub where_kept : {A : Type 0} → (limit : Bool) → (IsTrue limit → A) → Option A
 where_kept true make = Some (make refl)
 where_kept false make = None

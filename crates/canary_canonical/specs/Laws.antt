@@ -89,7 +89,7 @@ KeepsLimits c = IsTrue (keeps_limits c)
 abbrev pub ReadsBack : Type 0
 ReadsBack = (c : Command) → KeepsLimits c → canonical_in (command_text c) ≡ Some c
 
--- the law: two commands have one text exactly where they are equal
+-- the law: two commands have one text exactly if they are equal
 abbrev pub OneText : Type 0
 OneText =
     (a b : Command) → KeepsLimits a → KeepsLimits b → (command_text a ≡ command_text b) ↔ (a ≡ b)

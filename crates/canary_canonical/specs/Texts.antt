@@ -41,7 +41,7 @@ only key value = object (member key value no_members)
 
 -- Templates.
 
--- how many successes in a row are asked for, where a number is; where none is, there is no member
+-- how many successes in a row are asked for, if a number is; if none is, there is no member
 abbrev pub passing : Option ℕ → Members → Members
 passing None rest = rest
 passing (Some n) rest = member (codes "passAfter") (whole_data n) rest

@@ -48,7 +48,7 @@ impl CanonicalCommand {
     /// The command with this text, which is kept.
     ///
     /// # Errors
-    /// `Unreadable` where the text is no command's canonical text; `Memory`.
+    /// `Unreadable` if the text is no command's canonical text; `Memory`.
     pub fn read(alloc: Global, text: Text) -> Result<CanonicalCommand, FormFault>
         ensures { IsRead (canonical_in text) result }
     {

@@ -101,7 +101,7 @@ fn with_entries(text: String, alloc: Global, entries: &[Entry]) -> Result<String
     with(all, "]")
 }
 
-// With one more entry, after a comma where it is not the first.
+// With one more entry, after a comma if it is not the first.
 #[tactic(auto, unfolding(crate::specs::Texts::entry_data, crate::specs::Laws::keeps_entry))]
 fn with_entry(text: String, alloc: Global, later: bool, entry: &Entry) -> Result<String, AllocError>
     ensures value { IfOk result (λ all. string_bytes all

@@ -1,9 +1,9 @@
 //! The canonical texts of commands, in JSON, by which a store keeps them.
 //!
 //! Callers may rest on this: a command's text is read as the command, and no other text is, so two
-//! commands have one text exactly where they are equal. Contracts see a `CanonicalCommand` as the
+//! commands have one text exactly if they are equal. Contracts see a `CanonicalCommand` as the
 //! command, and it holds its text. Writing fails by `Memory` alone; reading answers `Unreadable`
-//! only where the text is no command's.
+//! only if the text is no command's.
 //!
 //! In use (canary_tables_contents, src/reading.rt):
 //!

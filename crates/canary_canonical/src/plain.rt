@@ -32,7 +32,7 @@ pub const MAX_ENTRIES: usize = 32;
 /// written with.
 ///
 /// # Errors
-/// `Unreadable` where the value has another form, a part is beyond its limits, or the kind is
+/// `Unreadable` if the value has another form, a part is beyond its limits, or the kind is
 /// another; `Memory`.
 #[tactic(auto, unfolding(crate::specs::Readings::plain_of_kind))]
 pub fn plain_of_kind(alloc: Global, kind: &str, value: &Value) -> Result<Command, FormFault>
@@ -98,7 +98,7 @@ fn report_in(alloc: Global, value: &Value) -> Result<Report, FormFault>
     report_with(service, run, entries).ok_or(FormFault::Unreadable)
 }
 
-// The report, where its run and the number of its entries keep their limits.
+// The report, if its run and the number of its entries keep their limits.
 fn report_with(service: Name, run: u32, entries: Listed<Entry>) -> Option<Report>
     ensures { result ≡ report_with service run entries }
 {
@@ -155,7 +155,7 @@ fn entry_in(alloc: Global, value: &Value) -> Result<Entry, FormFault>
     entry_of(metric, ordinal, taken, outcome).ok_or(FormFault::Unreadable)
 }
 
-// The entry, where its ordinal keeps its limits.
+// The entry, if its ordinal keeps its limits.
 fn entry_of(metric: Label, ordinal: u32, taken: Moment, outcome: Outcome) -> Option<Entry>
     ensures { result ≡ entry_of metric ordinal taken outcome }
 {

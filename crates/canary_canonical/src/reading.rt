@@ -17,8 +17,8 @@ use std::alloc::Global;
 /// The command with this canonical text.
 ///
 /// # Errors
-/// `Unreadable` where the text is no command's canonical text, as one with a space between its
-/// members, with its members in another order, or with a name that is none; `Memory` at any point.
+/// `Unreadable` if the text is no command's canonical text, as one with a space between its
+/// members, with its members in another order, or with an invalid name; `Memory` at any point.
 #[tactic(auto, unfolding(crate::specs::Readings::canonical_in))]
 pub fn from_canonical(alloc: Global, text: &str) -> Result<Command, FormFault>
     ensures { IsRead (canonical_in text.now) result }

@@ -19,7 +19,7 @@ use std::alloc::Global;
 /// The service that it is.
 ///
 /// # Errors
-/// `Unreadable` where it has another form, or a part beyond its limits; `Memory`.
+/// `Unreadable` if it has another form, or a part beyond its limits; `Memory`.
 #[tactic(auto, unfolding(crate::specs::Readings::service_in))]
 pub fn service_in(alloc: Global, value: &Value) -> Result<ServiceSpec, FormFault>
     ensures { IsRead (service_in (view value.now)) result }

@@ -24,7 +24,7 @@ use std::alloc::Global;
 /// The template that it is.
 ///
 /// # Errors
-/// `Unreadable` where it has another form, or a part beyond its limits; `Memory`.
+/// `Unreadable` if it has another form, or a part beyond its limits; `Memory`.
 #[tactic(auto, unfolding(crate::specs::Readings::template_in))]
 pub fn template_in(alloc: Global, value: &Value) -> Result<TemplateSpec, FormFault>
     ensures { IsRead (template_in (view value.now)) result }
@@ -37,7 +37,7 @@ pub fn template_in(alloc: Global, value: &Value) -> Result<TemplateSpec, FormFau
     template_with(name, metrics, dry_run).ok_or(FormFault::Unreadable)
 }
 
-/// The template, where the number of its metrics keeps its limits: 1 to 32.
+/// The template, if the number of its metrics keeps its limits: 1 to 32.
 pub fn template_with(
     name: Name,
     metrics: Listed<MetricSpec>,
@@ -202,7 +202,7 @@ fn count_at(value: &Value, key: &str) -> Option<Option<u32>>
     Some(Some(number_up_to(member, u32::MAX)?))
 }
 
-// A number, or none where there is no such member.
+// A number, or none if there is no such member.
 fn number_at_if(value: &Value, key: &str) -> Option<Option<u32>>
     ensures { result ≡ at_if key.now word_in (view value.now) }
 {

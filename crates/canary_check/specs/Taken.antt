@@ -68,7 +68,7 @@ refusal_on known spec =
     (strategy_refusal (map.get known) spec)
     (bound_refusal (map.get known) (strategy_of spec))
 
--- the same where the templates of these names are there, with one metric of its own each
+-- the same if the templates of these names are there, with one metric of its own each
 abbrev pub refusal_among : List (List ℕ) → ServiceSpec → Option Refusal
 refusal_among names spec = refusal_on (with_stand_ins map.empty names) spec
 

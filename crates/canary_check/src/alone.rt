@@ -95,7 +95,7 @@ pub(crate) fn template_refusal(
     }
 }
 
-/// Why a service is refused, or else why no attempt of it can be bound, where the templates of
+/// Why a service is refused, or else why no attempt of it can be bound, if the templates of
 /// these names are there, with one metric of its own each; or `Memory`.
 pub(crate) fn refusal_among(
     alloc: Global,

@@ -31,7 +31,7 @@ const UNBOUND: &str = "spec.strategy.canary: expected analyses that the desk bin
 /// the desk takes.
 ///
 /// # Errors
-/// `Memory` where an allocation was refused; the templates are then as before.
+/// `Memory` if an allocation was refused; the templates are then as before.
 pub fn add_template(alloc: Global, known: &mut Templates, text: &[u8]) -> Result<(), Memory>
     ensures ok { IfOk result (λ _. known.new ≡ with_template known.old text.now) }
     ensures err { OnErr result (known.new ≡ known.old) }
@@ -89,7 +89,7 @@ fn add_spec(alloc: Global, known: &mut Templates, spec: &TemplateSpec) -> Result
 /// read: `check` says that. Nothing is warned of.
 ///
 /// # Errors
-/// `Memory` where an allocation was refused.
+/// `Memory` if an allocation was refused.
 pub fn check_attempt(alloc: Global, known: &Templates, text: &[u8]) -> Result<CheckReport, Memory>
     ensures taken { IfOk result (λ findings. findings.is_taken ≡ is_bound known.now text.now) }
     ensures quiet { IfOk result (λ findings. IsTrue findings.is_quiet) }

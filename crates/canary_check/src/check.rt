@@ -72,7 +72,7 @@ impl CheckReport {
     }
 
     /// The lines of warnings, which keep the desk from nothing, each ended by a line feed; empty
-    /// where there are none. There are 100 at most, as of findings.
+    /// if there are none. There are 100 at most, as of findings.
     pub fn warnings(&self) -> &str {
         match &self.warnings {
             Some(warnings) => warnings.as_str(),
@@ -80,7 +80,7 @@ impl CheckReport {
         }
     }
 
-    /// The same, where each warning is a finding, after the others; or `Memory`.
+    /// The same, with each warning as a finding after the others; or `Memory`.
     pub fn strict(self, alloc: Global) -> Result<CheckReport, Memory>
         ensures taken { IfOk result (λ found.
             found.is_taken ≡ (self.is_taken && self.is_quiet)) }
@@ -125,7 +125,7 @@ fn joined(lines: String, others: String) -> Result<String, Memory>
 /// `kubectl get -o json` prints it. Which of the two it is its `kind` says; without one, that its
 /// `spec` has `metrics` and no `strategy`, or a `strategy` and no `metrics`.
 ///
-/// It is ok exactly where the desk reads the body of the command that registers the manifest, and
+/// It is ok exactly if the desk reads the body of the command that registers the manifest, and
 /// refuses nothing that the manifest itself holds: a template as the desk binds it; a Rollout as
 /// the desk checks its strategy, and binds it as an attempt begins, if each template that it names
 /// is there, with one metric, of the template's name. What depends on the templates that a desk
@@ -135,7 +135,7 @@ fn joined(lines: String, others: String) -> Result<String, Memory>
 /// If nothing is warned of, it is no Rollout that time alone brings to 100 percent.
 ///
 /// # Errors
-/// `Memory` where an allocation was refused.
+/// `Memory` if an allocation was refused.
 #[tactic(auto, using(crate::proofs::Texts::json_is, crate::proofs::Texts::json_is_none, crate::proofs::Texts::attended_is, crate::proofs::Texts::attended_is_none))]
 pub fn check(alloc: Global, text: &[u8]) -> Result<CheckReport, Memory>
     ensures taken { IfOk result (λ findings. findings.is_taken ≡ is_taken text.now) }
@@ -153,7 +153,7 @@ pub fn check(alloc: Global, text: &[u8]) -> Result<CheckReport, Memory>
 /// Rollouts what becomes of a release. Nothing is found.
 ///
 /// # Errors
-/// `Memory` where an allocation was refused.
+/// `Memory` if an allocation was refused.
 pub fn check_ignored(alloc: Global, manifest: &Value) -> Result<CheckReport, Memory>
     ensures { IfOk result (λ findings. IsTrue findings.is_taken) }
 {
@@ -317,7 +317,7 @@ fn rollout_found(alloc: Global, manifest: &Value, warned: Lines) -> Result<Check
     found(lines, DEPTH, warnings)
 }
 
-/// What was found, in lines, or a general finding where they have none; or `Memory`.
+/// What was found, in lines, or a general finding if they have none; or `Memory`.
 pub(crate) fn found(
     lines: Lines,
     general: &str,

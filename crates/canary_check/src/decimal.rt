@@ -15,7 +15,7 @@ const MAX_DIGITS: usize = 15;
 pub(crate) struct DecimalLiteral<'a> {
     /// The digits before its point, if it has any.
     whole: &'a str,
-    /// The digits behind its point.
+    /// The digits after its point.
     part: &'a str,
 }
 
@@ -24,7 +24,7 @@ pub(crate) struct DecimalLiteral<'a> {
 pub(crate) struct ConditionNumbers {
     /// How many there are, but for the places of a list.
     count: usize,
-    /// The most digits that one of them has behind its point.
+    /// The most digits that one of them has after its point.
     decimals: usize,
 }
 
@@ -52,7 +52,7 @@ fn is_digit(letter: char) -> bool {
     letter.is_ascii_digit()
 }
 
-// Whether what stands behind digits may be of their number.
+// Whether what stands after digits may be of their number.
 fn goes_on(text: &str) -> bool {
     match text.as_bytes() {
         [first, ..] => is_number_byte(*first),
@@ -97,7 +97,7 @@ impl<'a> DecimalLiteral<'a> {
         ])
     }
 
-    // What to write in its place, in three parts, if numbers have so many digits behind their
+    // What to write in its place, in three parts, if numbers have so many digits after their
     // point.
     fn without_point(self, decimals: usize) -> (&'a str, &'a str, &'a str) {
         let whole = self.whole.trim_start_matches('0');
@@ -163,12 +163,12 @@ fn count_in(text: &str) -> usize {
     count
 }
 
-// Whether a number begins with this byte, behind that one.
+// Whether a number begins with this byte, after that one.
 fn begins_number(last: u8, byte: u8) -> bool {
     !is_number_byte(last) && (byte.is_ascii_digit() || byte == b'.')
 }
 
-// The most digits behind a point of the text.
+// The most digits after a point of the text.
 fn decimals_in(text: &str) -> usize {
     let mut most = 0;
     for behind in text.split('.').skip(1) {

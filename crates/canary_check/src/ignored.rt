@@ -10,9 +10,9 @@ use serde_json::Value;
 enum When {
     // Whatever it holds.
     Given,
-    // Where it is true.
+    // If it is true.
     True,
-    // Where it is another number than this.
+    // If it is another number than this.
     Not(u64),
 }
 

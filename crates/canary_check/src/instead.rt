@@ -1,4 +1,4 @@
-//! What to write in place of a text that is no condition, where it has a form that Argo Rollouts
+//! What to write in place of a text that is no condition, if it has a form that Argo Rollouts
 //! reads.
 //!
 //! It goes by what begins at the byte where the text stops being a condition, and by what stands
@@ -63,7 +63,7 @@ fn instead_of_sign(before: &[u8], first: u8, behind: &[u8]) -> Option<&'static s
 
 // ---- words
 
-// Of a word that no condition has, with what stands behind it.
+// Of a word that no condition has, with what stands after it.
 fn instead_of_word(word: &[u8], behind: &[u8]) -> Option<&'static str> {
     if first_of(word)?.is_ascii_digit() {
         return Some(forms::SPELLING);
@@ -125,7 +125,7 @@ fn asks_for_no_value(before: &[u8], rest: &[u8]) -> bool {
     }
 }
 
-// What stands behind `isNaN(..)` or `len(..) == 0`, if the text begins with one.
+// What stands after `isNaN(..)` or `len(..) == 0`, if the text begins with one.
 fn behind_test(text: &str) -> Option<&str> {
     let (call, behind) = text.split_once(')')?;
     let (name, _) = call.split_once('(')?;
@@ -324,7 +324,7 @@ fn instead_of_place(rest: &[u8]) -> Option<&'static str> {
     }
 }
 
-// Where a comparison was expected behind an operand.
+// Where a comparison was expected after an operand.
 fn instead_of_no_comparison(before: &[u8], rest: &[u8]) -> Option<&'static str> {
     match first_of(rest) {
         None => instead_of_alone(before),
@@ -345,7 +345,7 @@ fn instead_of_alone(before: &[u8]) -> Option<&'static str> {
     }
 }
 
-// Of a bracket that closes behind an operand.
+// Of a bracket that closes after an operand.
 fn instead_of_close(before: &[u8], behind: &[u8]) -> Option<&'static str> {
     if begins_comparison(behind.trim_ascii_start()) {
         Some(forms::BRACKETS)

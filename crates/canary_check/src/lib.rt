@@ -1,5 +1,5 @@
-//! What keeps the desk from taking a manifest or the body of a request, told without a desk: for
-//! each member that it would not read, or would refuse, where the member stands and what is
+//! What keeps the desk from taking a manifest or the body of a request, reported without a desk:
+//! for each member that it would not read, or would refuse, where the member stands and what is
 //! expected there.
 //!
 //! Callers may rest on this: a `CheckReport` is ok, and its text is `ok`, exactly if the desk

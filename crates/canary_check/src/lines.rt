@@ -1,6 +1,6 @@
 //! Findings, in lines.
 //!
-//! A finding is a line, behind which more may follow that begin with four spaces: a text with a
+//! A finding is a line, after which more may follow that begin with four spaces: a text with a
 //! caret, and what to write instead. Each is short, and there are 100 at most: those beyond are
 //! counted in a last line. Warnings are such lines, too.
 ghost use Rattle.std.specs.Prelude.{◌≡◌, ◌<◌, false, IfOk, IfSome, IsTrue, is_none, length};
@@ -13,7 +13,7 @@ use std::alloc::Global;
 
 const MAX_FINDINGS_SHOWN: u32 = 100;
 
-// Of warnings without a line, which are none.
+// Of warnings without a line, of which there are none.
 const NO_LINE: &str = "a warning\n";
 
 const EXPECTED: &str = ": expected ";
@@ -209,7 +209,7 @@ impl Lines {
         Ok(self.text)
     }
 
-    // Whether a finding more is told; else it is counted alone.
+    // Whether a finding more is shown; else it is counted alone.
     fn has_room(&mut self) -> bool
         ensures { 0 < self.new.told }
     {
@@ -246,7 +246,7 @@ impl Lines {
         self.put_whose(place.metric);
     }
 
-    // That key, if there is one, behind others or not; whether there is any so far.
+    // That key, if there is one, after others or not; whether there is any so far.
     fn put_key(&mut self, is_behind: bool, key: &str) -> bool
         ensures { self.new.told ≡ self.old.told }
     {

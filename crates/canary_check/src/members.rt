@@ -12,7 +12,7 @@ pub(crate) const NAME: &str = "1 to 63 bytes of a-z 0-9 -, the first and the las
 /// What a label is.
 pub(crate) const LABEL: &str = "1 to 63 bytes of A-Z a-z 0-9 . _ -";
 
-/// The key where it is a plain word, else nothing.
+/// The key if it is a plain word, else nothing.
 pub(crate) fn key_shown(key: &str) -> &str {
     match Label::read(key.as_bytes()) {
         Some(_) => key,
@@ -21,7 +21,7 @@ pub(crate) fn key_shown(key: &str) -> &str {
 }
 
 /// Adds each member of an object whose key is none of these. Of what is no object the
-/// members that lack are told elsewhere.
+/// members that lack are reported elsewhere.
 pub(crate) fn tell_members(
     lines: &mut Lines,
     place: JsonPlace,

@@ -24,7 +24,7 @@ const COMMAND: &str = "body: expected a command\n";
 
 /// What keeps the desk from taking this body of a request.
 ///
-/// It is ok exactly where the desk reads the body as a command, and refuses nothing that the
+/// It is ok exactly if the desk reads the body as a command, and refuses nothing that the
 /// command itself holds: a template and a service as `check` says of their manifests, and of a
 /// report that two entries name one metric. What depends on what a desk has, or on when it is
 /// asked, is no finding, and neither is a body of more than 65,536 bytes.
@@ -32,7 +32,7 @@ const COMMAND: &str = "body: expected a command\n";
 /// If nothing is warned of, it registers no service that time alone brings to 100 percent.
 ///
 /// # Errors
-/// `Memory` where an allocation was refused.
+/// `Memory` if an allocation was refused.
 pub fn check_request(alloc: Global, body: &[u8]) -> Result<CheckReport, Memory>
     ensures taken { IfOk result (λ findings. findings.is_taken ≡ is_request_taken body.now) }
     ensures attended { IfOk result (λ findings.

@@ -138,7 +138,7 @@ fn has_step_key(step: &Value) -> bool {
         || member_of(step, "analysis").is_some()
 }
 
-// Adds why a step is none, but for what its analysis holds.
+// Adds why a step is invalid, but for what its analysis holds.
 fn tell_form(lines: &mut Lines, place: JsonPlace, step: &Value) {
     match (
         member_of(step, "setWeight"),

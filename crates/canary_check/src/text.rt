@@ -1,4 +1,4 @@
-//! What to do with a file that is no manifest in JSON, where it is one in another form.
+//! What to do with a file that is no manifest in JSON, if it is one in another form.
 use crate::body::is_command;
 use crate::check::has_in_spec;
 use canary_canonical::form::only_member;

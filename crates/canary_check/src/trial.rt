@@ -38,7 +38,7 @@ fn refusal_of_metric(alloc: Global, metric: MetricSpec) -> Result<Option<Refusal
 }
 
 /// Why a template is refused that has metrics of these names, and marks these as dry-run; or
-/// `Memory`. Nothing is told of more metrics than a template may have.
+/// `Memory`. Nothing is reported of more metrics than a template may have.
 pub(crate) fn refusal_of_names(
     alloc: Global,
     names: &[Label],

@@ -13,7 +13,7 @@ use std::alloc::Global;
 
 const STEPS: &str = "spec.strategy.canary.steps";
 
-// What is wrong where nobody is waited for.
+// What is wrong if nobody is waited for.
 const UNMEASURED: &str = "a version reaches 100 % even if nothing is measured";
 
 /// Warns of the command that registers the Rollout there: of two weights in a row, and last of

@@ -36,7 +36,7 @@ abbrev pub outcome_of : Result (Unit {0}) Fault → Result ProgramExit Fault
 outcome_of (Ok _) = Ok Done
 outcome_of (Err f) = Err f
 
--- 0 where it was done, 1 for findings or a fault, and 2 where the words leave unclear what is
+-- 0 if it was done, 1 for findings or a fault, and 2 if the words leave unclear what is
 -- asked; of a client that of its outcome
 abbrev pub status_of : Result ProgramExit Fault → ℕ
 status_of (Ok Done) = 0
@@ -113,8 +113,8 @@ IsPiped r new_r w new_w at step done = (served : Result Ended ServeFault)
 
 -- (here the `Bool`s are whether warnings are findings, whether the desk takes the manifest or the
 -- body, and whether it registers no service that time alone brings to 100 percent)
--- it was judged so: `ok` was written where the desk takes it and, if warnings are findings, no such
--- service is registered; something longer where the desk does not take it, or if warnings are
+-- it was judged so: `ok` was written if the desk takes it and, if warnings are findings, no such
+-- service is registered; something longer if the desk does not take it, or if warnings are
 -- findings; or memory ran out, or the output failed
 abbrev pub IsCheckShown : Bool → Bool → Bool → Known → Known → Result ProgramExit Fault → Type 0
 IsCheckShown strict taken attended w new_w (Ok Done) =
@@ -129,7 +129,7 @@ IsCheckShown strict taken attended w new_w (Err f) = (f ≡ fault.Memory) ⊎ (f
 abbrev pub IsNoClient : Result ProgramExit Fault → Type 0
 IsNoClient done = (outcome : client_outcome.ClientExit) → done ≡ Ok (Asked outcome) → ⊥
 
--- where a check found nothing, it wrote `ok`
+-- if a check found nothing, it wrote `ok`
 abbrev pub IsChecked : Known → Known → Result ProgramExit Fault → Type 0
 IsChecked w new_w done = done ≡ Ok Done → Appends w new_w (codes "ok\n")
 
@@ -214,7 +214,7 @@ IsTold (Help text) w new_w status =
 IsTold (Usage text) w new_w status = (status ≡ 2) × (new_w ≡ w)
 IsTold NoMemory w new_w status = (status ≡ 1) × (new_w ≡ w)
 
--- help is told only where it is asked for, and a mistake only where the words have one
+-- help is shown only if it is asked for, and a mistake only if the words have one
 abbrev pub IsTurnedAway : Kinds → Known → Known → ℕ → Type 0
 IsTurnedAway kinds w new_w status =
     (fault : WordsFault) × IsFor kinds fault × IsTold fault w new_w status

@@ -2,7 +2,7 @@
 use Rattle.std.specs.Prelude.{◌≡◌, false}
 use Rattle.canary_once.specs.BookCalls.{BookState}
 
--- it contains what the other contains, and is honest, and in memory, exactly where that is; it is
+-- it contains what the other contains, and is honest, and in memory, exactly if that is; it is
 -- never sure
 pub record IsOver (inner outer : BookState) : Type 0 where
   pub contents : outer.contents ≡ inner.contents

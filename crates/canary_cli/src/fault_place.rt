@@ -1,4 +1,4 @@
-//! What a program works on, which a second line names if that fails: on a terminal, or where people
+//! What a program works on, which a second line names if that fails: on a terminal, or if people
 //! have to do something before the program can go on.
 ghost use Rattle.std.specs.Prelude.{◌≡◌};
 
@@ -28,7 +28,7 @@ const REPLACED: &str = concat!(
     "with one link each, and start the desk again"
 );
 
-/// The address and the files of a program, as its words name them; nothing where it has none.
+/// The address and the files of a program, as its words name them; nothing if it has none.
 #[derive(Drop)]
 pub(crate) struct FaultPlace {
     address: String,
@@ -39,7 +39,7 @@ pub(crate) struct FaultPlace {
 }
 
 impl FaultPlace {
-    /// Of a program whose error stream is a terminal or not. Where an allocation was refused,
+    /// Of a program whose error stream is a terminal or not. If an allocation was refused,
     /// nothing is named.
     pub(crate) fn of(alloc: Global, program: &Program, is_terminal: bool) -> FaultPlace {
         match FaultPlace::named(alloc, program, is_terminal) {
@@ -106,7 +106,7 @@ impl FaultPlace {
         }
     }
 
-    // What to do where a fault is of the file of the records, and there is more to say than the
+    // What to do if a fault is of the file of the records, and there is more to say than the
     // fault.
     fn advice(&self, rt: &HostRuntime, fault: Fault) -> &'static str {
         match fault {

@@ -1,8 +1,8 @@
 //! What a command line comes to: `perform` does what its words ask for, by `read_words` of
 //! canary_cli_words, on a given input, output and error stream.
 //!
-//! Callers may rest on this: where the words are those of `pipe` in memory, what is written is what
-//! it comes to on what was read, and the exit status says how it ended; where they are no
+//! Callers may rest on this: if the words are those of `pipe` in memory, what is written is what
+//! it comes to on what was read, and the exit status says how it ended; if they are no
 //! program's, the input is not read. What the others take from sockets and files no contract says.
 //!
 //! In use (canary_desk, src/main.rt):

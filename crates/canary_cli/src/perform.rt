@@ -45,14 +45,14 @@ use canary_programs::show::show;
 use std::alloc::Global;
 use std::io::{self, ErrorKind, Read, Write};
 
-/// The exit status where what was asked was done.
+/// The exit status if what was asked was done.
 pub const DONE: u8 = 0;
 /// The exit status of a fault, and of findings.
 pub const FAULT: u8 = 1;
-/// The exit status where the command line is none that the desk takes.
+/// The exit status if the command line is not one that the desk takes.
 pub const USAGE: u8 = 2;
 
-// What is said of a word that is not UTF-8, laid out as clap says what is wrong with words.
+// The report on a word that is not UTF-8, laid out as clap says what is wrong with words.
 const NOT_UTF8: &str = concat!(
     "error: a word of the command line is not UTF-8\n\n",
     "Usage: canary <COMMAND>\n\n",
@@ -85,7 +85,7 @@ pub struct Terminals {
     pub errors: bool,
 }
 
-/// Runs a command line, the words behind the program's name, on this input, output and error
+/// Runs a command line, the words after the program's name, on this input, output and error
 /// stream, with the machine's files, sockets and clocks, and answers the exit status. Long work
 /// shows on `errors` how far it has come, and the check of a file on the standard error of the
 /// process. If `errors` is a terminal, `import`, `history` and `export` say there that they made a
@@ -93,11 +93,11 @@ pub struct Terminals {
 ///
 /// 0: what was asked was done, or help or the version was asked for, whose text is written to
 /// `output`. 1: a check found something, or a fault, which one line `canary: WORD` on `errors`
-/// names (`canary_programs::fault::Fault::line`); if `errors` is a terminal, a second line says
-/// what that is, and of which address or file. 2: the command line is none that the desk takes, and
-/// `errors` has the text that says why. `check` also writes there what it warns of, unless
-/// that is among the findings. A fault of
-/// `errors` itself is ignored.
+/// names (`canary_programs::fault::Fault::line`); if `errors` is a terminal, or if people have to
+/// do something first, a second line says what that is, and of which address or file. 2: the
+/// command line is not one that the desk takes, and `errors` has the text that says why. The
+/// client's programs end by `canary_client::outcome::ClientExit`, with 0 to 8. `check` also writes
+/// on `errors` what it warns of, unless that is among the findings. A fault of `errors` is ignored.
 pub fn perform<R: Read, W: Write, F: Write>(
     rt: &HostRuntime,
     words: &[String],
@@ -152,7 +152,7 @@ fn turn_away<W: Write, F: Write>(fault: &WordsFault, output: &mut W, errors: &mu
     }
 }
 
-/// The exit status where the words of the command line could not be had: 2 where one of them is
+/// The exit status if the words of the command line could not be had: 2 if one of them is
 /// not UTF-8, else 1 since memory ran out. `errors` has the text that says so.
 pub fn refuse<F: Write>(error: &io::Error, errors: &mut F) -> u8
     ensures usage { (result ≡ USAGE) ↔ (error_kind error.now ≡ ErrorKind.InvalidData) }
@@ -217,8 +217,8 @@ fn end_unopened<F: Write>(program: &Program, errors: &mut F) -> u8
     }
 }
 
-// Runs a program, and answers its exit status. If it fails on a terminal, it also reports of which
-// address or file.
+// Runs a program, and answers its exit status. If it fails, it also reports of which address or
+// file: on a terminal, or if people have to do something first.
 fn run_placed<R: Read, W: Write, F: Write>(
     rt: &HostRuntime,
     program: Program,

@@ -4,7 +4,7 @@ ghost use Rattle.canary_cli.specs.Performed.{unclear_if, unclear_of};
 
 use canary_cli_words::words::Program;
 
-// What is said of words of `check` that name no file, or two, laid out as clap says what is wrong
+// The report on words of `check` that name no file, or two, laid out as clap says what is wrong
 // with words.
 const CHECKED: &str = concat!(
     "error: check takes FILE or --request FILE, one of them\n\n",

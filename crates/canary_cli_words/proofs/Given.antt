@@ -1,4 +1,4 @@
--- What each command has to be given, where clap finds no fault in the words of its level.
+-- What each command has to be given, if clap finds no fault in the words of its level.
 use Rattle.std.proofs.Common.{inl, inr, ◌≡◌, ℕ, ◌||◌, Bool, true, false, not, List, [], Option, Some, None, codes, refl, subst, sym}
 use Rattle.std.specs.Prelude.{IfSome, slice_get, unwrap_or}
 use Rattle.std.specs.Str.{bytes_eq}

@@ -1,4 +1,4 @@
--- What the words spell where clap finds no fault in them: one of the commands, with all that it has to be given.
+-- What the words spell if clap finds no fault in them: one of the commands, with all that it has to be given.
 use Rattle.std.proofs.Common.{inl, inr, ◌≡◌, ◌↔◌, IfOk, ℕ, Result, ◌∙◌, ap, subst, sym, ◌||◌, Bool, true, false, cond, List, [], ◌∷◌, Option, Some, None, is_some, codes, refl}
 use Rattle.std.specs.Prelude.{find, slice_get, IfSome, IsSome, unwrap_or, option_and_then, option_map}
 use Rattle.std.specs.Option.{option_map_or}
@@ -45,7 +45,7 @@ no_help name other = go (bytes_eq (codes "help") name) (bytes_eq-Decides (codes 
 abbrev named : Text → List Shape → Option Shape
 named name commands = find (λ s. answers_to name (label_of s)) commands
 
--- the command, where it is met with no fault, has all that it has to be given
+-- the command, if it is met with no fault, has all that it has to be given
 abbrev IsGiven : Shape → List Text → Type 0
 IsGiven s words = level_fault s [] nothing_held words false [] ≡ [] → HasProgram (Some (rows_at s words))
 
@@ -150,7 +150,7 @@ met (Some p) words other none =
 
 -- ---- the program
 
--- where clap finds no fault, the words have met one of the commands
+-- if clap finds no fault, the words have met one of the commands
 pub spelled : (words : List Text) → faults_of words ≡ [] → HasProgram (subcommand_of desk_command words)
 spelled words none =
     let stop = stop_after desk.rules (names_of (built desk_command)) (argument_words desk_command words) in
@@ -344,7 +344,7 @@ missed m name r found is = λ rows met.
     let none : false ≡ true = subst IsSome is (found.1 named) in
     cc
 
--- where no command on records was met, nor one that serves a desk, a further one was
+-- if no command on records was met, nor one that serves a desk, a further one was
 pub further_left : (m : ArgMatches) → HasProgram (subcommand_rows_of m)
     → IsMissed m (codes "pipe") × IsMissed m (codes "serve") × IsMissed m (codes "import") × IsMissed m (codes "history") × IsMissed m (codes "export") × IsMissed m (codes "status") × IsMissed m (codes "page") × IsMissed m (codes "backup") × IsMissed m (codes "migrate") × IsMissed m (codes "succeed")
     → HasFurtherProgram (subcommand_rows_of m)
@@ -360,7 +360,7 @@ further_left m (inr (inr (inl (inr (inr (inr (inr (inr (inr (inl h)))))))))) mis
 further_left m (inr (inr (inl (inr (inr (inr (inr (inr (inr (inr h)))))))))) missed = absurd (missed.9 h.0 h.1)
 further_left m (inr (inr (inr h))) missed = h
 
--- where neither that reads manifests was met, one that asks a desk was
+-- if neither that reads manifests was met, one that asks a desk was
 pub client_left : (m : ArgMatches) → HasFurtherProgram (subcommand_rows_of m) → IsMissed m (codes "check") × IsMissed m (codes "argo") → HasClientProgram (subcommand_rows_of m)
 client_left m (inl h) missed = absurd (missed.0 h.0 h.1)
 client_left m (inr (inl h)) missed = absurd (missed.1 h.0 h.1)

@@ -1,5 +1,5 @@
--- What clap's walk over words holds where it meets no fault: each row has a first value that passed the parser of its option.
--- This is for options that take one value each, for flags that are true where they are used, and for flags that ask for help; what stands for an option that is not used passes its parser, too. And where a walk that meets no fault stops at a subcommand, that is not `help`.
+-- What clap's walk over words holds if it meets no fault: each row has a first value that passed the parser of its option.
+-- This is for options that take one value each, for flags that are true if they are used, and for flags that ask for help; what stands for an option that is not used passes its parser, too. And if a walk that meets no fault stops at a subcommand, that is not `help`.
 use Rattle.std.proofs.Common.{◌≡◌, ◌∙◌, ◌⊎◌, ◌++◌, ◌&&◌, ℕ, zero, suc, Bool, true, false, not, codes, cond, List, [], ◌∷◌, length, drop, fold, Option, Some, None, is_some, refl, sym, ap, subst, inl, inr}
 use Rattle.std.specs.Prelude.{find, slice_get, encode_utf8, unwrap_or, option_map, option_and_then, IfSome, if◌then◌else◌}
 use Rattle.std.specs.Option.{option_map_or}
@@ -30,7 +30,7 @@ abbrev pub HasFirst : List Text → Type 0
 HasFirst [] = ⊥
 HasFirst (v ∷ vs) = Unit {0}
 
--- a flag, for which a value stands where it is used
+-- a flag, for which a value stands if it is used
 abbrev pub IsFlag : Rule → Type 0
 IsFlag a = (action_of a ≡ SetTrue) × HasFirst a.missing
 

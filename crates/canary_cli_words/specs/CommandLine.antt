@@ -294,7 +294,7 @@ with_waiting_commands a = with_subcommand (with_subcommand (with_subcommand a wa
 abbrev pub with_agent_command : App → App
 with_agent_command a = with_subcommand a agent_command.top
 
--- the desk without its commands, behind no name of the program; `--version` is taken too
+-- the desk without its commands, after no name of the program; `--version` is taken too
 abbrev pub bare_desk : App
 bare_desk = on_top (λ s. record s {
   no_binary_name = true;
@@ -308,8 +308,8 @@ desk_command = with_agent_command (with_waiting_commands (with_asking_commands
     (with_manifest_commands (with_copy_commands (with_status_commands (with_history_commands
     (with_serving_commands bare_desk)))))))
 
--- what clap finds in the words behind the program's name: the kind of the first mistake, or of a
--- request for help or for the version, and nothing where the desk takes them
+-- what clap finds in the words after the program's name: the kind of the first mistake, or of a
+-- request for help or for the version, and nothing if the desk takes them
 abbrev pub faults_of : List Text → Kinds
 faults_of = fault_of desk_command
 
@@ -359,7 +359,7 @@ serve_of rows = option_map (λ address. Serve address (text_given (codes "db") r
     (number_given (codes "cache") rows) (number_given (codes "connections") rows)
     (limits_of rows)) (text_given (codes "listen") rows)
 
--- what two texts make, where both were given
+-- what two texts make, if both were given
 abbrev pub of_two : (Text → Text → Program) → Option Text → Option Text → Option Program
 of_two make (Some a) (Some b) = Some (make a b)
 of_two make _ _ = None
@@ -520,7 +520,7 @@ abbrev pub HasMistake : Kinds → Type 0
 HasMistake kinds =
     (k : ErrorKind) × IsAmong k kinds × (k ≢ DisplayHelp) × (k ≢ DisplayVersion)
 
--- help is answered only where it is asked for, and usage only where the words have a mistake
+-- help is answered only if it is asked for, and usage only if the words have a mistake
 abbrev pub IsFor : Kinds → WordsFault → Type 0
 IsFor kinds (Help text) = AsksForHelp kinds
 IsFor kinds (Usage text) = HasMistake kinds

@@ -16,7 +16,7 @@ use canary_base::lists::{Listed, Text};
 use clap::ArgMatches;
 use std::alloc::{AllocError, Global};
 
-/// The program that the matches name, where it asks a desk.
+/// The program that the matches name, if it asks a desk.
 pub(crate) fn client_program_of(
     alloc: Global,
     matches: &ArgMatches<'_>,
@@ -255,7 +255,7 @@ fn further_words(
     Ok((begun, two_optional(alloc, asked, "third", "fourth")?))
 }
 
-// The words behind the first four, and the kind of the command with why a measurement failed.
+// The words after the first four, and the kind of the command with why a measurement failed.
 fn more_and_kind(
     alloc: Global,
     asked: &ArgMatches<'_>,

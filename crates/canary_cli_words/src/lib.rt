@@ -2,7 +2,7 @@
 //! they ask for.
 //!
 //! Callers may rest on this: words in which clap finds no fault are read as the one program that
-//! they spell, help is answered only where it is asked for, and what is wrong with words only where
+//! they spell, help is answered only if it is asked for, and what is wrong with words only if
 //! something is (`Memory` aside). The texts themselves, and what `words_of` gives, no contract
 //! says.
 //!

@@ -3,7 +3,7 @@ use std::alloc::Global;
 use std::env::{self, Env, FillError};
 use std::io;
 
-// The words of a process behind its first, under which it was called.
+// The words of a process after its first, under which it was called.
 #[derive(Drop)]
 struct BehindName<'a, R> {
     process: &'a R,
@@ -30,7 +30,7 @@ impl<R: Env> Env for BehindName<'_, R> {
 }
 
 /// The words of the command line, without the program's name, which may be any bytes.
-/// `InvalidData` where a word is not UTF-8, `OutOfMemory` where an allocation was refused.
+/// `InvalidData` if a word is not UTF-8, `OutOfMemory` if an allocation was refused.
 pub fn words_of<R: Env>(process: &R, alloc: Global) -> io::Result<Vec<String>> {
     let words = env::args(&(BehindName { process }, alloc))?.collect(alloc)?;
     Ok(words)

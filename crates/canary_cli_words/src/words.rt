@@ -26,7 +26,7 @@ use clap::{ArgMatches, Error};
 use std::alloc::{AllocError, Global};
 use std::fmt;
 
-/// The limits for the clients of a listener that a command line gives; none where it has no such
+/// The limits for the clients of a listener that a command line gives; none if it has no such
 /// option.
 #[derive(Clone, Copy, Debug, PartialEq, Eq)]
 pub struct AskedLimits {
@@ -42,7 +42,7 @@ pub struct AskedLimits {
     pub max_unsent_total: Option<u64>,
 }
 
-/// Where a desk is, and how patiently it is asked, as a command line says; none where it has no
+/// Where a desk is, and how patiently it is asked, as a command line says; none if it has no
 /// such option.
 #[derive(Debug, Drop)]
 pub struct AskedDesk {
@@ -64,7 +64,7 @@ pub struct AskedCommand {
     pub second: Option<Text>,
     pub third: Option<Text>,
     pub fourth: Option<Text>,
-    /// The words behind these four.
+    /// The words after these four.
     pub more: Listed<Text>,
     /// Why a measurement failed.
     pub failure: Option<Text>,
@@ -205,7 +205,7 @@ pub enum Program {
         json: bool,
         prometheus: bool,
     },
-    /// How the services stand, as a page in the file of the name `out`, or on standard output where
+    /// How the services stand, as a page in the file of the name `out`, or on standard output if
     /// it is `-`: once, or again each time after so many seconds. With `json`, each service also
     /// has a JSON file in the folder of that name.
     Page {
@@ -242,7 +242,7 @@ pub enum Program {
         request: Option<Text>,
         strict: bool,
     },
-    /// What the manifests of Argo Rollouts in the files of these names are for a desk, where `-` is
+    /// What the manifests of Argo Rollouts in the files of these names are for a desk, with `-` for
     /// standard input, written to the folder of the name `out`; or what of them is not translated.
     /// With `json` it is said as one JSON value.
     Argo {
@@ -259,17 +259,17 @@ pub enum Program {
 pub enum WordsFault {
     /// It asks for help or for the version, which is this text.
     Help(String),
-    /// It is none that the desk takes. The text says why, and what is taken.
+    /// It is not one that the desk takes. The text says why, and what is taken.
     Usage(String),
     /// An allocation was refused.
     Memory,
 }
 
-/// Reads a command line: the words behind the program's name.
+/// Reads a command line: the words after the program's name.
 ///
 /// # Errors
-/// `Help` where they ask for help or for the version, and `Usage` where they have a mistake, each
-/// with the text for the user; `Memory` where an allocation was refused.
+/// `Help` if they ask for help or for the version, and `Usage` if they have a mistake, each
+/// with the text for the user; `Memory` if an allocation was refused.
 pub fn read_words(alloc: Global, words: &[String]) -> Result<Program, WordsFault>
     ensures program { IfOk result (λ p. program_of (map string_bytes words.now) ≡ Some p) }
     ensures taken { IfOk result (λ _. faults_of (map string_bytes words.now) ≡ []) }

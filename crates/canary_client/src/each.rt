@@ -38,7 +38,7 @@ pub(crate) fn commands_of<P: Files + AllocGlobal, F: Write>(
     commands_in(rt, words.kind.as_str(), files.as_slice(), errors)
 }
 
-// The commands of this kind, of the words behind it.
+// The commands of this kind, of the words after it.
 fn commands_in<P: Files + AllocGlobal, F: Write>(
     rt: &P,
     kind: &str,

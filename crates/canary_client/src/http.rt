@@ -42,7 +42,7 @@ pub enum HeadProgress {
 /// What these bytes begin with.
 ///
 /// # Errors
-/// `Foreign` if no head of a reply begins so, or if it is none that a desk writes: with a
+/// `Foreign` if no head of a reply begins so, or if it is not one that a desk writes: with a
 /// `Transfer-Encoding`, whether or not a `Content-Length` stands beside it (RFC 9112, section 6.3),
 /// without exactly one `Content-Length`, of digits alone, that is `MAX_BODY` at most, or of more
 /// than `MAX_DESK_HEAD` bytes.

@@ -163,7 +163,7 @@ fn send_file<N: Network, R: Read, W: Write>(
     )
 }
 
-// Checks the header, if there is a record, and sends the rows behind it.
+// Checks the header, if there is a record, and sends the rows after it.
 fn send_records<N: Network, S: Read + Limited, W: Write>(
     alloc: Global,
     network: &mut N,
@@ -205,7 +205,7 @@ fn has_next<S: Read + Limited>(
     }
 }
 
-// Sends the rows behind the header.
+// Sends the rows after the header.
 fn send_rows<N: Network, S: Read + Limited, W: Write>(
     alloc: Global,
     network: &mut N,

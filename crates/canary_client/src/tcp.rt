@@ -2,9 +2,10 @@
 use crate::clock::{Deadline, pause_after};
 use crate::endpoint::DeskEndpoint;
 use crate::http::{HeadProgress, MAX_DESK_HEAD, ReplyHead, front_of};
-use crate::outcome::say;
+use crate::outcome::{say, say_of};
 use canary_base::lists::Text;
 use canary_client_journal::network::{Heard, Network, RetryReason};
+use canary_fetch::local::LocalFault;
 use std::alloc::Global;
 use std::io::{self, ErrorKind, Read, Write};
 use std::net::{SocketAddr, TcpStream};
@@ -13,6 +14,8 @@ use std::time::Duration;
 
 // How many bytes are read at a time.
 const REPLY_PIECE: usize = 16_384;
+
+const HINDERED: &str = "this machine cannot connect, and tries again";
 
 /// The way to the desk at this address. No clause ties it to a network: that it sends each message
 /// once at most, and that a reply on a connection is the desk's answer to the message on it, is for
@@ -25,6 +28,8 @@ pub struct Tcp<'a> {
     limit: Duration,
     // The span of the whole call, if that has one.
     call: Option<Deadline>,
+    // The fault of this machine by which the last exchange has no connection.
+    hindrance: Option<LocalFault>,
 }
 
 impl<'a> Tcp<'a> {
@@ -36,6 +41,7 @@ impl<'a> Tcp<'a> {
             desk: place.desk,
             limit: Duration::from_secs(place.reply_seconds.max(1)),
             call: None,
+            hindrance: None,
         }
     }
 
@@ -55,17 +61,33 @@ impl<'a> Tcp<'a> {
         }
     }
 
-    // A connection for one exchange, which ends in time.
-    fn connect(&self) -> Option<Exchange<'a>> {
+    // A connection for one exchange, which ends in time. If there is none by a fault of this
+    // machine, that is remembered.
+    fn connect(&mut self) -> Option<Exchange<'a>> {
+        self.hindrance = None;
         let limit = self.cut(self.limit)?;
         let span = Deadline::lasting(self.rt, limit)?;
-        let stream = TcpStream::connect_timeout(self.rt, &self.desk, limit).ok()?;
-        Some(Exchange {
-            rt: self.rt,
-            span,
-            limit,
-            stream,
-        })
+        match TcpStream::connect_timeout(self.rt, &self.desk, limit) {
+            Ok(stream) => Some(Exchange {
+                rt: self.rt,
+                span,
+                limit,
+                stream,
+            }),
+            Err(error) => {
+                self.hindrance = LocalFault::of(&error);
+                None
+            }
+        }
+    }
+
+    // Says why a message is sent again.
+    fn say_why(&self, why: RetryReason) {
+        let mut errors = self.rt.stderr();
+        match self.hindrance {
+            Some(fault) => say_of(self.rt.alloc(), &mut errors, HINDERED, fault.text()),
+            None => say(&mut errors, text_of(why)),
+        }
     }
 }
 
@@ -142,10 +164,10 @@ impl<'a> Exchange<'a> {
         for _ in 0..u64::MAX {
             match front_of(held.as_slice())? {
                 HeadProgress::Whole(head) => {
-                    *held = behind(alloc, held.as_slice(), head.end)?;
+                    *held = rest_from(alloc, held.as_slice(), head.end)?;
                     return Ok(head);
                 }
-                HeadProgress::Interim(end) => *held = behind(alloc, held.as_slice(), end)?,
+                HeadProgress::Interim(end) => *held = rest_from(alloc, held.as_slice(), end)?,
                 HeadProgress::Part if held.len() > MAX_DESK_HEAD => return Err(
                     RetryReason::Foreign,
                 ),
@@ -167,7 +189,7 @@ fn passed(count: io::Result<usize>) -> Result<usize, RetryReason> {
 }
 
 // The bytes from this place on.
-fn behind(alloc: Global, bytes: &[u8], place: usize) -> Result<Vec<u8>, RetryReason> {
+fn rest_from(alloc: Global, bytes: &[u8], place: usize) -> Result<Vec<u8>, RetryReason> {
     match Vec::from_slice(alloc, bytes.get(place..).unwrap_or(&[])) {
         Ok(rest) => Ok(rest),
         Err(_) => Err(RetryReason::Memory),
@@ -204,7 +226,7 @@ impl<'a> Network for Tcp<'a> {
     // Says why a message is sent again, and waits; does neither if the call has no time left.
     fn pause(&mut self, tried: u32, why: RetryReason) {
         if let Some(pause) = self.cut(Duration::from_millis(pause_after(tried))) {
-            say(&mut self.rt.stderr(), text_of(why));
+            self.say_why(why);
             thread::sleep(self.rt, pause);
         }
     }

@@ -248,7 +248,7 @@ fn show_new<N: Network, W: Write>(
     Ok(Some(standing))
 }
 
-// What tells how a service stands from how it stood: all but the moment.
+// What distinguishes how a service stands from how it stood: all but the moment.
 fn key_of(alloc: Global, service: &Value) -> Result<String, Stop> {
     let line = plain(alloc, service)?;
     let hold = service.get("hold").and_then(Value::as_str).unwrap_or("");

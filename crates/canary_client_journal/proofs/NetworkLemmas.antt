@@ -1,4 +1,4 @@
--- How a network goes on, call after call; and what was told stays told.
+-- How a network goes on, call after call; and what was answered stays answered.
 use Rattle.std.proofs.Common.{⊎_elim, inl, inr, ℕ, ◌<◌, List, Bool, false}
 use Rattle.canary_client_journal.specs.declared.entry.Asked.{Asked}
 use Rattle.canary_client_journal.specs.declared.meaning.Meaning.{Meaning}

@@ -14,7 +14,7 @@ use Rattle.canary_client_journal.specs.declared.settle.Unsettled.TheVariants as 
 use Rattle.canary_client_journal.specs.Messages.{request_text}
 use Rattle.canary_client_journal.specs.Sending.{body_of, message_of, IsTold, IsTooLate, IsAskedBy, IsSettledBy, IsWhy, IsReused, AreReused, IsOnce, IsFrom, IsOf, IsWrong, is_replaced}
 
--- where nothing else was asked, the wish is what was asked
+-- if nothing else was asked, the wish is what was asked
 only_wish : (instead : Option (List ℕ)) (wish : List ℕ) → is_some instead ≡ false → unwrap_or instead wish ≡ wish
 only_wish None wish none = refl
 only_wish (Some body) wish none = let never : ⊥ = cc none in absurd never

@@ -27,7 +27,7 @@ abbrev pub unread : FormFault → KeepFault
 unread form.Unreadable = keep.Broken
 unread form.Memory = keep.Memory
 
--- when each fault is told: only of a device that has failed, of a file with no room, and so on;
+-- when each fault is reported: only of a device that has failed, of a file with no room, and so on;
 -- memory may be refused at any time
 abbrev pub IsFault : (failed full broken : Type 0) → (EntryRefusal → Type 0) → KeepFault → Type 0
 IsFault failed full broken refused keep.Memory = Unit {0}

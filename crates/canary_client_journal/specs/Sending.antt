@@ -167,7 +167,7 @@ IsWrong response (unsettled.Kept fault) = ⊥
 IsWrong response unsettled.Memory = Unit {0}
 
 -- what a reply of each meaning comes to: it settles the number, or the wish goes out in its turn,
--- or the same is sent again, or it is an error that no try more would mend
+-- or the same is sent again, or it is an error that no try more would fix
 abbrev pub taken_for : Meaning → Heard → Bool → Result Tried Unsettled
 taken_for means.Settled response is_late =
     Ok (tried.Settled (record { status = response.status; body = response.body; is_late = is_late }))

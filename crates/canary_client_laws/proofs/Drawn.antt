@@ -1,4 +1,4 @@
--- What is settled of requests that are drawn from scripts are first parts of these.
+-- What is settled of requests that are drawn from scripts are prefixes of these.
 use Rattle.std.proofs.Common.{◌≡◌, ℕ, suc, ◌≤◌, List, [], ◌∷◌, ◌++◌, length, Bool, true, false, Some, refl, sym, ap, ◌∙◌, subst, arith, append-nil, length-append}
 use Rattle.std.specs.Prelude.{if◌then◌else◌, map, filter, take, cond, slice_get}
 use Rattle.std.specs.List.{AllByRecursion}

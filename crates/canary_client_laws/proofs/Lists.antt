@@ -1,8 +1,8 @@
--- First parts of lists, and elements by their places.
+-- Prefixes of lists, and elements by their places.
 use Rattle.std.proofs.Common.{◌≡◌, ℕ, zero, suc, ◌+◌, ◌≤◌, ◌<◌, List, [], ◌∷◌, ◌++◌, length, Some, refl, sym, ap, ◌∙◌, arith}
 use Rattle.std.specs.Prelude.{take, slice_get}
 
--- with the element behind it, a first part is one longer
+-- with the element after it, a prefix is one longer
 pub take_next : {A : Type 0} (l : List A) (n : ℕ) (x : A) → slice_get l n ≡ Some x → take n l ++ x ∷ [] ≡ take (suc n) l
 take_next [] n x e = let none : ⊥ = cc e in absurd none
 take_next (y ∷ l) zero x e = let same : y ≡ x = cc e in ap (λ z. z ∷ []) (sym same)
@@ -24,7 +24,7 @@ some_there [] i h = absurd (omega (arith, h))
 some_there (x ∷ l) zero h = (x, refl)
 some_there (x ∷ l) (suc i) h = some_there l i (omega (arith, h))
 
--- an element behind other ones
+-- an element after other ones
 pub behind : {A : Type 0} (l m : List A) (i : ℕ) → slice_get (l ++ m) (length l + i) ≡ slice_get m i
 behind [] m i = let none : 0 + i ≡ i = omega arith in ap (slice_get m) none
 behind (x ∷ l) m i =

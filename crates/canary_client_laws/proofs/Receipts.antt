@@ -27,7 +27,7 @@ own caller (r ∷ rs) (x ∷ xs) = cond (is_of caller r) ((bare r, x) ∷ own ca
 abbrev pub receipt_for : (ℕ × Command) × Reply → Receipt
 receipt_for a = record { command = a.0.1; reply = a.1 }
 
--- what a map has, with more receipts behind
+-- what a map has, with more receipts after it
 abbrev pub more : Option (List Receipt) → List Receipt → Option (List Receipt)
 more there [] = there
 more there (k ∷ ks) = more (Some (unwrap_or there [] ++ k ∷ [])) ks

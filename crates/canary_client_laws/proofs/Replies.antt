@@ -59,7 +59,7 @@ kept_command ks script i command first h there =
 abbrev receipts_for : Contents → List Event → List ℕ → List Receipt
 receipts_for c es caller = map receipt_for (own caller (news_of c es) (replies_after c es))
 
--- the receipt under a number behind those that the caller had
+-- the receipt under a number after those that the caller had
 receipt_behind : (c : Contents) (es : List Event) (caller : List ℕ) (number place : ℕ) → number ≡ count_of c caller + place + 1 → receipt_at (after c es) caller number ≡ slice_get (receipts_for c es caller) place
 receipt_behind c es caller number place is =
     let at : number - 1 ≡ length (receipts_of c caller) + place = omega (arith, is) in

@@ -216,7 +216,7 @@ report_data phases name word verdict run step share =
     (member (codes "run") (whole_data run) (member (codes "service") (string name) (member (codes "status") (string word)
     (member (codes "step") (whole_data step) (member (codes "verdict") (string verdict) (member (codes "weight") (whole_data share) no_members))))))))
 
--- phases in JSON: the first one, and those behind it
+-- phases in JSON: the first one, and those after it
 first_shape : (word rest : List ℕ) → (34 ∷ (word ++ 34 ∷ [])) ++ 44 ∷ rest ≡ 34 ∷ ((word ++ 34 ∷ []) ++ 44 ∷ rest)
 first_shape word rest = refl
 

@@ -16,7 +16,7 @@ abbrev pub Scripts : Type 0
 Scripts = List ℕ → List Command
 
 -- a request has a command of its caller's script, and that command's number: a script is numbered
--- on from its caller's last settled request, and where there is none, from 1
+-- on from its caller's last settled request, and if there is none, from 1
 pub record IsDrawn (scripts : Scripts) (c : Contents) (r : Request) : Type 0 where
   pub place : ℕ
   pub command : slice_get (scripts r.caller) place ≡ Some r.command
@@ -38,7 +38,7 @@ pub record SettlesFirst (script : List Command) (c : Contents) (es : List Event)
   pub within : settled ≤ length script
   pub commands : commands_of caller (news_of c es) ≡ take settled script
 
--- what is settled is a first part of each script, interleaved
+-- what is settled is a prefix of each script, interleaved
 abbrev pub SettleFirstParts : Type 0
 SettleFirstParts =
     (scripts : Scripts) (c : Contents) (es : List Event) → AreDrawn scripts c es

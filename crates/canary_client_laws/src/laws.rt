@@ -14,7 +14,7 @@ use canary_plan::laws as plans;
 use canary_release::laws as releases;
 
 /// Whatever copies come, with gaps and in any order, of the requests that callers draw from their
-/// scripts: what is settled is a first part of each script, interleaved; over contents that keep no
+/// scripts: what is settled is a prefix of each script, interleaved; over contents that keep no
 /// receipt of a conflict no reply says that a number was reused; and a script whose last request is
 /// answered as settled is settled whole. A script goes on from what its caller has settled, which
 /// over empty contents is nothing.
@@ -30,9 +30,9 @@ pub fn senders()
 }
 
 /// The order of arrival does not matter between scripts that name no service in common and have no
-/// Template: where all requests come at one moment and every script is settled whole, the contents
-/// are the same, receipts and services and all, in whatever order and with whatever copies the
-/// requests came.
+/// Template: if all requests come at one moment and every script is settled whole, the contents are
+/// the same, receipts and services and all, in whatever order and with whatever copies the requests
+/// came.
 pub fn arrivals()
     ensures { OrderDoesNotMatter }
 {

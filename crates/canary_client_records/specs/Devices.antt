@@ -43,7 +43,7 @@ pub record LeavesOnly {D : Type 0} (moment : D → ℕ) (left_since : D → ℕ 
   -- for a run that began earlier
   pub before : (t : ℕ) (c : List ℕ) → t ≤ moment old → left_since new t c → left_since old t c ⊎ P c
 
--- `Failed` is told only by a device that has failed, and `Full` is not told
+-- only a device that has failed reports `Failed`, and none reports `Full`
 pub record HasCause {T : Type 0} (has_failed : Type 0) (result : Result T DeviceFault) : Type 0 where
   pub failed : IsErrOf result Failed → has_failed
   pub not_full : IsErrOf result Full → ⊥

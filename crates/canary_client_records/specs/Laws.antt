@@ -4,7 +4,7 @@ use Rattle.std.specs.List.{AllByRecursion}
 use Rattle.canary_client_records.specs.Devices.{Torn}
 use Rattle.canary_client_records.specs.Texts.{texts_of, records, IsLine}
 
--- texts with open gates are read back, whatever stands after the closed gate; where that is the
+-- texts with open gates are read back, whatever stands after the closed gate; if that is the
 -- first gate, at most as much as adding a first text may leave
 abbrev pub ReadsBack : Type 0
 ReadsBack =

@@ -14,7 +14,7 @@ pub enum DeviceFault {
     /// The file could not be read, written or synced.
     Failed,
     /// The file has no room for the text: it is longer than 2^60 bytes, or a first text longer than
-    /// 107. No device tells it.
+    /// 107. No device reports it.
     Full,
 }
 

@@ -19,17 +19,17 @@ use Rattle.canary_condition.specs.Fronts.{IsWhole, IsFront}
 use Rattle.canary_condition.specs.Following.{after_operand, joined, next}
 use Rattle.canary_condition.proofs.ParsesSoundly.{at_and, at_or}
 
--- ---- what holds of the tokens behind the innermost open bracket
+-- ---- what holds of the tokens after the innermost open bracket
 
 -- a comparison, a bracket or a `not` of these
 abbrev Tight : List Token → Type 0
 Tight ts = (tree : Tree) × Spells tree AtNot ts
 
--- with one of these behind them, the tokens spell a tree
+-- with one of these after them, the tokens spell a tree
 abbrev Head : List Token → Type 0
 Head ts = (more : List Token) → Tight more → IsWhole (ts ++ more)
 
--- behind an operand on this side
+-- after an operand on this side
 abbrev Ended : Side → List Token → Type 0
 Ended Left ts = (c : Comparison) → (y : Operand) → (more : List Token) → IsOperand y more → IsWhole (ts ++ Compares c ∷ more)
 Ended Right ts = IsWhole ts
@@ -57,7 +57,7 @@ ended_moved side a b e h = subst (Ended side) e h
 whole_moved : (a b : List Token) → a ≡ b → IsWhole a → IsWhole b
 whole_moved a b e h = subst IsWhole e h
 
--- `and` and a tight text behind a whole one
+-- `and` and a tight text after a whole one
 and_more : (tree : Tree) (ts : List Token) → Spells tree AtOr ts → Head (ts ++ AndSign ∷ [])
 and_more (OrTree a b) ts h more k =
     (OrTree a (AndTree b k.0), (refl, h.1, h.2 ++ AndSign ∷ more, onto ts AndSign more ∙ ap (λ (r : List Token). r ++ AndSign ∷ more) h.3 ∙ append_assoc h.1 (OrSign ∷ h.2) (AndSign ∷ more), h.4, (refl, h.2, more, refl, h.5, k.1)))
@@ -72,11 +72,11 @@ or_more tree ts h more k = (OrTree tree k.0, (refl, ts, more, onto ts OrSign mor
 pub no_head : Head []
 no_head more k = (k.0, at_or k.0 more (at_and k.0 more k.1))
 
--- a comparison whose left side is behind a head
+-- a comparison whose left side is after a head
 compare_more : (x : Operand) (front ts : List Token) → IsOperand x front → Head ts → Ended Left (ts ++ front)
 compare_more x front ts i head c y more k = whole_moved (ts ++ (front ++ Compares c ∷ more)) ((ts ++ front) ++ Compares c ∷ more) (sym (append_assoc ts front (Compares c ∷ more))) (head (front ++ Compares c ∷ more) (CompareTree x c y, (front, more, refl, i, k)))
 
--- the tokens of an item, behind a head or behind a comparison sign
+-- the tokens of an item, after a head or after a comparison sign
 item_left : (ts : List Token) (i : ℕ) → Head ts → Ended Left ((ts ++ ResultWord ∷ []) ++ OpenItem ∷ Digits (pos i) ∷ CloseItem ∷ [])
 item_left ts i head = ended_moved Left _ _ (sym (onto ts ResultWord (OpenItem ∷ Digits (pos i) ∷ CloseItem ∷ []))) (compare_more (ItemOperand i) (ResultWord ∷ OpenItem ∷ Digits (pos i) ∷ CloseItem ∷ []) ts refl head)
 

@@ -19,7 +19,7 @@ use Rattle.canary_condition.specs.Fronts.{IsWhole, IsFront, IsExpectedAfter, may
 use Rattle.canary_condition.specs.Following.{after_operand, next, expected}
 use Rattle.canary_condition.proofs.Placing.{Stands, step_stands, stands_front, StandsBy, no_head}
 
--- the place behind tokens, with the brackets that are open there
+-- the place after tokens, with the brackets that are open there
 abbrev pub run : TokenPlace → ℕ → List Token → Option (TokenPlace × ℕ)
 run place n [] = Some (place, n)
 run place n (t ∷ ts) = elim (next place n t) [ None ↦ None | Some after ↦ run after (with_token n t) ts ]
@@ -62,7 +62,7 @@ run_whole ts place n e may = whole_there place n ts (stands_run ts place n e) ma
 
 -- ---- what spells a tree is run over
 
--- behind an operand on this side
+-- after an operand on this side
 abbrev IsBehind : Side → TokenPlace → Type 0
 IsBehind side place = (place ≡ after_operand side) ⊎ (place ≡ ResultPlace side)
 
@@ -131,7 +131,7 @@ tree_runs (CompareTree x c y) level n ts rest h =
     let r = operand_right y n h.1 rest h.4 in
     record { place = r.place; behind = r.behind; goes = split Term n ts h.0 h.1 rest (Compares c) h.2 ∙ l.goes ∙ compares_goes l.place n c (h.1 ++ rest) l.behind ∙ r.goes }
 
--- where tokens spell a tree, they lead to a place where a condition may end
+-- if tokens spell a tree, they lead to a place where a condition may end
 record Ends (ts : List Token) : Type 0 where
   place : TokenPlace
   behind : IsBehind Right place
@@ -237,7 +237,7 @@ agrees_index : (side : Side) (n : ℕ) (t : Token) → may_stand (expected (Inde
 agrees_index side n CloseItem = refl
 agrees_index side n t = refl
 
--- what is expected is what has a place behind it
+-- what is expected is what has a place after it
 agrees : (place : TokenPlace) (n : ℕ) (t : Token) → may_stand (expected place n) t ≡ is_place (next place n t)
 agrees Term n t = agrees_begun t
 agrees (ResultPlace Left) n t = agrees_left n t

@@ -68,7 +68,7 @@ abbrev pub after_index : Side → Token → Option TokenPlace
 after_index side CloseItem = Some (after_operand side)
 after_index side t = None
 
--- the place after a token, or none where it may not stand, with so many brackets open before it
+-- the place after a token, or none if it may not stand, with so many brackets open before it
 abbrev pub next : TokenPlace → ℕ → Token → Option TokenPlace
 next Term n t = begun t
 next (ResultPlace side) n t = after_result side n t

@@ -60,7 +60,7 @@ may_end ItemSignOrEnd = true
 may_end expected = false
 
 -- after these tokens, those that this allows are exactly those with which a tree may go on, and it
--- allows the end exactly where they spell one
+-- allows the end exactly if they spell one
 abbrev pub IsExpectedAfter : List Token → Expected → Type 0
 IsExpectedAfter front expected =
     ((t : Token) → IsFront (front ++ t ∷ []) ↔ IsTrue (may_stand expected t))
@@ -83,7 +83,7 @@ begins_after at zero (b ∷ text) =
 abbrev pub begins : List ℕ → List ℕ
 begins text = begins_after 0 0 text
 
--- the last of some bytes, where this one stands before them
+-- the last of some bytes, if this one stands before them
 abbrev pub last_of : ℕ → List ℕ → ℕ
 last_of byte [] = byte
 last_of byte (b ∷ bytes) = last_of b bytes

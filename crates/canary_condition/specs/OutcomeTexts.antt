@@ -25,19 +25,19 @@ is_result (Whole z) = is_signed_word z
 is_result (ListResult values) =
     nat_le 1 (length values) && (nat_le (length values) 16 && list_all is_signed_word values)
 
--- the numbers between semicolons, behind the first byte and before the last
+-- the numbers between semicolons, after the first byte and before the last
 abbrev pub spelled_list : List ℕ → List ℤ
 spelled_list text =
     map (signed_digits_value 10) (slice_split (λ b. b == 59) (take (length text - 2) (drop 1 text)))
 
--- what a text spells if it is a result's: a list behind a `[`, a number otherwise
+-- what a text spells if it is a result's: a list after a `[`, a number otherwise
 abbrev pub spelled : List ℕ → Value
 spelled text =
     if slice_index text 0 == 91 then ListResult (spelled_list text)
     else Whole (signed_digits_value 10 text)
 
 -- The result with this text. What the text spells is the only result that can have it, and has it
--- where it is written so: no zeros lead, no `+` or `-0` stands there, and nothing else.
+-- if it is written so: no zeros lead, no `+` or `-0` stands there, and nothing else.
 unfoldable pub value_in : List ℕ → Option Value
 value_in text =
     let value = spelled text in if is_result value && bytes_eq (words_of value) text then Some value

@@ -1,9 +1,9 @@
 //! Why a text is no condition, and at which byte.
 //!
-//! Tokens that may begin a condition are a front. Where the tokens of a text spell none, the byte
-//! is that behind their longest front: the byte of the first token that no condition goes on with,
-//! or the text's end. It is found in one pass, for which a place in the grammar and a count of
-//! open brackets suffice.
+//! Tokens that may begin a condition are a front. If the tokens of a text spell no condition, the
+//! byte is that after their longest front: the byte of the first token that no condition goes on
+//! with, or the text's end. It is found in one pass, for which a place in the grammar and a count
+//! of open brackets suffice.
 ghost use Rattle.std.specs.Prelude.{◌≡◌, ◌<◌, ◌≤◌, MatchOption, length};
 ghost use Rattle.canary_condition.specs.Following.{start, first_of, noted, course_after};
 ghost use Rattle.canary_condition.specs.Following.{syntax, end_at, course_end, finished};
@@ -174,7 +174,7 @@ fn course_end(course: TokenProgress, opened: usize, at: u32) -> Option<Explained
     }
 }
 
-// Where this is expected at the end.
+// The explanation if this is expected at the end.
 fn end_at(expected: Expected, at: u32) -> Option<Explained>
     ensures { result ≡ end_at expected at }
 {
@@ -225,10 +225,10 @@ impl Why {
     }
 }
 
-/// Why a text is no condition, and at which byte; none exactly where it is one. Of several faults
-/// it explains the one that `Condition::parse` answers. The byte is 1,024 where the text is too
+/// Why a text is no condition, and at which byte; none exactly if it is one. Of several faults
+/// it explains the one that `Condition::parse` answers. The byte is 1,024 if the text is too
 /// long, and else that of the first number out of range, of the first bracket that is one too many,
-/// of the first bytes that are no token, or the one behind the longest front. It takes no memory,
+/// of the first bytes that are no token, or the one after the longest front. It takes no memory,
 /// and time in proportion to the text.
 pub fn explain(text: &str) -> Option<Explained>
     ensures { MatchOption result

@@ -132,7 +132,7 @@ fn after_index(side: Side, token: Token) -> Option<TokenPlace>
     }
 }
 
-// The place after a token, with so many brackets open before it; none where it may not stand.
+// The place after a token, with so many brackets open before it; none if it may not stand.
 pub(crate) fn next(place: TokenPlace, opened: usize, token: Token) -> Option<TokenPlace>
     ensures { result ≡ next place opened token }
 {

@@ -39,7 +39,7 @@ impl<'a> ManifestObject<'a> {
     }
 }
 
-/// The documents of these sources; a null is none.
+/// The documents of these sources, nulls among them.
 pub(crate) fn documents_of<'a>(
     alloc: Global,
     sources: &'a [Source],

@@ -75,7 +75,7 @@ pub(crate) fn push_filled(
     is_filled
 }
 
-// The same of a piece, and the two closing brackets behind it.
+// The same of a piece, and the two closing brackets after it.
 fn push_piece(
     work: &mut Conversion,
     case: &Case,

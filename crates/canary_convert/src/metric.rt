@@ -85,8 +85,11 @@ const LABEL: &str = "expected 1 to 63 bytes of A-Z a-z 0-9 . _ -";
 
 const SUFFIXED: &str = "a name that ends as that of a translated metric: write another one";
 
-// The key of the provider, empty if there is none. If it is not asked, that is
-// reported.
+const UNCONDITIONAL: &str =
+    "without a condition Argo takes each result as Successful; here NaN, an infinity, null, a \
+    text and an empty list are failures (Error)";
+
+// The key of the provider, empty if there is none. If it is not asked, that is reported.
 fn kind_of<'a>(work: &mut Conversion, spot: &TemplateMetric<'a>) -> Option<&'a str> {
     let Some(provider) = member(spot.metric, "provider") else {
         return Some("");
@@ -258,7 +261,7 @@ fn labelled(
     })
 }
 
-// The name with the suffix of this form behind it.
+// The name with the suffix of this form after it.
 fn suffixed(work: &mut Conversion, name: Label, form: Form) -> String {
     let mut text = work.copy(name.as_str());
     if form.suffix(&mut text).is_err() {
@@ -291,10 +294,6 @@ fn form_of(work: &mut Conversion, spot: &TemplateMetric, kind: &str) -> Option<F
         _ => None,
     }
 }
-
-const UNCONDITIONAL: &str =
-    "without a condition Argo takes each result as Successful; here NaN, an infinity, null, a \
-    text and an empty list are failures (Error)";
 
 // The form that both conditions together need; without any, that of the provider's kind, with a
 // note of what fails by it.

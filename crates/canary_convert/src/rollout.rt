@@ -34,7 +34,7 @@ struct RolloutContext<'a> {
 struct Use<'a> {
     site: RolloutContext<'a>,
     place: ManifestPlace,
-    // The keys behind the place that lead to its templates, and to its arguments.
+    // The keys after the place that lead to its templates, and to its arguments.
     templates: &'static str,
     arguments: &'static str,
     analysis: &'a Value,

@@ -111,7 +111,7 @@ shape_sound (b ∷ rest) l e =
           ] refl other
     ] refl e
 
--- what stands behind the places
+-- what stands after the places
 abbrev IsRest : ℕ → List ℕ → Units → Type 0
 IsRest n rest u =
     (u.places ≡ n) × ((shape : List ℕ) × IsShape u.length shape × (rest ≡ beside_text u.beside ++ shape))
@@ -142,7 +142,7 @@ rest_sound n (b ∷ rest) u e =
     (letter_sound n 115 Null b rest plain u refl
     (λ found. with_shape_sound n Nothing (b ∷ rest) (b ∷ rest) u refl found (shape_of (b ∷ rest)) refl found))) e
 
--- the places, and what stands behind them
+-- the places, and what stands after them
 abbrev IsPlaces : List ℕ → Units → Type 0
 IsPlaces text u =
     (n : ℕ) × (6 ≤ n) × (n ≤ 18) × ((rest : List ℕ) × (text ≡ decimal n ++ rest) × IsRest n rest u)

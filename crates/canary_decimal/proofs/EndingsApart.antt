@@ -42,7 +42,7 @@ tail_plain u shape few h =
     ∙ and_from (list_all is_no_point (decimal u.places)) (list_all is_no_point (beside_text u.beside ++ shape))
     (no_points (decimal u.places) digits) (beside_plain u.beside shape (shape_plain u.length shape h))
 
--- behind its first byte an ending has no point
+-- after its first byte an ending has no point
 no_point_at : (ending rest : List ℕ) (i : ℕ) → ending ≡ 46 ∷ rest → list_all is_no_point rest ≡ true → 0 < i → i < length ending → get_or ending i 0 ≡ 46 → ⊥
 no_point_at ending rest i e all some within at =
     let j : ℕ = i - 1 in
@@ -52,7 +52,7 @@ no_point_at ending rest i e all some within at =
     let no : is_no_point (get_or rest j 0) ≡ false = ap is_no_point there in
     false≢true (sym (list_all_at is_no_point rest j 0 shorter no) ∙ all)
 
--- no ending begins behind another one of the same label
+-- no ending begins after another one of the same label
 not_behind : (label first second a b : List ℕ) (u v : Units) → label ≡ first ++ a → label ≡ second ++ b → IsEnding a u → IsEnding b v → length first < length second → ⊥
 not_behind label first second a b u v ea eb (low, few, (shape, is_shape, e)) (_, _, (other, is_other, f)) less =
     let k : ℕ = length second - length first in

@@ -192,7 +192,7 @@ pointed_text : (minus : Bool) (q : ℕ) (ds : List ℕ) → q < 2 ^ 64 → IsDig
 pointed_text minus q ds h digits =
     (decimal q ++ 46 ∷ ds, [], sym (append-nil (decimal q ++ 46 ∷ ds)), decimal q, ds, (decimal_digits q h, inr (refl, digits)), 0, 0, (refl, refl), refl)
 
--- the text of a sign and of what is written behind it
+-- the text of a sign and of what is written after it
 with_sign_text : (minus : Bool) (q : ℕ) (text rest : List ℕ) (x : Fraction) → text ≡ (if minus then 45 ∷ decimal q else decimal q) ++ rest → IsUnsignedText (decimal q ++ rest) minus x → IsTextOf text x
 with_sign_text true q text rest x e h = inr (decimal q ++ rest, e, h)
 with_sign_text false q text rest x e h = inl (subst (λ (t : List ℕ). IsUnsignedText t false x) (sym e) h)

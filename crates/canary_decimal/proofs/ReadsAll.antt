@@ -25,7 +25,7 @@ use Rattle.canary_decimal.specs.Reader.{is_digits, is_either, up_to, from, power
 abbrev IsWithout : (ℕ → Bool) → List ℕ → Type 0
 IsWithout p xs = list_all (λ (b : ℕ). not (p b)) xs ≡ true
 
--- the first byte, where there is one, passes
+-- the first byte, if there is one, passes
 abbrev pub Begins : (ℕ → Bool) → List ℕ → Type 0
 Begins p [] = Unit {0}
 Begins p (b ∷ xs) = p b ≡ true

@@ -21,7 +21,7 @@ abbrev pub compares_exactly : Comparison → Fraction → Fraction → Bool
 compares_exactly c x y =
     compares c (x.whole *ℤ pos (10 ^ y.places)) (y.whole *ℤ pos (10 ^ x.places))
 
--- the whole number m compares to each constant as the decimal x does, whichever stands first, where
+-- the whole number m compares to each constant as the decimal x does, whichever stands first, if
 -- a constant is a multiple of ten of 10^-n that fits an i64
 abbrev pub StandsFor : ℤ → Fraction → ℕ → Type 0
 StandsFor m x n =
@@ -59,7 +59,7 @@ IsNear m number zeros places =
     × (number * 10 ^ zeros < (m + 1) * 10 ^ places)
 
 -- the size of z differs by less than one from that of the decimal in units of 10^-n: so z is the
--- decimal where that is whole
+-- decimal if that is whole
 abbrev pub IsNextTo : ℤ → Fraction → ℕ → Type 0
 IsNextTo z x n =
     let size = unsigned_abs x.whole * 10 ^ n in

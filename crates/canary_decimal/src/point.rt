@@ -64,7 +64,7 @@ fn front(number: i64, whole: u64) -> ArrayString<MAX_BYTES>
     text
 }
 
-// With the point and what stands behind it, if that is not 0.
+// With the point and what stands after it, if that is not 0.
 fn behind(front: ArrayString<MAX_BYTES>, rest: u64, places: usize) -> ArrayString<MAX_BYTES>
     requires room { array_string_len front ≤ 21 }
     requires below { rest < 10 ^ places }

@@ -286,7 +286,7 @@ fn of_one_digit(rest: &[u8]) -> Option<Units>
     }
 }
 
-// What stands behind the places.
+// What stands after the places.
 fn with_beside(places: usize, rest: &[u8]) -> Option<Units>
     ensures { result ≡ with_beside places rest.now }
 {

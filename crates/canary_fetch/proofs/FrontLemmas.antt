@@ -53,14 +53,14 @@ long_head bytes rest h head long = no_head bytes (λ more k after x.
     let len : length (print_response h) ≡ length (print_response k) = ap (λ (y : ResponseHead). length (print_response y)) same in
     absurd (omega arith))
 
--- where no head is whole, no reply is
+-- if no head is whole, no reply is
 pub head_waits : (came kept unread : List ℕ) → HasNoResponse unread → IsReadingBy came Head kept unread → IsPart came Head
 head_waits came kept unread none s reply rest r =
     let longer = s.whole [] reply rest (subst (λ (x : List ℕ). ReadsReply x reply rest) (sym (append-nil came)) r) in
     let here = subst (λ (x : List ℕ). ReadsReply x reply rest) (append-nil unread) longer in
     no_first unread here.after reply rest here.interim (λ h after x. none h after x.reads) here.skips here.reads
 
--- ---- why it refuses: a head that is none of a reply
+-- ---- why it refuses: a head that is not one of a reply
 
 pub no_final : (bytes after : List ℕ) (h : ResponseHead) → is_interim (status_code h) ≡ false → ReadsResponse bytes h after → ((status : ℕ) (framing : Framing) → ¬ (IsFinal h status framing)) → NeverReplies bytes
 no_final bytes after h not head bars more reply rest r =

@@ -40,7 +40,7 @@ interim_not_final h k status framing e is f =
     let high : 200 ≤ status = f.final in
     omega arith
 
--- a reply behind an interim head is the reply, and there is no other
+-- a reply after an interim head is the reply, and there is no other
 pub interim_gives : (stream after : List ℕ) (h : ResponseHead) (reply : Heard) (rest : List ℕ) → is_interim (status_code h) ≡ true → ReadsHead stream h after → ReadsReply after reply rest → ReadsReply stream reply rest
 interim_gives stream after h reply rest is head r = record {
   interim = h ∷ r.interim;
@@ -241,6 +241,6 @@ same_reading came kept k unread u stage s a b c r =
 pub whole_range : (xs : List ℕ) (n : ℕ) → n ≡ length xs → slice_range xs 0 n ≡ xs
 whole_range xs n e = between_from_start xs n ∙ take_all n xs (omega arith)
 
--- the same, where no reply is whole
+-- the same, if no reply is whole
 pub same_part : (came : List ℕ) (stage s : ReplyStage) → s ≡ stage → IsPart came stage → IsPart came s
 same_part came stage s e p = subst (λ (x : ReplyStage). IsPart came x) (sym e) p

@@ -52,7 +52,7 @@ pub record IsSite (text host : List ℕ) (port : ℕ) : Type 0 where
   pub clean : IsTrue (is_host brackets host)
   pub ends : IsPortText behind port
 
--- what stands before `/` and behind it; all of it, and nothing, if there is none
+-- what stands before `/` and after it; all of it, and nothing, if there is none
 abbrev pub IsCut : List ℕ → List ℕ → List ℕ → Type 0
 IsCut text site path = (text ≡ site ++ 47 ∷ path) ⊎ ((text ≡ site) × (path ≡ []))
 

@@ -46,11 +46,11 @@ pub record IsFinal (h : ResponseHead) (status : ℕ) (framing : Framing) : Type 
 
 -- ---- the whole
 
--- the most bytes of the extensions of all chunks, and of the fields behind them
+-- the most bytes of the extensions of all chunks, and of the fields after them
 abbrev pub limits : Limits
 limits = record { max_head_len = 16384; max_extensions_len = 16384; max_trailers_len = 16384 }
 
--- a body of 1,048,576 bytes at most, with 16 fields behind the chunks at most
+-- a body of 1,048,576 bytes at most, with 16 fields after the chunks at most
 pub record IsSmall (bytes : List ℕ) (b : Body) : Type 0 where
   pub within : length bytes ≤ 1048576
   pub fields : length b.trailers ≤ 16

@@ -72,7 +72,7 @@ pub struct Address<'a> {
     pub host: &'a str,
     /// The port: 80 if none is named.
     pub port: u16,
-    /// What stands behind the first `/`.
+    /// What stands after the first `/`.
     pub path: &'a str,
 }
 
@@ -145,7 +145,7 @@ fn scheme_fault(text: &str) -> AddressFault {
     }
 }
 
-// What stands before the first `/`, and what behind it.
+// What stands before the first `/`, and what after it.
 fn cut(text: &str) -> (&str, &str)
     ensures { IsCut text.now result.0.now result.1.now }
 {
@@ -218,7 +218,7 @@ fn host_port_of(text: &str) -> Result<HostPort<'_>, AddressFault>
     }
 }
 
-// The same of a number of IPv6, behind its `[`.
+// The same of a number of IPv6, after its `[`.
 fn numbered(text: &str) -> Result<HostPort<'_>, AddressFault>
     ensures { IfOk result (λ s. IsSite (91 ∷ text.now) s.host.now s.port) }
 {

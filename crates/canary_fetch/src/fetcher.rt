@@ -17,7 +17,7 @@ const MAX_EVENTS: usize = 256;
 /// Why nobody can be asked.
 #[derive(Clone, Copy, Debug, PartialEq, Eq, Error)]
 pub enum FetchFault {
-    /// The system tells nothing of connections.
+    /// The system reports nothing of connections.
     #[error("the system tells nothing of connections")]
     Poll,
     /// An allocation was refused.
@@ -44,7 +44,7 @@ impl Fetcher {
     /// One with nothing to ask, and so many connections at a time at most.
     ///
     /// # Errors
-    /// `Poll` if the system tells nothing of connections; `Memory`.
+    /// `Poll` if the system reports nothing of connections; `Memory`.
     pub fn new<R: Net + AllocGlobal>(rt: &R, most: usize) -> Result<Fetcher, FetchFault>
         ensures none { IfOk result (λ fetcher. (token : ℕ) → is_asked fetcher token ≡ false) }
         ensures most { IfOk result (λ fetcher. most_connections fetcher ≡ most) }
@@ -96,7 +96,7 @@ impl Fetcher {
     /// does not wait if there is an answer.
     ///
     /// # Errors
-    /// `Poll` if the system tells nothing of connections any more.
+    /// `Poll` if the system reports nothing of connections any more.
     pub fn wait<R: Net + time::Clock>(&mut self, rt: &R, most: Duration) -> Result<(), FetchFault>
         ensures { AreSame (is_asked self.old) (is_asked self.new) }
     {
@@ -129,8 +129,7 @@ impl Fetcher {
         self.underway.answer()
     }
 
-    // Notes the present time, counted from the first message. It stays where the clock cannot be
-    // read.
+    // Notes the present time, counted from the first message. It stays if the clock cannot be read.
     fn look_at_clock<R: time::Clock>(&mut self, rt: &R)
         ensures { AreSame (is_asked self.old) (is_asked self.new) }
     {

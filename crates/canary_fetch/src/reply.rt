@@ -17,10 +17,10 @@ use httparse::spans::{EMPTY_HEADER_SPAN, Span};
 use std::alloc::Global;
 use std::mem;
 
-// The most fields behind the last chunk. They are read and ignored.
+// The most fields after the last chunk. They are read and ignored.
 const MAX_TRAILERS: usize = 16;
 
-// The most bytes of the extensions of all chunks, which are ignored, and of the fields behind them.
+// The most bytes of the extensions of all chunks, which are ignored, and of the fields after them.
 const LIMITS: Limits = Limits {
     max_head_len: 16_384,
     max_extensions_len: 16_384,
@@ -263,7 +263,7 @@ impl Incoming {
     }
 }
 
-// What is said of a body that cannot be read.
+// What is reported of a body that cannot be read.
 fn fault_of(error: ReadError) -> ExchangeFault {
     match error {
         ReadError::TooLarge

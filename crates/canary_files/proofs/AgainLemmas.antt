@@ -164,7 +164,7 @@ numbered_where true true o h = h
 numbered : (fields : Fields) → 1 ≤ number_at (row_of fields)
 numbered fields = numbered_where (length fields == 9) (is_name (field fields 0)) (row_with (field fields 0) (number_in (field fields 1)) (report_of fields)) (numbered_with (field fields 0) (number_in (field fields 1)) (report_of fields) (numbered_by (word_in (field fields 1))))
 
--- ---- what the register tells of a row, in contents that keep receipts
+-- ---- what the register says of a row, in contents that keep receipts
 
 told_kept : (c new : Contents) → KeepsReceipts c new → (o : Result Row RowRefusal) → 1 ≤ number_at o → IsSettledBy c o → (told_by new o ≡ told_by c o) × IsSettledBy new o
 told_kept c new keeps (Err refusal) some h = (refl, tt)

@@ -54,7 +54,7 @@ puts_all old new text x p =
 
 -- Rows.
 
--- rows, and then those behind them
+-- rows, and then those after them
 pub rows_joined : (caller service : List ℕ) (name : Recorded → List ℕ) (n : ℕ) (xs ys : List Recorded)
     → rows_text caller service name n (xs ++ ys) ≡ rows_text caller service name n xs ++ rows_text caller service name (n + length xs) ys
 rows_joined caller service name n [] ys =
@@ -73,21 +73,21 @@ pub record SoFar (old now : Known) (caller service : List ℕ) (name : Recorded 
   pub written : Appends old now front
   pub some : rows ≤ length all
 
--- what is behind the front of a list
+-- what comes after the front of a list
 drop_front : (n k : ℕ) (xs : List Recorded) → drop (n + length (take k (drop n xs))) xs ≡ drop k (drop n xs)
 drop_front n k xs =
     let left : List Recorded = drop n xs in
     let m : ℕ = length (take k left) in
     sym (drop-drop m n xs) ∙ ap (drop m) (sym (take-append-drop k left)) ∙ drop-append_seam (take k left) (drop k left)
 
--- the page behind so many rows is among all
+-- the page after so many rows is among all
 page_fits : (n k : ℕ) (xs : List Recorded) → n ≤ length xs → n + length (take k (drop n xs)) ≤ length xs
 page_fits n k xs fits =
     let whole : length (take k (drop n xs)) + length (drop k (drop n xs)) ≡ length (drop n xs) = sym (length-append (take k (drop n xs)) (drop k (drop n xs))) ∙ ap (λ (l : List Recorded). length l) (take-append-drop k (drop n xs)) in
     let left : length (drop n xs) ≡ length xs - n = length-drop n xs in
     omega (arith, whole, left, fits)
 
--- the text of all rows, with the page behind those that went out
+-- the text of all rows, with the page after those that went out
 page_parts : (caller service : List ℕ) (name : Recorded → List ℕ) (all : List Recorded) (rows : ℕ) (front page : List ℕ)
     → rows_text caller service name 0 all ≡ front ++ rows_text caller service name rows (drop rows all)
     → page ≡ rows_text caller service name rows (take 32768 (drop rows all))
@@ -164,7 +164,7 @@ more_on {F = F} a b d caller service w now new rows next p q so_far puts counted
     (subst P (p.same (q.honest h)) (puts_all {F = F} now new (text b.contents) next (puts h)))
     (subst Q (p.same (q.honest h)) (counted h))
 
--- why a page was not written tells why all rows were not
+-- why a page was not written shows why all rows were not
 tells_more : (n m : ℕ) → n ≤ m → (e : ExportFault) → TellsPage n e → TellsPage m e
 tells_more n m le Memory t = tt
 tells_more n m le Storage t = tt

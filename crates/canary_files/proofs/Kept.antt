@@ -1,4 +1,4 @@
--- What is made where a limit is kept.
+-- What is made if a limit is kept.
 use Rattle.std.proofs.Common.{◌≡◌, Bool, true, false, Some, IsTrue, refl, sym, ap, true≢false}
 use Rattle.std.proofs.Props.{props}
 use Rattle.canary_canonical.specs.Forms.{where_kept}

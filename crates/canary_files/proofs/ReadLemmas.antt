@@ -20,7 +20,7 @@ module _ {S : Type 0} (left : S → Known) where
     known = λ bytes e. (let k = s.known bytes e in rows-more left old new fields default_config st.StartRecord (strip_bom bytes) k.0 records s.config k.1 k.2 r);
   }
 
-  -- a file begins with the records behind which a reader stands
+  -- a file begins with the records after which a reader stands
   pub begins : (file : Known) (reader : Reader S) (records : List Fields) → StandsBehind left file reader records → BeginsWith file records
   begins None reader records s = tt
   begins (Some bytes) reader records s = let k = s.known bytes refl in (reader_state reader, k.0, k.2)

@@ -17,7 +17,7 @@ use Rattle.canary_files.specs.RowExchanges.{IsExchange, RowDisposition, told_of,
 use Rattle.canary_files.specs.Taking.{Fields}
 use Rattle.canary_files.specs.Importing.{ImportsAll}
 
--- a request is told that it is ahead of its turn
+-- the reply says that a request is ahead of its turn
 abbrev pub IsAhead : Reply → Type 0
 IsAhead reply = (expected : ℕ) × (reply ≡ ahead_reply expected)
 
@@ -41,7 +41,7 @@ AllLasting xs = AllByRecursion (λ x. IsLasting x.disposition) xs
 abbrev pub AllHeard : List RowExchange → Type 0
 AllHeard xs = AllByRecursion (λ x. IsHeard x.disposition) xs
 
--- ---- what the register tells of a row
+-- ---- what the register says of a row
 
 -- why it is refused, or the reply that is kept under its number, if it is of the same command
 abbrev pub told_by : Contents → Result Row RowRefusal → RowReply
@@ -70,7 +70,7 @@ AreTold c xs =
     (λ x. IsLasting x.disposition
     → (told_of x.disposition ≡ told_in c x.message) × IsSettledRow c x.message) xs
 
--- so it is of the contents behind rows that were answered
+-- so it is of the contents after rows that were answered
 abbrev pub TellsAfterwards : DeskState → DeskState → Type 0
 TellsAfterwards p q =
     (xs : List RowExchange) → AnsweredInOrder IsExchange p q xs → q.book.is_honest → AreTold q.book.contents xs
@@ -85,7 +85,7 @@ TellsSettled p q =
     × AllByRecursion
     (λ x. IsHeard x.disposition → told_of x.disposition ≡ told_in p.book.contents x.message) xs
 
--- row by row: where a row had its line for good, it has it again, 503 aside
+-- row by row: if a row had its line for good, it has it again, 503 aside
 abbrev pub SameLines : List RowExchange → List RowExchange → Type 0
 SameLines [] ys = Unit {0}
 SameLines (x ∷ xs) [] = ⊥

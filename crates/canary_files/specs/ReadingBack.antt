@@ -77,7 +77,7 @@ AreExportsReadBack =
     → IsTrue (is_label (name_of (past_of c service) x))
     → IsReadBack caller service (name_of (past_of c service) x) (suc place) x
 
--- the fields of the rows of measurements in order, behind so many others
+-- the fields of the rows of measurements in order, after so many others
 abbrev pub rows_fields : List ℕ → List ℕ → (Recorded → List ℕ) → ℕ → List Recorded → List Fields
 rows_fields caller service name n [] = []
 rows_fields caller service name n (x ∷ xs) =

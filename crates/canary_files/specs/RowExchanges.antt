@@ -34,7 +34,7 @@ IsDisposition fields moment (answered (event.Query at query) answer) = ⊥
 
 -- ---- exchanges
 
--- the fields of a row, the moment that the clock told for it, and what came of it
+-- the fields of a row, the moment that the clock gave for it, and what came of it
 abbrev pub RowExchange : Type 0
 RowExchange = Exchange (List (List ℕ)) RowRefusal
 
@@ -44,7 +44,7 @@ IsExchange x = IsDisposition x.message x.moment x.disposition
 abbrev pub rows_of : List RowExchange → List (List (List ℕ))
 rows_of xs = messages_of xs
 
--- the line that tells of it, under the row's number
+-- the line that reports it, under the row's number
 abbrev pub told_line : ℕ → RowDisposition → List ℕ
 told_line number d = line_of number (told_status (told_of d)) (told_body (told_of d))
 

@@ -14,7 +14,7 @@ use Rattle.canary_base.specs.Writes.{Known}
 abbrev pub Fields : Type 0
 Fields = List (List ℕ)
 
--- a file, where its bytes are known, begins with these records
+-- a file, if its bytes are known, begins with these records
 abbrev pub BeginsWith : Known → List Fields → Type 0
 BeginsWith None records = Unit {0}
 BeginsWith (Some bytes) records =
@@ -26,7 +26,7 @@ abbrev pub HasRecords : Known → List Fields → Type 0
 HasRecords None records = Unit {0}
 HasRecords (Some bytes) records = AreRecords default_config st.StartRecord (strip_bom bytes) records
 
--- a reader of a file stands behind these records
+-- a reader of a file stands after these records
 pub record StandsBehind {S : Type 0} (left : S → Known) (file : Known) (reader : Reader S)
     (records : List Fields) : Type 0 where
   pub config : reader_config reader ≡ default_config

@@ -27,7 +27,7 @@ row_fields caller number service x metric =
 abbrev pub record_text : List (List ℕ) → List ℕ
 record_text fields = row_text default_writer fields
 
--- the rows of measurements in order, behind so many others
+-- the rows of measurements in order, after so many others
 abbrev pub rows_text : List ℕ → List ℕ → (Recorded → List ℕ) → ℕ → List Recorded → List ℕ
 rows_text caller service name n [] = []
 rows_text caller service name n (x ∷ xs) =

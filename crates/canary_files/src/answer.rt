@@ -23,7 +23,7 @@ use csv::ByteRecord;
 use std::alloc::Global;
 use std::io::Write;
 
-// Room for a row's number, a status and a space behind each.
+// Room for a row's number, a status and a space after each.
 const ROOM: usize = 32;
 
 // The longest body of a line that is written at once, and the room for such a line.
@@ -31,7 +31,7 @@ const BODY_ROOM: usize = 479;
 
 const LINE_ROOM: usize = ROOM + BODY_ROOM + 1;
 
-// What the line of a row tells.
+// What the line of a row says.
 #[derive(Drop)]
 pub(crate) enum RowReply {
     Refused(RowRefusal),
@@ -75,7 +75,7 @@ fn refusal_body(refusal: RowRefusal) -> &'static str
 }
 
 // Answers the row with this number and these fields: the clock is asked once, the register is asked
-// where the row is a request, and then its line is written.
+// if the row is a request, and then its line is written.
 pub(crate) fn answer_row<W: Write, C: Clock, B: Book>(
     alloc: Global,
     number: u64,
@@ -96,7 +96,7 @@ pub(crate) fn answer_row<W: Write, C: Clock, B: Book>(
     write_line(writer, number, &told)
 }
 
-// Handles a row at a moment, and answers what its line is to tell.
+// Handles a row at a moment, and answers what its line is to say.
 fn handle<B: Book>(alloc: Global, fields: &ByteRecord, moment: Moment, book: &mut B) -> RowReply
     ensures { (h : RowDisposition) × (result ≡ told_of h)
         × IsDisposition (fields_of fields.now) moment h
@@ -109,7 +109,7 @@ fn handle<B: Book>(alloc: Global, fields: &ByteRecord, moment: Moment, book: &mu
     }
 }
 
-// The same where the row is a request.
+// The same if the row is a request.
 fn post_row<B: Book>(alloc: Global, row: Row, moment: Moment, book: &mut B) -> RowReply
     ensures { (fields : List (List ℕ)) → row_of fields ≡ Ok row → (h : RowDisposition)
         × (result ≡ told_of h) × IsDisposition fields moment h
@@ -161,7 +161,7 @@ fn write_parts<W: Write>(writer: &mut W, number: u64, told: &RowReply) -> Result
     write_ended(writer, told.body())
 }
 
-// The number and the status, and a space behind each.
+// The number and the status, and a space after each.
 fn line_front(number: u64, status: u16) -> ArrayString<ROOM>
     ensures { result.bytes ≡ line_front number status }
 {

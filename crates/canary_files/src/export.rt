@@ -95,10 +95,10 @@ struct RunAnalysis {
 /// book is unchanged.
 ///
 /// # Errors
-/// What was written before are the first bytes of the file. `UnknownService` where there is no such
-/// service, and nothing is written. `TooMany` where it has more than 1,000,000,000 measurements.
-/// `Write` where the writer failed or took no byte. `Memory` where an allocation was refused, and
-/// `Storage` where the store failed, which a book that is sure never tells.
+/// What was written before are the first bytes of the file. `UnknownService` if there is no such
+/// service, and nothing is written. `TooMany` if it has more than 1,000,000,000 measurements.
+/// `Write` if the writer failed or took no byte. `Memory` if an allocation was refused, and
+/// `Storage` if the store failed, which a book that is sure never reports.
 pub fn export<W: Write, B: Book>(
     alloc: Global,
     book: &mut B,
@@ -187,7 +187,7 @@ fn write_rows<W: Write, B: Book>(
     }
 }
 
-// The rows of the next page, behind so many others. How many there are then.
+// The rows of the next page, after so many others. How many there are then.
 fn write_page<W: Write, B: Book>(
     alloc: Global,
     book: &mut B,
@@ -255,7 +255,7 @@ fn write_measurements<W: Write, B: Book>(
     Ok(from + page.len() as u64)
 }
 
-// The rows of these measurements, behind so many others.
+// The rows of these measurements, after so many others.
 fn rows_text<B: Book>(
     alloc: Global,
     book: &mut B,
@@ -338,7 +338,7 @@ fn metric_name<B: Book>(
     }
 }
 
-// The analysis of a run, which is asked for where it is not that of the last row.
+// The analysis of a run, which is asked for if it is not that of the last row.
 fn analysis_for<B: Book>(
     book: &mut B,
     source: &ExportSource,

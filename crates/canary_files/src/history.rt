@@ -9,7 +9,7 @@ use std::alloc::Global;
 /// Appends these lines of a history: of each its moment, a space and its words, ended with LF.
 ///
 /// # Errors
-/// `Memory` where an allocation was refused; the text is then as before.
+/// `Memory` if an allocation was refused; the text is then as before.
 pub fn history_text(lines: &[Line], text: &mut String) -> Result<(), Memory>
     ensures ok { OnOk result
         (string_bytes text.new ≡ string_bytes text.old ++ history_text lines.now) }

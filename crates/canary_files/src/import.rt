@@ -47,13 +47,13 @@ pub enum ImportFault {
 /// `run`, `metric`, `ordinal`, `taken`, `result` and `failure`; each other one is a row: the
 /// request of this caller, under this number, to record one measurement. One of `result` and
 /// `failure` is empty. A result is a number or a list as `[1;2;3]`. Numbers are decimal, without
-/// leading zeros. Row after row is read, the clock is asked once, the register is asked where the
-/// row is such a request, and its line is written before more is looked at: the number of the row
-/// from 1 on, the status, and the body, with a space between them and LF behind. A row is refused
-/// with status 400 as `unreadable` where it has not nine fields, then as `bad-name` for its caller,
-/// as `bad-number` for its number, and as `unreadable` for anything else; where memory runs out as
-/// it is read, its status is 503. A file without any record has no rows, nor has one of which a
-/// record was taken before: nothing is read of it.
+/// leading zeros. Row after row is read, the clock is asked once, the register is asked if the row
+/// is such a request, and its line is written before more is looked at: the number of the row from
+/// 1 on, the status, and the body, with a space between them and LF after them. A row is refused
+/// with status 400 as `unreadable` if it has not nine fields, then as `bad-name` for its caller, as
+/// `bad-number` for its number, and as `unreadable` for anything else; if memory runs out as it is
+/// read, its status is 503. A file without any record has no rows, nor has one of which a record
+/// was taken before: nothing is read of it.
 ///
 /// # Errors
 /// `Header` if the first record is another: nothing was asked and written. `Read` if the reader
@@ -98,7 +98,7 @@ pub fn import<S: Read + Limited, W: Write, C: Clock, B: Book>(
     import_rows(alloc, file, &mut fields, output, clock, book)
 }
 
-// Answers the rows of a file behind its header.
+// Answers the rows of a file after its header.
 fn import_rows<S: Read + Limited, W: Write, C: Clock, B: Book>(
     alloc: Global,
     file: &mut FileReader<S>,

@@ -27,7 +27,7 @@ pub fn files_read_back()
 {}
 
 /// A file that is imported again: a row that was neither ahead of its turn nor answered 503 has
-/// the same line, unless it is answered 503, whatever came between. Where this is so of all rows,
+/// the same line, unless it is answered 503, whatever came between. If this is so of all rows,
 /// all lines are the same, and nothing changes.
 pub fn again<C: Clock, B: Book>()
     ensures afterwards { (c d : C) (f g : B)

@@ -1,9 +1,9 @@
 //! Histories as text, and measurement files.
 //!
 //! Callers may rest on this: over any book whose store is honest `export` writes the file of a
-//! service's measurements, or its first bytes where it fails, and leaves the book unchanged;
+//! service's measurements, or its first bytes if it fails, and leaves the book unchanged;
 //! `import` makes one request of each row of such a file, in order, and writes a line for each.
-//! `history_text` appends all lines, or, where memory runs out, nothing.
+//! `history_text` appends all lines, or, if memory runs out, nothing.
 //!
 //! In use (canary_programs, src/export.rt):
 //!

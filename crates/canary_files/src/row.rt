@@ -28,7 +28,7 @@ const FIELDS: usize = 9;
 /// Why a row is refused before the register is asked.
 #[derive(Clone, Copy, Debug, PartialEq, Eq)]
 pub enum RowRefusal {
-    /// It has not nine fields, or a field behind the number does not say what it is to say.
+    /// It has not nine fields, or a field after the number does not say what it is to say.
     Unreadable,
     /// The caller is an invalid name.
     BadName,
@@ -108,7 +108,7 @@ fn entries_in(alloc: Global, fields: &ByteRecord) -> Result<Listed<Entry>, FormF
     Ok(entries)
 }
 
-// The report, where its run and the number of its entries keep their limits.
+// The report, if its run and the number of its entries keep their limits.
 fn report_with(service: Name, run: u32, entries: Listed<Entry>) -> Option<Report>
     ensures { result ≡ report_with service run entries }
 {
@@ -135,7 +135,7 @@ fn entry_in(alloc: Global, fields: &ByteRecord) -> Result<Entry, FormFault>
     entry_of(metric, ordinal, taken, outcome).ok_or(FormFault::Unreadable)
 }
 
-// The entry, where its ordinal keeps its limits.
+// The entry, if its ordinal keeps its limits.
 fn entry_of(metric: Label, ordinal: u32, taken: Moment, outcome: Outcome) -> Option<Entry>
     ensures { result ≡ entry_of metric ordinal taken outcome }
 {

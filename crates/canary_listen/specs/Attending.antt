@@ -8,7 +8,7 @@ use Rattle.canary_wire.specs.Dispositions.{IsExchange}
 
 -- ---- what is served
 
--- the conversation of each client is in order, by its own turns alone, also where it has ended:
+-- the conversation of each client is in order, by its own turns alone, also if it has ended:
 -- what was written to it, with what is owed to it, are the replies to the messages that were read
 abbrev pub AreInOrder : List Turn → Type 0
 AreInOrder turns = (client : ℕ) → (t : Talk) × InOrderBy turns client t

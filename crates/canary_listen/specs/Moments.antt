@@ -1,4 +1,4 @@
--- What the machine's clock tells.
+-- What the machine's clock reports.
 use Rattle.std.specs.Prelude.{ℕ, Option, None, Some, min}
 
 -- after the last moment, if the machine reads so many seconds: those, and at most the greatest

@@ -186,12 +186,12 @@ impl Client {
         self.wait.awaited == Awaited::Room
     }
 
-    // Its conversation, where the client has gone: its connection is closed.
+    // Its conversation, when the client has gone: its connection is closed.
     pub(crate) fn into_conversation(self) -> Conversation {
         self.conversation
     }
 
-    // Has its connection reported under this token where it is ready at first.
+    // Has its connection reported under this token when it is ready at first.
     pub(crate) fn register(&mut self, registry: &Registry, token: Token) -> io::Result<()>
         ensures { client_talk self.new ≡ client_talk self.old }
     {
@@ -267,8 +267,8 @@ impl Client {
         }
     }
 
-    // What becomes of it where its conversation waits for this, after a turn that answered queries
-    // and histories, or not.
+    // What becomes of it if its conversation waits for this, after a turn that answered queries and
+    // histories, or not.
     fn after_turn(
         &mut self,
         wants: Wants,
@@ -299,7 +299,7 @@ impl Client {
         }
     }
 
-    // The same, where it waits for its next turn.
+    // The same, if it waits for its next turn.
     fn after_yield(&mut self, answers_queries: bool, answers_histories: bool, now: u64) -> AfterTurn
         ensures same { client_talk self.new ≡ client_talk self.old }
         ensures told { result ≢ AfterTurn.HoldReplies }
@@ -326,7 +326,7 @@ impl Client {
         }
     }
 
-    // Notes what it is waited for, from now on where that is new or a message was answered.
+    // Notes what it is waited for, from now on if that is new or a message was answered.
     fn wait_for(&mut self, awaited: Awaited, now: u64)
         ensures same { client_talk self.new ≡ client_talk self.old }
         ensures reported { self.new.is_reported ≡ self.old.is_reported }

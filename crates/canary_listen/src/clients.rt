@@ -95,7 +95,7 @@ impl Clients {
         }
     }
 
-    // Keeps the conversation of a client that has gone for another, where there are not enough.
+    // Keeps the conversation of a client that has gone for another, if there are not enough.
     fn keep(&mut self, client: Client)
         ensures same { clients_attendance self.new ≡ clients_attendance self.old }
         ensures clients { self.new.by_number ≡ self.old.by_number }
@@ -121,7 +121,7 @@ impl Clients {
         Ok(())
     }
 
-    // The turn of a client; none where it has gone.
+    // The turn of a client; none if it has gone.
     pub(crate) fn turn<C: Clock, B: Book, P: Pace>(
         &mut self,
         number: usize,

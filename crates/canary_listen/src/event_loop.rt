@@ -56,7 +56,7 @@ pub(crate) struct EventLoop {
     pub(crate) left: Option<u64>,
     // Whether somebody may wait to be accepted.
     pub(crate) has_waiting: bool,
-    // The second from which on it is tried again, where the system could not accept.
+    // The second from which on it is tried again, if the system could not accept.
     pub(crate) retry_at: u64,
     // The present second, and the one in which it was last asked who takes too long.
     pub(crate) now: u64,
@@ -141,7 +141,7 @@ impl EventLoop {
         self.send_held(rt, clock, book);
     }
 
-    // Sends replies that are held back, if enough are, and then does what is to be done where this
+    // Sends replies that are held back, if enough are, and then does what is to be done when this
     // token was reported.
     fn dispatch_next<R: time::Clock + AllocGlobal, C: Clock, B: Book>(
         &mut self,
@@ -267,7 +267,7 @@ impl EventLoop {
         }
     }
 
-    // Does what is to be done where this token was reported.
+    // Does what is to be done when this token was reported.
     fn dispatch<R: time::Clock + AllocGlobal, C: Clock, B: Book>(
         &mut self,
         rt: &R,
@@ -470,7 +470,7 @@ impl EventLoop {
         }
     }
 
-    // Nobody waits, or the system could not accept, as where it has no descriptor left: then to ask
+    // Nobody waits, or the system could not accept, as when it has no descriptor left: then to ask
     // again at once would take all of a processor's time, so it is asked a second later.
     fn wait_to_accept(&mut self, kind: ErrorKind)
         ensures keeps { KeepsServed (clients_attendance self.old.clients)

@@ -29,9 +29,9 @@ const MAX_EVENTS: usize = 256;
 // How many seconds are waited at most before it is asked who takes too long.
 const WAIT_SECONDS: u64 = 1;
 
-// How often it is asked, without waiting, whether something more comes, behind a round in which
-// something came: some 15 microseconds. Whoever is answered often asks anew that soon, and to
-// be woken takes the system about as long.
+// How often it is asked, without waiting, whether something more comes, after a round in which
+// something came: some 15 microseconds. Whoever is answered often asks anew that soon, and to be
+// woken takes the system about as long.
 const MAX_ASKED: u32 = 60;
 
 /// Why no clients are served.
@@ -43,7 +43,7 @@ pub enum ListenFault {
     /// The address cannot be listened on.
     #[error("the address cannot be listened on")]
     Listen,
-    /// The system tells no more of the connections.
+    /// The system reports no more of the connections.
     #[error("no more connections can be accepted")]
     Accept,
     /// The records of the book are not where they were found.
@@ -67,10 +67,10 @@ pub struct Listener {
 }
 
 impl Listener {
-    /// Listens on an address; the system chooses the port where that is 0.
+    /// Listens on an address; the system chooses the port if that is 0.
     ///
     /// # Errors
-    /// `Listen` where the address cannot be listened on, as where it is taken. `Memory` where an
+    /// `Listen` if the address cannot be listened on, as when it is taken. `Memory` if an
     /// allocation was refused.
     pub fn bind<R: Net + AllocGlobal>(
         rt: &R,
@@ -115,7 +115,7 @@ impl Listener {
     /// The address on which it listens, with the port that the system chose.
     ///
     /// # Errors
-    /// What the system answers where it does not tell it.
+    /// What the system answers if it does not give it.
     pub fn address(&self) -> io::Result<SocketAddr> {
         self.attendant.socket.local_addr()
     }
@@ -137,8 +137,8 @@ impl Listener {
     /// answers what comes with `Storage` for a second more, and then serving ends.
     ///
     /// # Errors
-    /// `Accept` where the system tells no more of the connections, or after 2^64 - 1 rounds; `Lost`
-    /// where the records of the book are not where they were found.
+    /// `Accept` if the system reports no more of the connections, or after 2^64 - 1 rounds; `Lost`
+    /// if the records of the book are not where they were found.
     pub fn serve<R: time::Clock + AllocGlobal, C: Clock, B: Placed, F: Write>(
         &mut self,
         rt: &R,
@@ -178,8 +178,8 @@ impl Listener {
     /// in place.
     ///
     /// # Errors
-    /// `Accept` where the system tells no more of the connections; `Lost` where the records were
-    /// not in place a second ago either, and nobody has a turn then.
+    /// `Accept` if the system reports no more of the connections; `Lost` if the records were not in
+    /// place a second ago either, and nobody has a turn then.
     pub fn round<R: time::Clock + AllocGlobal, C: Clock, B: Placed, F: Write>(
         &mut self,
         rt: &R,
@@ -227,7 +227,7 @@ impl Listener {
         self.attendant.accept_some(rt.alloc());
     }
 
-    // Waits until something comes, at most so long; not at all where somebody may be accepted or a
+    // Waits until something comes, at most so long; not at all if somebody may be accepted or a
     // history is to be answered.
     fn wait(&mut self, wait: Duration) -> io::Result<()>
         ensures { attendance_of self.new ≡ attendance_of self.old }
@@ -270,8 +270,7 @@ impl Listener {
         is_over
     }
 
-    // Notes the present second, counted from the first round. It stays where the clock cannot be
-    // read.
+    // Notes the present second, counted from the first round. It stays if the clock cannot be read.
     fn look_at_clock<R: time::Clock>(&mut self, rt: &R)
         ensures { attendance_of self.new ≡ attendance_of self.old }
     {

@@ -42,8 +42,8 @@ impl Wait {
         }
     }
 
-    // How it is waited for now, where so many of its messages were answered: as before, unless what
-    // it is waited for is new or a message was answered.
+    // How it is waited for now, if so many of its messages were answered: as before, unless what it
+    // is waited for is new or a message was answered.
     pub(crate) fn renewed(self, awaited: Awaited, answered: u64, now: u64) -> Wait
         ensures awaited { result.awaited ≡ awaited }
         ensures answered { result.answered ≡ answered }

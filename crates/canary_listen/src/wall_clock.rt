@@ -7,7 +7,7 @@ use canary_once::clock::Clock;
 use std::time::{self, SystemTime};
 
 /// The machine's clock, in whole seconds of UTC, held within the limits of a moment. It goes back
-/// as the machine's does. If that cannot be read, it tells the last moment again, at first 0.
+/// as the machine's does. If that cannot be read, it reports the last moment again, at first 0.
 #[derive(Drop)]
 pub struct WallClock<'a, R> {
     machine: &'a R,
@@ -15,7 +15,7 @@ pub struct WallClock<'a, R> {
 }
 
 impl<'a, R: time::Clock> WallClock<'a, R> {
-    /// The clock of this machine, which told nothing yet.
+    /// The clock of this machine, which reported nothing yet.
     pub fn new(machine: &'a R) -> WallClock<'a, R>
         ensures { result.last ≡ 0 }
     {
@@ -25,7 +25,7 @@ impl<'a, R: time::Clock> WallClock<'a, R> {
         }
     }
 
-    /// The moment that it told last, at first 0.
+    /// The moment that it reported last, at first 0.
     pub fn last(&self) -> Moment
         ensures { result ≡ self.now.last }
     {
@@ -51,14 +51,14 @@ impl<R: time::Clock> Clock for WallClock<'_, R> {
     }
 }
 
-// The seconds since 1970-01-01T00:00:00Z, where the machine's clock can be read.
+// The seconds since 1970-01-01T00:00:00Z, if the machine's clock can be read.
 fn read_seconds<R: time::Clock>(machine: &R) -> Option<u64> {
     let now = SystemTime::now(machine).ok()?;
     let since = now.duration_since(SystemTime::UNIX_EPOCH).ok()?;
     Some(since.as_secs())
 }
 
-// The moment that is told after `last` if the machine's clock reads so many seconds, or none.
+// The moment that is reported after `last` if the machine's clock reads so many seconds, or none.
 fn next_moment(last: Moment, read: Option<u64>) -> Moment
     ensures { result ≡ next_moment last read }
 {

@@ -18,7 +18,7 @@ abbrev pub unless_null : Data → Option Data
 unless_null null = None
 unless_null value = Some value
 
--- the member of that key, where it is there and not null
+-- the member of that key, if it is there and not null
 abbrev pub member_of : List ℕ → Data → Option Data
 member_of key value = option_and_then unless_null (get key value)
 
@@ -30,7 +30,7 @@ abbrev pub form_or : {A : Type 0} → A → (Data → Option A) → Option Data 
 form_or absent form None = Some absent
 form_or absent form (Some value) = form value
 
--- what the form gives of the member of that key, or this where it is absent
+-- what the form gives of the member of that key, or this if it is absent
 abbrev pub in_member_or : {A : Type 0} → List ℕ → A → (Data → Option A) → Data → Option A
 in_member_or key absent form value = form_or absent form (member_of key value)
 
@@ -85,7 +85,7 @@ duration_of (b ∷ bs) = option_map Some (seconds_of (b ∷ bs))
 abbrev pub duration_in : Data → Option (Option ℕ)
 duration_in value = option_and_then duration_of (as_str value)
 
--- the same, where what is absent is 0
+-- the same, but what is absent is 0
 abbrev pub delay_in : Data → Option ℕ
 delay_in value = option_map (λ duration. unwrap_or duration 0) (duration_in value)
 

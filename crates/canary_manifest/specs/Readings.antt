@@ -11,7 +11,7 @@ pub data Reading (A : Type 0) : Type 0 where
   unreadable : Reading A
   readable : A → Reading A
 
--- readable as what a form gives, where it gives anything
+-- readable as what a form gives, if it gives anything
 abbrev pub reading_of_form : {A : Type 0} → Option A → Reading A
 reading_of_form None = unreadable
 reading_of_form (Some a) = readable a
@@ -20,12 +20,12 @@ reading_of_form (Some a) = readable a
 abbrev pub reading_unless : {A : Type 0} → Bool → Option A → Reading A
 reading_unless is_unsupported form = if is_unsupported then unsupported else reading_of_form form
 
--- what a fault of a form is told as
+-- what a fault of a form is reported as
 abbrev pub wire_fault : FormFault → WireFault
 wire_fault form.Unreadable = Unreadable
 wire_fault form.Memory = Memory
 
--- the answer tells this reading, or that memory ran out
+-- the answer gives this reading, or that memory ran out
 abbrev pub IsReading : {A : Type 0} → Reading A → Result A WireFault → Type 0
 IsReading reading (Ok a) = reading ≡ readable a
 IsReading reading (Err Unreadable) = reading ≡ unreadable

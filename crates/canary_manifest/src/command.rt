@@ -58,14 +58,15 @@ impl From<FormFault> for WireFault {
 ///
 /// Of a key that stands twice in an object the last value counts, and a number with a point or an
 /// exponent, or `-0`, is no whole number. A strategy and conditions are not checked here: a
-/// strategy may have more steps or greater weights than one may have, and a condition may be none.
+/// strategy may have more steps or greater weights than one may have, and a condition may be
+/// invalid.
 ///
 /// # Errors
-/// `Unsupported` where a body of one member has a manifest that asks for what the desk does not do,
+/// `Unsupported` if a body of one member has a manifest that asks for what the desk does not do,
 /// whatever else is wrong with it. Of a template: a `kind` other than `AnalysisTemplate`,
 /// `templates` or `measurementRetention` that are neither null nor an empty list, a
 /// `consecutiveSuccessLimit`, or a `failureLimit` below 0. Of a service: a `kind` other than
-/// `Rollout`, `paused` where it is true, `blueGreen`, a step of another kind, or in an analysis a
+/// `Rollout`, `paused` if it is true, `blueGreen`, a step of another kind, or in an analysis a
 /// `dryRun` or a `measurementRetention` that are neither null nor an empty list, or a template of
 /// the cluster. `Unreadable` for anything else that is no command, as bytes that are not UTF-8,
 /// arrays and objects nested deeper than 127, a member too many, or a number above its limit.

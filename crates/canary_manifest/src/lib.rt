@@ -2,7 +2,7 @@
 //! Rollouts, as `kubectl get -o json` prints them, and the commands that name a service.
 //!
 //! Callers may rest on this: a command is read from the bytes of a body exactly as its definition
-//! reads it, and what the desk does not do is told before what cannot be read (`Memory` aside).
+//! reads it, and what the desk does not do is reported before what cannot be read (`Memory` aside).
 //!
 //! In use (canary_check, src/check.rt):
 //!

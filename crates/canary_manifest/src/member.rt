@@ -1,7 +1,7 @@
 //! The members of a manifest, and what they hold.
 //!
 //! A null member is as if absent, and a member that is not asked for is passed over. These are the
-//! readers of the members alone, for whoever tells which of them is not read.
+//! readers of the members alone, for whoever reports which of them is not read.
 ghost use Rattle.std.specs.Prelude.{◌≡◌, ◌<◌, ◌^◌, ◌==◌, IsTrue, option_map};
 ghost use Rattle.std.specs.Option.{SomeIff};
 ghost use Rattle.std.specs.Str.Parse.{digits_value};
@@ -26,7 +26,7 @@ use std::alloc::Global;
 // The longest pause, in seconds.
 const MAX_PAUSE: u32 = 31_536_000;
 
-/// The member of that key, where it is there and not null.
+/// The member of that key, if it is there and not null.
 pub fn member_of<'a>(value: &'a Value, key: &str) -> Option<&'a Value>
     ensures { option_map (λ member. view member.now) result ≡ member_of key.now (view value.now) }
 {
@@ -76,7 +76,7 @@ fn count_up_to(value: &Value, greatest: u32) -> Option<u32>
     }
 }
 
-/// The limit under that key, or this where it is absent: a whole number or a text of digits, up to
+/// The limit under that key, or this if it is absent: a whole number or a text of digits, up to
 /// 1,000,000.
 pub fn limit_at(value: &Value, key: &str, absent: u32) -> Option<u32>
     ensures { result ≡ in_member_or key.now absent limit_in (view value.now) }
@@ -87,7 +87,7 @@ pub fn limit_at(value: &Value, key: &str, absent: u32) -> Option<u32>
     }
 }
 
-/// The count under that key, if there is one: as a limit, where 0 is as if absent.
+/// The count under that key, if there is one: as a limit, but 0 is as if absent.
 pub fn count_at(value: &Value, key: &str) -> Option<Option<u32>>
     ensures { result ≡ in_member_or key.now None count_in (view value.now) }
 {
@@ -102,7 +102,7 @@ pub fn count_at(value: &Value, key: &str) -> Option<Option<u32>>
 /// reading is not looked at.
 ///
 /// # Errors
-/// `Unreadable` where it is no text; `Memory`.
+/// `Unreadable` if it is no text; `Memory`.
 pub fn condition_at(alloc: Global, value: &Value, key: &str) -> Result<Option<Text>, FormFault>
     ensures { IsRead (in_member_or key.now None condition_in (view value.now)) result }
 {
@@ -145,7 +145,7 @@ fn duration_in(value: &Value) -> Option<Option<Seconds>>
     Some(Some(Seconds::read(text)?))
 }
 
-/// The same, where what is absent is 0.
+/// The same, but what is absent is 0.
 pub fn delay_at(value: &Value, key: &str) -> Option<Seconds>
     ensures { result ≡ in_member_or key.now 0 delay_in (view value.now) }
 {

@@ -99,8 +99,8 @@ fn steps_in(alloc: Global, list: &Vec<Value>) -> Result<Listed<Step>, FormFault>
 /// The step that it is.
 ///
 /// # Errors
-/// `Unreadable` where it has none or several of `setWeight`, `pause` and `analysis`, or the one
-/// that it has is not read; `Memory`.
+/// `Unreadable` if it has none or several of `setWeight`, `pause` and `analysis`, or the one that
+/// it has is not read; `Memory`.
 #[tactic(auto, unfolding(crate::specs::Rollouts::step_in))]
 pub fn step_in(alloc: Global, step: &Value) -> Result<Step, FormFault>
     ensures { IsRead (step_in (view step.now)) result }
@@ -184,7 +184,7 @@ fn canary_background(alloc: Global, canary: &Value) -> Result<Option<Background>
 /// The analysis beside the steps.
 ///
 /// # Errors
-/// `Unreadable` where its templates or its `startingStep` are not read; `Memory`.
+/// `Unreadable` if its templates or its `startingStep` are not read; `Memory`.
 #[tactic(auto, unfolding(crate::specs::Rollouts::background_in))]
 pub fn background_in(alloc: Global, analysis: &Value) -> Result<Background, FormFault>
     ensures { IsRead (background_in (view analysis.now)) result }
@@ -197,7 +197,7 @@ pub fn background_in(alloc: Global, analysis: &Value) -> Result<Background, Form
     })
 }
 
-/// The step from which on the analysis runs, 0 to 64; the first where it does not say so.
+/// The step from which on the analysis runs, 0 to 64; the first if it does not say so.
 pub fn starting_step_in(analysis: &Value) -> Option<StartingStep>
     ensures { result
         ≡ in_member_or (codes "startingStep") 0 starting_step_in (view analysis.now) }

@@ -131,7 +131,7 @@ fn numbers_of(metric: &Value) -> Option<MetricLimits>
     })
 }
 
-// The names of the metrics that are dry-run; none where the member is absent.
+// The names of the metrics that are dry-run; none if the member is absent.
 fn dry_run_at(alloc: Global, spec: &Value) -> Result<Listed<DryRunName>, FormFault>
     ensures { IsRead (in_member_or (codes "dryRun") [] (list_of dry_run_name) (view spec.now))
         result }
@@ -168,7 +168,7 @@ fn dry_run_in(alloc: Global, list: &Vec<Value>) -> Result<Listed<DryRunName>, Fo
 /// The name of a metric that is dry-run, or `.*` for all: the `metricName` of an item of `dryRun`.
 ///
 /// # Errors
-/// `Unreadable` where it is no text of 1 to 63 bytes; `Memory`.
+/// `Unreadable` if it is no text of 1 to 63 bytes; `Memory`.
 pub fn dry_run_name(alloc: Global, value: &Value) -> Result<DryRunName, FormFault>
     ensures { IsRead (dry_run_name (view value.now)) result }
 {

@@ -128,7 +128,7 @@ nothing_if b (c ∷ rest) e =
     let parts = and_parts (b == 102) (length (c ∷ rest) == 0) e in
     absurd (let it : length (c ∷ rest) ≡ 0 = grind (arith, nat_tests) in omega arith)
 
--- the same behind this letter
+-- the same after this letter
 begun : (b c : ℕ) (rest : List ℕ) (shape : Shape) → (b == c) ≡ true → IsWritten (c ∷ rest) shape → IsWritten (b ∷ rest) shape
 begun b c rest shape at h =
     let same : b ≡ c = grind (arith, nat_tests) in

@@ -38,7 +38,7 @@ abbrev pub IsListOf : Beside → ℕ → List GivenTo → Value → Type 0
 IsListOf beside n gs (Whole z) = ⊥
 IsListOf beside n gs (ListResult zs) = AllStand beside n gs zs
 
--- the same behind a length
+-- the same after a length
 abbrev pub IsListAfter : Beside → ℕ → ℕ → List GivenTo → Value → Type 0
 IsListAfter beside n count gs (Whole z) = ⊥
 IsListAfter beside n count gs (ListResult []) = ⊥

@@ -7,7 +7,7 @@ pub fn one_more()
     ensures { CountsOneMore }
 {}
 
-/// Counts are those of some list of at most 1,000,000 measurements exactly where they are
+/// Counts are those of some list of at most 1,000,000 measurements exactly if they are
 /// consistent.
 pub fn consistent()
     ensures { ListWhereConsistent }

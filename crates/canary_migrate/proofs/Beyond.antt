@@ -1,4 +1,4 @@
--- Rows of the first schema that a program can hold, where it can hold what they become.
+-- Rows of the first schema that a program can hold, if it can hold what they become.
 use Rattle.std.proofs.Common.{◌≡◌, ◌≤◌, ◌<◌, ◌^◌, ℕ, List, [], ◌∷◌, map, ◌+◌, arith}
 use Rattle.std.specs.List.{AllByRecursion}
 use Rattle.canary_metric.specs.Counts.{AreConsistent}

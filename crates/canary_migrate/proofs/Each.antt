@@ -16,7 +16,7 @@ append_both : {A : Type 0} (xs ys zs : List A) → (xs ++ ys) ++ zs ≡ xs ++ (y
 append_both [] ys zs = refl
 append_both (x ∷ xs) ys zs = ap (λ all. x ∷ all) (append_both xs ys zs)
 
--- what the tables tell of some so far, one after another
+-- what the tables say of some so far, one after another
 module _ {X A : Type 0} (told : Tables → X → List A) (xs : List X) where
   pub record SoFar (i : ℕ) (old now : State) (found : List A) : Type 0 where
     pub same : IsSame old now
@@ -41,7 +41,7 @@ module _ {X A : Type 0} (told : Tables → X → List A) (xs : List X) where
   pub all_found : (i : ℕ) (old now : State) (found : List A) → length xs ≤ i → SoFar i old now found → IsUsable now → (t : Tables) → Stores old t → found ≡ flat_map (told t) xs
   all_found i old now found all h usable t has = h.value usable t has ∙ ap (flat_map (told t)) (take_all i xs all)
 
--- the rows of binding of a service's runs so far, behind others
+-- the rows of binding of a service's runs so far, after others
 module _ (name : List ℕ) (made : ServiceSpec) (attempt : List BindingRow) where
   pub record RunsSoFar (n : ℕ) (old now : State) (found : List BindingRow) : Type 0 where
     pub same : IsSame old now

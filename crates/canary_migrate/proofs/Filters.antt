@@ -74,7 +74,7 @@ from_passing : {X : Type 0} (p : X → Bool) (P : X → Type 0) (xs : List X) �
 from_passing p P [] all = tt
 from_passing p P (x ∷ xs) all = from_kept p P x xs (p x) refl all (from_passing p P xs)
 
--- what holds of all that pass the test of each holds of all, where each passes its own
+-- what holds of all that pass the test of each holds of all, if each passes its own
 pub by_tests : {X : Type 0} (test : X → X → Bool) (P : X → Type 0) → ((x : X) → test x x ≡ true) → (xs : List X) → ((y : X) → AllByRecursion P (filter (test y) xs)) → AllByRecursion P xs
 by_tests {X} test P own xs passing = by_each xs (λ y. from_passing (test y) P xs (passing y))
   where

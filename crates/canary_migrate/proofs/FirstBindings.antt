@@ -187,7 +187,7 @@ module _ (services : List ServiceRow) (runs : List RunRow) where
     one_more : (row : ServiceRow) (rows : List ServiceRow) → passing (row ∷ rows) ≡ filter (is_binding name number template) (bindings_named services runs row.name) ++ passing rows
     one_more row rows = filter-append (is_binding name number template) (bindings_named services runs row.name) (flat_map (bindings_named services runs) (map (λ (row : ServiceRow). row.name) rows))
 
-    -- where no service has the name, nothing is bound under it
+    -- if no service has the name, nothing is bound under it
     pub none_there : (rows : List ServiceRow) → filter (is_service name) rows ≡ [] → passing rows ≡ []
     none_there [] none = refl
     none_there (row ∷ rows) none =
@@ -197,7 +197,7 @@ module _ (services : List ServiceRow) (runs : List RunRow) where
           | false ↦ λ e none. one_more row rows ∙ (λ i. none_of_other row.name e i ++ none_there rows none i)
         ] refl none
 
-    -- where one has it, what is bound under it is that service's
+    -- if one has it, what is bound under it is that service's
     pub one_there : (rows : List ServiceRow) (service : ServiceRow) → filter (is_service name) rows ≡ service ∷ [] → passing rows ≡ filter (is_binding name number template) (bindings_named services runs name)
     one_there [] service one = cc one
     one_there (row ∷ rows) service one =
@@ -220,6 +220,6 @@ module _ (services : List ServiceRow) (runs : List RunRow) where
       ∙ ap (λ (rows : List ServiceRow). filter (is_binding name number template) (service_bindings runs (first rows))) one
       ∙ ap (λ (o : Option ServiceSpec). filter (is_binding name number template) (bindings_made runs service o)) is
 
--- of the attempt's rows, those of a run are none
+-- of the attempt's rows, none is of a run
 pub run_alone : (name : List ℕ) (place : ℕ) (template : List ℕ) (names : List (List ℕ)) → filter (is_binding name (suc place) template) (bindings_to name 0 names) ≡ []
 run_alone name place template names = none_of_run name (suc place) 0 template (λ e. omega (arith, e)) (bindings_to name 0 names) (of_run name 0 names)

@@ -1,4 +1,4 @@
--- Where each template has one revision: what a strategy and its runs are bound to.
+-- If each template has one revision: what a strategy and its runs are bound to.
 use Rattle.std.proofs.Common.{◌≡◌, ℕ, zero, suc, List, [], ◌∷◌, ◌++◌, Bool, true, false, Some, None, refl, sym, ap, ◌∙◌}
 use Rattle.std.specs.Prelude.{Option, ◌&&◌, ◌||◌, not, if◌then◌else◌, map, flat_map, slice_get, is_none}
 use Rattle.std.specs.List.{filter_map, list_all}

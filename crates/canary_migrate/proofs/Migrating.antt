@@ -23,7 +23,7 @@ use Rattle.canary_migrate.specs.Migrates.{HasFirstTables, HasSoundFirstRows, Has
 use Rattle.canary_migrate.proofs.FirstMigrates.{first_rows_migrate, sound_rows_migrate}
 use Rattle.canary_migrate.proofs.FirstJudged.{first_of_migrated, contents_first, plain_templates, migrated_within}
 
--- the row of the first schema, where it is found alone
+-- the row of the first schema, if it is found alone
 pub alone_row : (rows : List Row) (row : MetaRow) → row ≡ Alone → Stands 1 (HasFirstMeta rows) rows row → HasFirstMeta rows
 alone_row rows row is stands = subst (Stands 1 (HasFirstMeta rows) rows) is stands
 

@@ -30,7 +30,7 @@ pub if_judged : {E : Type 0} (r : Result Unit E) (three : State) (Q : Type 0) (P
 if_judged (Err e) three Q P then_so judged = tt
 if_judged (Ok u) three Q P then_so judged = then_so judged
 
--- rows that have no cells are none
+-- if there are no cells, there are no rows
 no_rows : {X : Type 0} (cells : X → Row) (xs : List X) (rows : List Row) → cells_of rows ≡ map cells xs → rows ≡ [] → xs ≡ []
 no_rows cells [] rows e none = refl
 no_rows cells (x ∷ xs) rows e none = absurd (let it : [] ≡ map cells (x ∷ xs) = sym (ap cells_of none) ∙ e in cc)
@@ -64,7 +64,7 @@ module _ (templates : List TemplateRow) (tallies : List FirstTally) (old one two
         let m = one_is usable in
         subst (λ (db : Database). Holds moved db (emptied f)) (sym (same usable).1) (held_made old one f m.0.first first m.1)
 
-    -- rows that are none of tables are none of the first schema
+    -- rows that are not those of tables are not those of the first schema
     pub typed_broken : (IsFormed one.now → ¬ HasRows one.now) → IsUsable (seen_inside two) → ¬ HasJudgedFirstRows old.now
     typed_broken broken usable f =
         let m = one_is usable in

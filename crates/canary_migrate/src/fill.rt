@@ -31,7 +31,7 @@ use std::alloc::Global;
 /// revisions, of bindings and of tallies are empty.
 ///
 /// # Errors
-/// `Memory` where there is not enough, `Storage` where the database fails.
+/// `Memory` if there is not enough, `Storage` if the database fails.
 pub(crate) fn make_tables<S: Alter>(tx: &mut Transaction<'_, S>) -> Result<(), StoreFault>
     ensures same_reference { tx.new.conn.ghost_name ≡ tx.old.conn.ghost_name }
     ensures made { HasCleanDisk (state S.Store tx.new.conn.now)
@@ -65,8 +65,8 @@ fn make<S: Alter>(tx: &mut Transaction<'_, S>) -> Result<usize, Error>
 /// are bound to.
 ///
 /// # Errors
-/// `Broken` where a row is none that a program can hold, as a tally of counts that agree with no
-/// measurements; `Memory` where there is not enough; `Storage` where the database fails.
+/// `Broken` if a row is not one that a program can hold, as a tally of counts that agree with no
+/// measurements; `Memory` if there is not enough; `Storage` if the database fails.
 pub(crate) fn fill<S: Alter>(
     tx: &mut Transaction<'_, S>,
     alloc: Global,
@@ -124,7 +124,7 @@ fn first_revision(alloc: Global, template: &TemplateRow) -> Result<RevisionRow, 
     })
 }
 
-// Inserts these rows, where the transaction goes on.
+// Inserts these rows, if the transaction goes on.
 fn write<S: Alter>(
     tx: &mut Transaction<'_, S>,
     revisions: &[RevisionRow],

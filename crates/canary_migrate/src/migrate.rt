@@ -37,12 +37,12 @@ use std::alloc::Global;
 ///
 /// # Errors
 ///
-/// `OtherSchema` where the database has other tables, indexes or views than the first schema, or
-/// its table meta lacks the row 1, 1; `BrokenRow` where the rows are not what the first schema has
-/// of sound contents of its time, as with `passAfter` in a template, or with a second row in meta;
-/// `Memory` where an allocation was refused; `Storage` where the store failed, or the connection
-/// stands inside a transaction. What is left of the connection is handed back, with the database as
-/// it was.
+/// `OtherSchema` if the database has other tables, indexes or views than the first schema, or its
+/// table meta lacks the row 1, 1; `BrokenRow` if the rows are not what the first schema has of
+/// sound contents of its time, as with `passAfter` in a template, or with a second row in meta;
+/// `Memory` if an allocation was refused; `Storage` if the store failed, or the connection stands
+/// inside a transaction. What is left of the connection is handed back, with the database as it
+/// was.
 pub fn migrate<S: Alter + Drop, G: JudgingProgress>(
     alloc: Global,
     conn: Connection<S>,
@@ -113,7 +113,7 @@ fn migrate_rows<S: Alter, G: JudgingProgress>(
     Ok(())
 }
 
-// The same where meta has the row of the first schema alone.
+// The same if meta has the row of the first schema alone.
 fn rewrite<S: Alter, G: JudgingProgress>(
     conn: &mut Connection<S>,
     alloc: Global,
@@ -201,8 +201,8 @@ fn write<S: Alter, G: JudgingProgress>(
     validate(tx, alloc, progress)
 }
 
-// The fault, but that of a row only where the transaction goes on: once it has ended, it shows
-// other rows.
+// The fault, but that of a row only if the transaction goes on: once it has ended, it shows other
+// rows.
 fn if_live<S: Alter>(tx: &mut Transaction<'_, S>, fault: ReadFault) -> ReadFault
     ensures same_reference { tx.new.conn.ghost_name ≡ tx.old.conn.ghost_name }
     ensures broken { result ≡ ReadFault.Broken → (fault ≡ ReadFault.Broken)

@@ -22,8 +22,8 @@ use std::alloc::Global;
 /// The templates of a database of the first schema, in the order in which they were added.
 ///
 /// # Errors
-/// `Broken` where a template is none that a program can hold, or a metric of it has `passAfter`;
-/// `Memory` where there is not enough, `Storage` where the database fails.
+/// `Broken` if a template is not one that a program can hold, or a metric of it has `passAfter`;
+/// `Memory` if there is not enough, `Storage` if the database fails.
 pub(crate) fn templates<Q: Reader>(
     conn: &mut Q,
     alloc: Global,

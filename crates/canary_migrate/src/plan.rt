@@ -27,8 +27,8 @@ use std::alloc::Global;
 /// What all services and their runs are bound to, by revision 1 of each template.
 ///
 /// # Errors
-/// `Broken` where a service or a run is none that a program can hold; `Memory` where there is not
-/// enough, `Storage` where the database fails.
+/// `Broken` if a service or a run is not one that a program can hold; `Memory` if there is not
+/// enough, `Storage` if the database fails.
 pub(crate) fn bindings<Q: Reader>(
     conn: &mut Q,
     alloc: Global,

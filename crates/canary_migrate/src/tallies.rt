@@ -20,9 +20,9 @@ use std::alloc::Global;
 /// These tallies, each with the passes of its metric, by the measurements.
 ///
 /// # Errors
-/// `Broken` where a measurement is none that a program can hold, or the counts of a tally are those
-/// of no measurements; `Memory` where there is not enough, `Storage` where the database fails or
-/// has more rows than are counted.
+/// `Broken` if a measurement is not one that a program can hold, or the counts of a tally are those
+/// of no measurements; `Memory` if there is not enough, `Storage` if the database fails or has more
+/// rows than are counted.
 pub(crate) fn with_passes<Q: Reader>(
     conn: &mut Q,
     alloc: Global,

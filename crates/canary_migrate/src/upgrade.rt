@@ -16,11 +16,11 @@ use std::alloc::Global;
 ///
 /// # Errors
 ///
-/// `InUse` where another program has the file open; `OtherSchema` where it is of neither schema, as
-/// one with no tables; `BrokenRow` where its rows are not what the first schema has of sound
-/// contents of its time, as with `passAfter` in a template; `Memory` where an allocation was
-/// refused; `Storage` where the file cannot be opened, is no database, or fails. The file is as it
-/// was then; but if it fails as it is closed, it may be migrated.
+/// `InUse` if another program has the file open; `OtherSchema` if it is of neither schema, as one
+/// with no tables; `BrokenRow` if its rows are not what the first schema has of sound contents of
+/// its time, as with `passAfter` in a template; `Memory` if an allocation was refused; `Storage` if
+/// the file cannot be opened, is no database, or fails. The file is as it was then; but if it fails
+/// as it is closed, it may be migrated.
 pub fn upgrade<P: ReadingProgress, G: JudgingProgress>(
     rt: &HostRuntime,
     path: &str,
@@ -72,7 +72,7 @@ fn migrated<S: Alter + Drop, G: JudgingProgress>(
 }
 
 // Whether the tables are a desk's of the present schema. Without its row of meta they are of no
-// schema; with others beside it they are none that a desk leaves.
+// schema; with others beside it they are not those that a desk leaves.
 fn is_current<S: Alter>(conn: &mut Connection<S>) -> Result<bool, TableFault> {
     if !conn.is_autocommit() || !is_desk(conn.schema()) {
         return Ok(false);

@@ -27,7 +27,7 @@ few_there : (w o : Option (List Receipt)) (b : Bool) (l : List Receipt) → ((x 
 few_there w o true l f g e = f l e
 few_there w o false l f g e = g l e
 
--- they keep receipts each where the list that changes has some, or is gone
+-- they keep receipts each if the list that changes has some, or is gone
 pub keep_receipts : (m n : CallerMap) (k : List ℕ) (w : Option (List Receipt)) → IsWith m n k w → HaveReceipts m → ((x : List Receipt) → w ≡ Some x → IsFew x) → HaveReceipts n
 keep_receipts m n k w h all few q l e = few_there w (get m q) (bytes_eq q k) l few (all q) (sym (h q) ∙ e)
 

@@ -1,4 +1,4 @@
--- A history grows by what effects tell: effect after effect in a loop, and as the past grows.
+-- A history grows by what effects add: effect after effect in a loop, and as the past grows.
 use Rattle.std.proofs.Common.{◌≡◌, ℕ, suc, ◌+◌, ◌<◌, List, [], ◌∷◌, length, drop, get_or, refl, sym, ap, ◌∙◌, drop-cons, arith}
 use Rattle.canary_plan.specs.declared.line.Line.{Line}
 use Rattle.canary_release.specs.declared.effect.Effect.{Effect}

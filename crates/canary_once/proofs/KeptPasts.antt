@@ -175,7 +175,7 @@ lists_behind all run metric (suc n) x lt =
     let rest = lists_behind all run (suc metric) n x (omega (arith, lt)) in
     λ i. head i ∷ rest i
 
--- the lists of its run; the measurement is of the metric that lies so many behind the first
+-- the lists of its run; the measurement is of the metric that lies so many after the first
 lists_measured : (all : List Recorded) (run metric k n : ℕ) (x : Recorded) → x.run ≡ run → x.metric ≡ metric + k → lists_from (all ++ x ∷ []) run metric n ≡ change_at k (with_recorded x) (lists_from all run metric n)
 lists_measured all run metric k zero x e f = refl
 lists_measured all run metric zero (suc n) x e f =

@@ -1,4 +1,4 @@
--- What is told of a run from what is kept is what its whole lists say.
+-- What is reported of a run from what is kept is what its whole lists say.
 use Rattle.std.proofs.Common.{◌≡◌, ℕ, zero, suc, ◌+◌, ◌<◌, List, [], ◌∷◌, true, false, refl, ap, sym, ◌∙◌, subst, arith, eq-eqb}
 use Rattle.std.proofs.lemmas.Option.{slice_get-map}
 use Rattle.std.specs.Prelude.{cond, Option, Some, None, option_map, slice_get, map, filter, is_none}
@@ -83,7 +83,7 @@ told_of k number place r h e there =
     let is : q.number ≡ 1 + place = number_at 1 place runs q h.numbered here in
     ap (option_map (record_with r)) (tallies_are r.closed r.opening.run (tracked (past_kept k)).open_runs (tallied q) (λ going. going_found q.number 1 place runs q is h.numbered here going) (last_at all place k.runs r there h.last))
 
--- where there is such a run
+-- if there is such a run
 told_there : (k : Kept) (number place : ℕ) (o : Option KeptRun) → AreKept k → number ≡ 1 + place → slice_get k.runs place ≡ o → record_among o (tracked (past_kept k)).open_runs ≡ option_map record_of (option_map (run_in k.measurements) o)
 told_there k number place None h e there = refl
 told_there k number place (Some r) h e there = told_of k number place r h e there

@@ -113,7 +113,7 @@ went_then {M} {R} {Is} p q r xs ys a b = record {
 
 -- ---- the whole list
 
--- what one message is told and leaves is that of its event, if it is one
+-- what one message is answered and leaves is that of its event, if it is one
 one_is : {R : Type 0} (d mid : Contents) (o : Disposition R) → IsHandled d o mid → (replies_in (answer_in o) ≡ answers_of d (answered_events (event_in o) (answer_in o))) × (mid ≡ after d (answered_events (event_in o) (answer_in o)))
 one_is d mid (rejected r) h = (refl, h)
 one_is d mid no_memory h = (refl, h)

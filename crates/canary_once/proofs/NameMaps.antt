@@ -35,7 +35,7 @@ entries_with es fs k w h q = get_name fs q ∙ h q ∙ ap (λ b. cond b w (at_na
 pub written_with : {X : Type 0} (m n : BTreeMap (List ℕ) X) (k : List ℕ) (r new : X) → Some r ≡ at_name m.entries k → WritesThrough (slice_cmp nat_cmp) (slice_cmp nat_cmp k) m new n → IsWith (from_entries {R = slice_cmp nat_cmp} m.entries) (from_entries n.entries) k (Some new)
 written_with m n k r new there written = entries_with m.entries n.entries k (Some new) (written.3 (subst IsSome there refl)).0
 
--- a map that was updated, where it is the other before that
+-- a map that was updated, if it is the other before that
 pub updated_with : {X : Type 0} (m n o : BTreeMap (List ℕ) X) (k : List ℕ) (w : Option X) → m ≡ o → Updates (slice_cmp nat_cmp) m n k w → IsWith (from_entries {R = slice_cmp nat_cmp} o.entries) (from_entries n.entries) k w
 updated_with {X = X} m n o k w is u = subst (λ (p : BTreeMap (List ℕ) X). IsWith (from_entries {R = slice_cmp nat_cmp} p.entries) (from_entries n.entries) k w) is (entries_with m.entries n.entries k w u.0)
 
@@ -58,7 +58,7 @@ with_same m n k w h is = answers_alike n m (λ q. h q ∙ same_there m k q w (by
 
 -- Lists under names.
 
--- the list under a name; an empty one where there is none
+-- the list under a name; an empty one if there is none
 abbrev pub list_in : {X : Type 0} → NameMap (List X) → List ℕ → List X
 list_in m k = unwrap_or (get m k) []
 

@@ -75,7 +75,7 @@ doubled_receipts : map (λ (k : Receipt). k.reply) (receipts_of (after no_conten
 unfolding digits
 doubled_receipts = receipts_from_nothing doubled (codes "ops") _ refl
 
--- Each caller has its own numbers, and a refusal is kept as a reply is: it stands even where the command would now be accepted.
+-- Each caller has its own numbers, and a refusal is kept as a reply is: it stands even if the command would now be accepted.
 
 abbrev two_callers : List Event
 two_callers =
@@ -98,7 +98,7 @@ two_callers_replies : answers_of no_contents two_callers ≡
 unfolding digits
 two_callers_replies = replies_from_nothing two_callers _ refl
 
--- A template is there for the requests behind it, and a refusal from before it stands. A second Template of its name is the next revision, and one that is repeated gets the revision that it made.
+-- A template is there for the requests after it, and a refusal from before it stands. A second Template of its name is the next revision, and one that is repeated gets the revision that it made.
 
 abbrev with_analysis : Command
 with_analysis = add web (Analysis (codes "t" ∷ []) ∷ [])
@@ -153,7 +153,7 @@ bound_at_the_start_replies : answers_of no_contents bound_at_the_start ≡
 unfolding digits
 bound_at_the_start_replies = replies_from_nothing bound_at_the_start _ refl
 
--- Queries show the service as it stands at their moments, or at its last moment where that is later, and change nothing.
+-- Queries show the service as it stands at their moments, or at its last moment if that is later, and change nothing.
 
 abbrev looked : List Event
 looked =

@@ -41,7 +41,7 @@ second_pause : shown_after timed (b + 10) (Service web) ≡ ok (codes "{\"code\"
 unfolding digits
 second_pause = service_then (shows (b + 10) (Service web)) timed web _ refl
 
--- and at 40 seconds it is done, as its history tells
+-- and at 40 seconds it is done, as its history says
 after_pauses : shown_after timed (b + 40) (Service web) ≡ ok (codes "{\"code\":\"ok\",\"hold\":\"none\",\"moment\":1767225640,\"open\":[],\"runs\":0,\"service\":\"web\",\"stable\":\"v2\",\"status\":\"Healthy\",\"step\":3,\"version\":\"v2\",\"weight\":100}")
 unfolding digits
 after_pauses = service_then (shows (b + 40) (Service web)) timed web _ refl

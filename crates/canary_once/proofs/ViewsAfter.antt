@@ -1,4 +1,4 @@
--- What a book told, as effects leave it, is what the past that has grown by them says.
+-- What a book reported, as effects leave it, is what the past that has grown by them says.
 use Rattle.std.proofs.Common.{◌≡◌, ℕ, zero, suc, ◌+◌, ◌<◌, List, [], ◌∷◌, ◌++◌, length, drop, get_or, refl, sym, ap, ◌∙◌}
 use Rattle.std.specs.Prelude.{true, false, if◌then◌else◌, cond, ◌==◌, map, find, replicate, Option, Some, None, option_map}
 use Rattle.std.specs.List.{AllByRecursion}

@@ -36,7 +36,7 @@ words_more f xs i x item old new h x_is item_is old_is new_is =
     ∙ (λ k. old_is k ++ item_words (nat_lt 0 i) ((item_is ∙ ap f x_is) k))
     ∙ ap (λ (r : List ℕ). 91 ∷ r) (sym (joined_more f xs i x h))
 
--- the same behind any text
+-- the same after any text
 pub words_more_behind : {A : Type 0} (f : A → List ℕ) (front : List ℕ) (xs : List A) (i : ℕ) (x : A) (old new : List ℕ) → i < length xs → x ≡ get_or xs i x → old ≡ front ++ join_with_byte 44 (map f (take i xs)) → new ≡ old ++ item_words (nat_lt 0 i) (f x)
     → new ≡ front ++ join_with_byte 44 (map f (take (i + 1) xs))
 words_more_behind f front xs i x old new h x_is old_is new_is =

@@ -82,12 +82,12 @@ there alike keeps steps quiet desk name (Some m) t q s p reply is found passing 
     ∙ ap (λ (x : Passed). shown x q m.past) (passed_is alike keeps steps desk name m t s p is (some_of s (stored_form m) found) passing)
     ∙ shown_is quiet m t q
 
--- and where none was found
+-- and if none was found
 pub gone : (o : Option ModelService) (t : ℕ) (q : Query) (reply : Reply) → reply ≡ view_service None t q → ◌≡◌ {A = Option ServiceParts} None (option_map stored_form o) → reply ≡ view_service o t q
 gone None t q reply is e = is
 gone (Some m) t q reply is e = cc e
 
--- and so from what the book found, and then told
+-- and so from what the book found, and then reported
 pub looked : {E : Type 0} → WatchesAlike → KeepsWhatIsSeen → PassesInSteps → TimeMeasuresNothing → (old mid new : Contents) (t : ℕ) (q : Query) (s : ServiceParts) (p : Passed) (given : Result Reply E) → Some s ≡ stored_service old.desk (asked_of q) → IsPassing s t p → mid ≡ old → new ≡ mid
     → IfOk given (λ r. r ≡ shown p q (past_of mid (asked_of q))) → IfOk given (λ r. (r ≡ view_of old.desk t q) × (new ≡ old))
 looked {E = E} alike keeps steps quiet old mid new t q s p given found passing same stays told =

@@ -32,7 +32,7 @@ is_of caller r = bytes_eq caller r.caller
 abbrev pub next_number : Contents → List Request → List ℕ → ℕ
 next_number c news caller = count_of c caller + length (filter (is_of caller) news) + 1
 
--- a request is new where it has that number; a repeat has a lower one, and one ahead a higher one
+-- a request is new if it has that number; a repeat has a lower one, and one ahead a higher one
 abbrev pub is_new : Contents → List Request → Request → Bool
 is_new c news r = r.number == next_number c news r.caller
 
@@ -90,8 +90,8 @@ repeat_reply None command = reused_reply
 repeat_reply (Some receipt) command =
     if same_command receipt.command command then receipt.reply else reused_reply
 
--- the reply to a request, after these events: the machine's where it is new; that of the receipt
--- where it is a repeat; else that it is ahead
+-- the reply to a request, after these events: the machine's if it is new; that of the receipt
+-- if it is a repeat; else that it is ahead
 abbrev pub answer_request : Contents → List Event → Request → Reply
 answer_request c before r =
     let next = next_number c (news_of c before) r.caller in

@@ -7,7 +7,7 @@ use Rattle.canary_once.specs.Contents.{Contents, no_contents, KeepsReceipts, wit
 use Rattle.canary_once.specs.Sound.{AreContents, AreSoundContents}
 
 -- what it contains, however it is kept; whether its store is honest: nobody else writes it, and it
--- gives back what was written; whether its store is memory alone; and whether it is sure: its calls
+-- returns what was written; whether its store is memory alone; and whether it is sure: its calls
 -- never answer Storage
 pub record BookState : Type 1 where
   pub contents : Contents

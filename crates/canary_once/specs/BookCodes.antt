@@ -1,4 +1,4 @@
--- The codes of a desk and of contents, by which proofs tell such values apart.
+-- The codes of a desk and of contents, by which proofs distinguish such values.
 use Rattle.std.specs.Prelude.{List, refl}
 use Rattle.std.specs.Ordering.{nat_cmp}
 use Rattle.std.specs.Cmp.Lexicographic.{slice_cmp}

@@ -39,7 +39,7 @@ count_of c caller = length (receipts_of c caller)
 abbrev pub receipt_at : Contents → List ℕ → ℕ → Option Receipt
 receipt_at c caller number = slice_get (receipts_of c caller) (number - 1)
 
--- a map with a value under one name more, where there is a value
+-- a map with a value under one name more, if there is a value
 abbrev pub put_some : {A : Type 0} → FinMap (slice_cmp nat_cmp) A → List ℕ → Option A
     → FinMap (slice_cmp nat_cmp) A
 put_some m name None = m

@@ -105,14 +105,14 @@ pub record AreKept (k : Kept) : Type 0 where
   pub within : AllByRecursion (IsWithin (length k.runs)) k.measurements
   pub last : AllByRecursion (HasLast k.measurements) k.runs
 
--- What is told of a run.
+-- What is reported of a run.
 
 -- the run of that number, which stands at the number less 1
 abbrev pub kept_numbered : List KeptRun → ℕ → Option KeptRun
 kept_numbered runs zero = None
 kept_numbered runs (suc place) = slice_get runs place
 
--- the tallies of a run: its last ones where it is closed, else those of the open run of its number
+-- the tallies of a run: its last ones if it is closed, else those of the open run of its number
 abbrev pub tallies_in : Option ClosedRun → ℕ → List OpenRun → Option (List Counts)
 tallies_in None number open_runs =
     option_map (λ (r : OpenRun). r.tallies) (find (has_number number) open_runs)

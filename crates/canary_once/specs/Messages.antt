@@ -26,7 +26,7 @@ IsSureDisposition sure (answered event answer) = IsFaultOf sure answer
 
 -- ---- exchanges
 
--- a message, the moment that the clock told for it, and what came of it
+-- a message, the moment that the clock gave for it, and what came of it
 pub record Exchange (Message Rejection : Type 0) : Type 0 where
   pub message : Message
   pub moment : ℕ
@@ -57,7 +57,7 @@ answers_in xs = flat_map (λ x. answer_in x.disposition) xs
 
 -- ---- where the desk stands
 
--- the moments that its clock will tell, and how its book stands
+-- the moments that its clock will give, and how its book stands
 pub record DeskState : Type 1 where
   pub clock : (ℕ → ℕ) → Type 0
   pub book : BookState

@@ -1,4 +1,4 @@
--- What a book tells of a service's runs, its history and its measurements.
+-- What a book reports of a service's runs, its history and its measurements.
 use Rattle.std.specs.Prelude.{ℕ, ◌==◌, Bool, List, map, find, take, drop, Option, Some, None, option_map}
 use Rattle.std.specs.FinMap.{get}
 use Rattle.canary_plan.specs.declared.line.Line.{Line}
@@ -27,7 +27,7 @@ is_numbered number r = r.number == number
 abbrev pub record_numbered : Past → ℕ → Option RunRecord
 record_numbered p number = option_map record_of (find (is_numbered number) p.runs)
 
--- the past of a service; none where there is no such service
+-- the past of a service; none if there is no such service
 abbrev pub past_in : Option ModelService → Past
 past_in None = no_past
 past_in (Some m) = m.past

@@ -1,4 +1,4 @@
--- The code of a service of the model, by which proofs tell such values apart.
+-- The code of a service of the model, by which proofs distinguish such values.
 use Rattle.std.specs.Prelude.{ℕ, List, Option, refl}
 use Rattle.std.specs.Coded.{Coded, code_by, coded×, coded_ℕ, coded_list, coded_option}
 use Rattle.canary_plan.specs.declared.analysis_parts.AnalysisParts.{AnalysisParts}

@@ -1,4 +1,4 @@
--- What the code tells of a service that was passed: what a book told of it, as the effects on the
+-- What the code reports of a service that was passed: what a book reported of it, as the effects on the
 -- way leave it.
 use Rattle.std.specs.Prelude.{◌≡◌, ℕ, ◌==◌, Bool, true, false, if◌then◌else◌, List, [], ◌∷◌, ◌++◌, length, replicate, Option, Some, None, option_map, Result, IfOk, IfErr}
 use Rattle.canary_metric.specs.Counts.{counts}
@@ -19,12 +19,12 @@ use Rattle.canary_once.specs.BookCalls.{BookState, IsFault, StaysInMemory}
 use Rattle.canary_once.specs.Records.{record_numbered}
 use Rattle.canary_once.specs.Views.{found, service_view, history_view, run_reply}
 
--- what an item adds to the text of a list, where items stand before it or not
+-- what an item adds to the text of a list, by whether items stand before it
 abbrev pub item_words : Bool → List ℕ → List ℕ
 item_words false item = item
 item_words true item = 44 ∷ item
 
--- the lines of a history after one thing more: those that are told stand at its end
+-- the lines of a history after one thing more: those that are added stand at its end
 abbrev pub lines_then : List Line → Effect → List Line
 lines_then lines (LineAdded line) = lines ++ line ∷ []
 lines_then lines (RunOpened x) = lines
@@ -50,7 +50,7 @@ opened_record x =
 abbrev pub closed_record : Closing → RunRecord → RunRecord
 closed_record x r = if r.number == x.run then record r { closed = Some x } else r
 
--- the run of a number, if there is one, where one more is opened
+-- the run of a number, if there is one, when one more is opened
 abbrev pub opened_of : ℕ → Opening → Option RunRecord → Option RunRecord
 opened_of number x (Some r) = Some r
 opened_of number x None = if x.run == number then Some (opened_record x) else None

@@ -1,4 +1,4 @@
--- The moments that a clock of steps tells.
+-- The moments that a clock of steps gives.
 use Rattle.std.specs.Prelude.{◌≡◌, ℕ, ◌+◌, ◌*◌, min}
 
 -- the k-th, from 0, is k steps after the first, and at most the greatest moment

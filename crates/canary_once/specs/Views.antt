@@ -87,7 +87,7 @@ history_view name lines =
 
 -- A run.
 
--- when a metric is due next; null where it is completed or its run is closed
+-- when a metric is due next; null if it is completed or its run is closed
 abbrev pub due_text : RunRecord → MetricValue → Counts → List ℕ
 due_text r m t =
     if is_completed (phase_of_counts m t false) || is_some r.closed then codes "null"
@@ -114,7 +114,7 @@ metric_middle t =
     ++ (decimal t.inconclusive
     ++ (codes ",\"measurements\":" ++ decimal (t.counted + t.errors)))))))
 
--- ,"name":NAME,"passes":N,"phase":PHASE}, the phase being that with closing where the run is closed
+-- ,"name":NAME,"passes":N,"phase":PHASE}, the phase being that with closing if the run is closed
 abbrev pub metric_back : RunRecord → MetricValue → Counts → List ℕ
 metric_back r m t =
     codes ",\"name\":\""

@@ -96,14 +96,14 @@ pub trait Book {
     /// The number of settled requests of a caller.
     ///
     /// # Errors
-    /// `Memory` where an allocation was refused, `Storage` where the store failed; nothing changed.
+    /// `Memory` if an allocation was refused, `Storage` if the store failed; nothing changed.
     fn settled(&mut self, caller: &Name) -> Result<u32, BookFault>
         ensures { Finds (λ c. count_of c caller.now) (state self.old) (state self.new) result };
 
-    /// The receipt under a caller's number; none where no request of that number is settled.
+    /// The receipt under a caller's number; none if no request of that number is settled.
     ///
     /// # Errors
-    /// `Memory` where an allocation was refused, `Storage` where the store failed; nothing changed.
+    /// `Memory` if an allocation was refused, `Storage` if the store failed; nothing changed.
     fn receipt(&mut self, caller: &Name, number: Number) -> Result<Option<Receipt>, BookFault>
         ensures { Finds (λ c. receipt_at c caller.now number)
             (state self.old) (state self.new) result };
@@ -111,39 +111,39 @@ pub trait Book {
     /// The newest revisions of the templates that have one of these names.
     ///
     /// # Errors
-    /// `Memory` where an allocation was refused, `Storage` where the store failed; nothing changed.
+    /// `Memory` if an allocation was refused, `Storage` if the store failed; nothing changed.
     fn templates(&mut self, names: &[Name]) -> Result<Templates, BookFault>
         ensures { Finds (λ c. templates_named c names.now)
             (state self.old) (state self.new) result };
 
-    /// A service, by its name, as it is kept: not passed to any moment; none where there is none.
+    /// A service, by its name, as it is kept: not passed to any moment; none if there is none.
     ///
     /// # Errors
-    /// `Memory` where an allocation was refused, `Storage` where the store failed; nothing changed.
+    /// `Memory` if an allocation was refused, `Storage` if the store failed; nothing changed.
     fn service(&mut self, name: &Name) -> Result<Option<Service>, BookFault>
         ensures { Finds (λ c. stored_service c.desk name.now) (state self.old)
             (state self.new) result };
 
-    /// The history of a service, oldest line first; none where there is no such service.
+    /// The history of a service, oldest line first; none if there is no such service.
     ///
     /// # Errors
-    /// `Memory` where an allocation was refused, `Storage` where the store failed; nothing changed.
+    /// `Memory` if an allocation was refused, `Storage` if the store failed; nothing changed.
     fn history(&mut self, name: &Name) -> Result<Listed<Line>, BookFault>
         ensures { Finds (λ c. history_of c name.now) (state self.old) (state self.new) result };
 
-    /// A run of a service, by its number; none where there is no such service or run.
+    /// A run of a service, by its number; none if there is no such service or run.
     ///
     /// # Errors
-    /// `Memory` where an allocation was refused, `Storage` where the store failed; nothing changed.
+    /// `Memory` if an allocation was refused, `Storage` if the store failed; nothing changed.
     fn run(&mut self, name: &Name, number: Number) -> Result<Option<RunRecord>, BookFault>
         ensures { Finds (λ c. run_of c name.now number) (state self.old) (state self.new) result };
 
     /// A page of a service's measurements, of all its runs in the order in which they were
-    /// recorded: those from a place on, the first having place 0, and at most so many; empty where
+    /// recorded: those from a place on, the first having place 0, and at most so many; empty if
     /// there is no such service.
     ///
     /// # Errors
-    /// `Memory` where an allocation was refused, `Storage` where the store failed; nothing changed.
+    /// `Memory` if an allocation was refused, `Storage` if the store failed; nothing changed.
     fn measurements(
         &mut self,
         name: &Name,
@@ -157,7 +157,7 @@ pub trait Book {
     /// its caller, and its reply and change are the machine's for its command at some moment.
     ///
     /// # Errors
-    /// `Memory` where an allocation was refused, `Storage` where the store failed; nothing is
+    /// `Memory` if an allocation was refused, `Storage` if the store failed; nothing is
     /// settled, and nothing changed.
     fn commit(&mut self, settlement: Settlement) -> Result<(), BookFault>
         requires { (state self.old).is_honest → IsSettling (state self.old).contents settlement }

@@ -10,7 +10,7 @@ pub trait Clock {
     ghost use Rattle.std.specs.Prelude.{◌≡◌, ℕ, ◌+◌};
     ghost use Rattle.canary_base.specs.declared.moments.Moment.{Moment};
 
-    /// Which moments it tells from now on: `tells clock moment_at` says that its next moment is
+    /// Which moments it gives from now on: `tells clock moment_at` says that its next moment is
     /// `moment_at 0`, the one after it `moment_at 1`, and so on.
     ghost tells: { Self → (ℕ → Moment) → Type 0 };
 
@@ -20,7 +20,7 @@ pub trait Clock {
             → (result ≡ moment_at 0) × tells self.new (λ k. moment_at (k + 1)) };
 }
 
-/// A clock that tells `at`, `at + step` and so on, each at most the greatest moment. Contracts see
+/// A clock that gives `at`, `at + step` and so on, each at most the greatest moment. Contracts see
 /// it as its next moment and its step, in seconds.
 #[derive(Clone, Copy, Debug)]
 pub struct StepClock {
@@ -40,7 +40,7 @@ impl Model for StepClock {
 
 impl StepClock {
     /// A clock whose first moment is `at`, and each next one `step` seconds later, at most the
-    /// greatest moment: these are the moments that it tells.
+    /// greatest moment: these are the moments that it gives.
     pub fn new(at: Moment, step: Moment) -> StepClock
         ensures value { result ≡ (at, step) }
         ensures tells { (moment_at : ℕ → ℕ) → TellsSteps at step moment_at

@@ -84,7 +84,7 @@ impl Event {
 /// The answer to an event.
 #[derive(Drop)]
 pub enum Answer {
-    /// A reply: to a request the machine's where it is new, that of its receipt where it is
+    /// A reply: to a request the machine's if it is new, that of its receipt if it is
     /// repeated, and else a conflict; to a query what it asks for, or that it is not there.
     Replied(Reply),
     /// No reply, and nothing changed: an allocation was refused (`Memory`), or the store failed

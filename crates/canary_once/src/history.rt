@@ -9,7 +9,7 @@ use canary_base::moments::Moment;
 use canary_plan::line::{Line, LineEvent};
 use canary_release::effect::Effect;
 
-/// A history with the lines that these effects tell at its end.
+/// A history with the lines that these effects add at its end.
 ///
 /// # Errors
 /// `Memory` if an allocation was refused.
@@ -47,7 +47,11 @@ fn with_line(lines: Listed<Line>, line: &Line) -> Result<Listed<Line>, Memory>
 ///
 /// # Errors
 /// `Memory` if an allocation was refused.
-pub fn push_line(lines: Listed<Line>, moment: Moment, event: LineEvent) -> Result<Listed<Line>, Memory>
+pub fn push_line(
+    lines: Listed<Line>,
+    moment: Moment,
+    event: LineEvent,
+) -> Result<Listed<Line>, Memory>
     ensures { IfOk result (λ more. more ≡ lines ++ line_at moment event ∷ []) }
 {
     let mut lines = lines;

@@ -28,8 +28,8 @@ pub(crate) struct KeptRun {
 }
 
 impl KeptRun {
-    /// What is told of it, or `Memory`. Of its service's open runs, that of its number has its
-    /// tallies while it is open; where there is none such, there is nothing to tell.
+    /// What is reported of it, or `Memory`. Of its service's open runs, that of its number has its
+    /// tallies while it is open; if there is none such, there is nothing to report.
     pub(crate) fn record(
         &self,
         alloc: Global,
@@ -60,7 +60,7 @@ impl KeptRun {
         }
     }
 
-    // Its tallies: its last ones where it is closed, else those of the open run of its number.
+    // Its tallies: its last ones if it is closed, else those of the open run of its number.
     fn tallies<'a>(&'a self, open_runs: &'a [OpenRun]) -> Option<&'a Listed<Tally>>
         ensures { option_copied result
             ≡ tallies_in self.now.closed self.now.opening.run open_runs.now }

@@ -45,7 +45,7 @@ pub fn refusals()
     laws::refusals();
 }
 
-/// A receipt is of a command that was accepted or refused, and of no conflict: so it is where
+/// A receipt is of a command that was accepted or refused, and of no conflict: so it is when
 /// nothing is settled, and so it stays. A request is answered by such a reply, or by a conflict; a
 /// query by what it asks for, or by saying that it is not there.
 pub fn statuses()

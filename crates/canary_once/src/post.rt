@@ -24,7 +24,7 @@ use canary_release::service::Service;
 use std::alloc::Global;
 
 /// Answers one request: a new one is settled, a repeat gets the reply of its receipt, and one ahead
-/// of its turn is refused. Where an allocation was refused, the book's or its own, or the book's
+/// of its turn is refused. If an allocation was refused, the book's or its own, or the book's
 /// store failed, the answer is 503 and nothing changed.
 pub fn post<B: Book>(
     alloc: Global,
@@ -101,8 +101,8 @@ fn settle_new<B: Book>(
 
 // Decides a command by the service that it names and the newest revisions of the templates that it
 // looks up: which these are may depend on the service. The book is asked for the service before
-// anything is allocated: its answer says what holds of its contents, also where memory is refused
-// behind it.
+// anything is allocated: its answer says what holds of its contents, also if memory is refused
+// after it.
 fn decide_on<B: Book>(
     alloc: Global,
     book: &mut B,

@@ -1,4 +1,4 @@
-//! What a book tells of a run.
+//! What a book reports of a run.
 ghost use Rattle.std.specs.Prelude.{◌≡◌, IfOk};
 
 use canary_base::error::Memory;

@@ -18,7 +18,7 @@ use std::alloc::Global;
 /// requests alone, each once. The room of the answers is taken before the first event.
 ///
 /// # Errors
-/// `Memory` where there is no room for the answers; nothing was done.
+/// `Memory` if there is no room for the answers; nothing was done.
 pub fn run<B: Book>(alloc: Global, book: &mut B, events: &[Event]) -> Result<Vec<Answer>, Memory>
     ensures honest { (B.state book.new).is_honest → (B.state book.old).is_honest }
     ensures in_memory { StaysInMemory (B.state book.old) (B.state book.new) }

@@ -59,7 +59,7 @@ impl Services {
         }
     }
 
-    /// The history of a service, oldest line first; none where there is no such service.
+    /// The history of a service, oldest line first; none if there is no such service.
     pub(crate) fn history(&self, name: Name) -> &[Line]
         ensures { result.now ≡ (past_in (map.get self.now name)).history }
     {
@@ -69,7 +69,7 @@ impl Services {
         }
     }
 
-    /// The measurements of a service, in the order in which they were recorded; none where there is
+    /// The measurements of a service, in the order in which they were recorded; none if there is
     /// no such service.
     pub(crate) fn measurements(&self, name: Name) -> &[Recorded]
         ensures { result.now ≡ (past_in (map.get self.now name)).measurements }

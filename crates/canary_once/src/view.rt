@@ -18,7 +18,7 @@ use canary_release::service::Passed;
 use std::alloc::Global;
 
 /// Answers one query on a copy of the service, passed to the moment: 200 with what it asks for, or
-/// 404 where there is no such service, or no such run. It changes nothing. Where an allocation was
+/// 404 if there is no such service, or no such run. It changes nothing. If an allocation was
 /// refused, the book's or its own, or the book's store failed, the answer is 503.
 pub fn view<B: Book>(alloc: Global, book: &mut B, moment: Moment, query: &Query) -> Answer
     ensures { IsAnsweredBy (B.state book.old) (B.state book.new)

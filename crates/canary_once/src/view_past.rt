@@ -1,4 +1,4 @@
-//! What a book tells of a run, as the effects of time that passed leave it.
+//! What a book reports of a run, as the effects of time that passed leave it.
 ghost use Rattle.std.specs.Prelude.{◌≡◌, [], IfOk, option_map, replicate};
 ghost use Rattle.canary_metric.specs.Counts.{counts};
 ghost use Rattle.canary_once.specs.Showing.{opened_record, closed_record, opened_of};

@@ -155,7 +155,7 @@ fn bool_text(value: bool) -> &'static str
     if value { "true" } else { "false" }
 }
 
-// When the metric is due next; null where it is completed or the run is closed.
+// When the metric is due next; null if it is completed or the run is closed.
 fn due_text(
     alloc: Global,
     run: &RunRecord,

@@ -32,7 +32,7 @@ pub(crate) fn not_found(alloc: Global, code: &str) -> Result<Reply, Memory>
     Reply::of_code(alloc, ReplyStatus::NotFound, code)
 }
 
-// The reply with this body, where what is asked for is there.
+// The reply with this body, if what is asked for is there.
 fn found(body: String) -> Reply
     ensures { result ≡ found (string_bytes body) }
 {
@@ -169,7 +169,7 @@ fn number_text(alloc: Global, run: &OpenRun) -> Result<String, Memory>
     Ok(format!(in alloc; "{number}")?)
 }
 
-/// With one more item of a list, after a comma where it is not the first.
+/// With one more item of a list, after a comma if it is not the first.
 pub(crate) fn with_item(text: String, later: bool, item: &str) -> Result<String, Memory>
     ensures { IfOk result (λ all. string_bytes all
         ≡ string_bytes text ++ item_words later item.now) }
@@ -219,7 +219,7 @@ fn with_lines(alloc: Global, text: String, lines: &[Line]) -> Result<String, Mem
     Ok(all)
 }
 
-// With one more line in quotes, after a comma where it is not the first: the text of its moment, a
+// With one more line in quotes, after a comma if it is not the first: the text of its moment, a
 // space and the words of its event.
 fn with_line(text: String, later: bool, moment: &str, line: &Line) -> Result<String, Memory>
     requires { moment.now ≡ moment_text line.now.moment }

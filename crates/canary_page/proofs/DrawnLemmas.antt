@@ -10,7 +10,7 @@ use Rattle.canary_page_html.specs.declared.piece.HtmlContext.TheVariants as plac
 use Rattle.canary_page_html.specs.Pages.{bytes_of, then_place, IsOfPieces}
 use Rattle.canary_page.specs.Drawn.{IsDrawn}
 
--- pieces, and others behind them: the latter begin between tags, where the former end
+-- pieces, and others after them: the latter begin between tags, where the former end
 both_of : (s t : List ℕ) → IsOfPieces s → IsOfPieces t → IsOfPieces (s ++ t)
 both_of s t p q = (
   p.0 ++ q.0,

@@ -1,6 +1,6 @@
 //! How far the drawing of a page has come.
 
-/// Is told how far the drawing of a page has come.
+/// Gets reports of how far the drawing of a page has come.
 pub trait DrawingProgress {
     /// So many services are to be drawn.
     fn begin(&mut self, services: u64);

@@ -26,7 +26,7 @@ use std::alloc::Global;
 // How many measurements are read at once.
 pub(crate) const MEASUREMENTS_AT_ONCE: u32 = 256;
 
-// The service of this name, passed to a moment; none where there is no such service.
+// The service of this name, passed to a moment; none if there is no such service.
 pub(crate) fn passed_of<B: Book>(
     alloc: Global,
     book: &mut B,
@@ -41,7 +41,7 @@ pub(crate) fn passed_of<B: Book>(
     }
 }
 
-// The history of a service, with what these effects tell at its end.
+// The history of a service, with the lines of these effects at its end.
 pub(crate) fn lines_of<B: Book>(
     book: &mut B,
     name: &Name,

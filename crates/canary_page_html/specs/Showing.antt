@@ -53,7 +53,7 @@ shown_chars form cs = flat_map (shown_char form) cs
 abbrev pub shown : TextKind → List ℕ → List ℕ
 shown form text = encode_utf8_all (shown_chars form (chars text))
 
--- the laws: no character that is shown is a mark, and one that is none is itself
+-- the laws: no character that is shown is a mark, and one that is not a mark is itself
 abbrev pub NoneIsAMark : Type 0
 NoneIsAMark = (form : TextKind) (cs : List ℕ) → list_all is_plain (shown_chars form cs) ≡ true
 

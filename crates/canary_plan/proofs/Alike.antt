@@ -1,4 +1,4 @@
--- Commands are the same exactly where they are equal.
+-- Commands are the same exactly if they are equal.
 use Rattle.std.proofs.Common.{◌≡◌, ℕ, zero, suc, List, Bool, true, false, refl, sym, ap, ◌∙◌, true≢false, int_eq, IsTrue, length}
 use Rattle.std.specs.Prelude.{◌&&◌, Option, Some, None, option_map}
 use Rattle.std.specs.Bool.{Decides}
@@ -234,7 +234,7 @@ kind_there k = refl
 kinds_decide : (a b : CommandKind) → Decides (same_kind a b) (a ≡ b)
 kinds_decide a b = decides_as _ (Decides-eqb (place_of_kind a) (place_of_kind b)) (λ e. sym (kind_there a) ∙ ap kind_at e ∙ kind_there b) (λ e. ap place_of_kind e)
 
--- the command of a kind with these parts, where it has them
+-- the command of a kind with these parts, if it has them
 command_of : CommandKind → List ℕ → Option (List ℕ) → Option TemplateSpec → Option ServiceSpec → Option Report → Option Command
 command_of kind.Template subject version template service report = option_map command.Template template
 command_of kind.Service subject version template service report = option_map command.Service service

@@ -25,7 +25,7 @@ use Rattle.canary_plan.proofs.BoundAlike.{all_left, all_right, analysis_alike}
 abbrev pub of_template : List ℕ → Template → Revision
 of_template name t = record { template = name; number = t.revision }
 
--- the revision of the template of that name, where it is known
+-- the revision of the template of that name, if it is known
 abbrev pub revision_by : Templates → List ℕ → Option Revision
 revision_by known name = option_map (of_template name) (known name)
 

@@ -32,7 +32,7 @@ either_same false x = refl
 abbrev is_found : {X : Type 0} → List (List ℕ × X) → List ℕ × X → Type 0
 is_found big e = at_name big e.0 ≡ Some e.1
 
--- what it then finds, where each entry is found in one list
+-- what it then finds, if each entry is found in one list
 filled_get : {X : Type 0} (big es : List (List ℕ × X)) (m : Named X) (q : List ℕ) → All (is_found big) es → get (filled m es) q ≡ cond (is_some (at_name es q)) (at_name big q) (get m q)
 filled_get big [] m q h = refl
 filled_get {X} big (e ∷ es) m q h =

@@ -1,4 +1,4 @@
--- An analysis of a bound strategy has 1 to 32 metrics; and templates that are none.
+-- An analysis of a bound strategy has 1 to 32 metrics; and the empty map of templates.
 use Rattle.std.proofs.Common.{◌≡◌, ℕ, zero, suc, ◌≤◌, Bool, true, false, List, [], ◌∷◌, length, refl, sym, subst, arith, ap, ◌∙◌}
 use Rattle.std.specs.Prelude.{◌&&◌, not, nat_le, Option, Some, None, IfSome, slice_get, option_map}
 use Rattle.std.specs.List.{list_all}

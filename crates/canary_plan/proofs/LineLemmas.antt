@@ -160,7 +160,7 @@ by_test : {A : Type 0} (t : Bool) (x y : Option A) (e : A) (G : Type 0) → (t �
 by_test true x y e G f g h = f refl h
 by_test false x y e G f g h = g h
 
--- what is read where a text is that one, or else
+-- what is read if a text is that one, or else
 if_found : {A : Type 0} (a b : List ℕ) (x y : Option A) (e : A) (G : Type 0) → (a ≡ b → x ≡ Some e → G) → (y ≡ Some e → G) → (if bytes_eq a b then x else y) ≡ Some e → G
 if_found a b x y e G f g h = by_test (bytes_eq a b) x y e G (λ t. f ((bytes_eq-Decides a b).0 t)) g h
 

@@ -104,7 +104,7 @@ one_is_marked = refl
 marked_by_all : is_marked (codes ".*" ∷ []) (codes "m") ≡ true
 marked_by_all = refl
 
--- Strategies, where `t` is the third revision of the template above, `errs` is measured each minute, and `u` is not known.
+-- Strategies: `t` is the third revision of the template above, `errs` is measured each minute, and `u` is not known.
 
 abbrev each_minute : TemplateSpec
 each_minute = record { name = codes "errs"; metrics = record (metric (codes "e")) { interval = Some 60; within = refl } ∷ []; dry_run = []; within = refl }
@@ -183,7 +183,7 @@ endless_in_a_step = refl
 endless_as_asked : strategy_refusal known (web (step_of (codes "errs" ∷ [])) None) ≡ None
 endless_as_asked = refl
 
--- where so many successes in a row complete it, it may be in a step
+-- if so many successes in a row complete it, it may be in a step
 abbrev passing : Templates
 passing name = Some (template_of (one (record (metric (codes "e")) { interval = Some 60; pass_after = Some 2; within = refl })) 1)
 
@@ -225,7 +225,7 @@ of_65_steps = refl
 of_no_template : strategy_refusal known (web (step_of []) None) ≡ Some BadStrategy
 of_no_template = refl
 
--- where each template has a metric of its name
+-- if each template has a metric of its name
 abbrev each_its_own : Templates
 each_its_own name = Some (template_of (one (metric name)) 1)
 

@@ -21,7 +21,7 @@ web = codes "web"
 abbrev v2 : List ℕ
 v2 = codes "v2"
 
--- a metric that succeeds where this holds, with this limit of failures
+-- a metric that succeeds if this holds, with this limit of failures
 abbrev metric : (success : List ℕ) (limit : ℕ) → IsTrue (are_metric_limits (Some success) None (Some 5) None limit 0 4) → MetricSpec
 metric success limit within =
     record {

@@ -12,7 +12,7 @@ use Rattle.canary_plan.specs.declared.fault.CheckFault.TheVariants as check
 use Rattle.canary_plan.specs.Plans.{Templates, template_of, strategy_of, bound_of}
 use Rattle.canary_plan.specs.PlanRefusals.{template_refusal, strategy_refusal, bound_refusal}
 
--- the template of that revision where nothing refuses it, or the refusal that holds; out of memory
+-- the template of that revision if nothing refuses it, or the refusal that holds; out of memory
 -- at any point
 abbrev pub IsBound : TemplateSpec → ℕ → Result Template BindFault → Type 0
 IsBound spec revision (Ok template) =
@@ -20,14 +20,14 @@ IsBound spec revision (Ok template) =
 IsBound spec revision (Err (bind.Refused refusal)) = template_refusal spec ≡ Some refusal
 IsBound spec revision (Err bind.Memory) = Unit {0}
 
--- the strategy where nothing refuses it, or the refusal that holds; out of memory at any point
+-- the strategy if nothing refuses it, or the refusal that holds; out of memory at any point
 abbrev pub IsChecked : Templates → ServiceSpec → Result CheckedStrategy CheckFault → Type 0
 IsChecked known spec (Ok strategy) =
     (strategy_refusal known spec ≡ None) × (strategy ≡ strategy_of spec)
 IsChecked known spec (Err (check.Refused refusal)) = strategy_refusal known spec ≡ Some refusal
 IsChecked known spec (Err check.Memory) = Unit {0}
 
--- what the strategy is bound to where nothing refuses it, or the refusal that holds; out of memory
+-- what the strategy is bound to if nothing refuses it, or the refusal that holds; out of memory
 -- at any point
 abbrev pub IsBoundTo : Templates → CheckedStrategy → Result BoundParts CheckFault → Type 0
 IsBoundTo known s (Ok bound) = (bound_refusal known s ≡ None) × (bound ≡ bound_of known s)

@@ -74,7 +74,7 @@ abbrev pub names_in : Option CheckedStrategy → List (List ℕ)
 names_in None = []
 names_in (Some s) = all_names (analyses_in s.steps s.background)
 
--- the templates that a command looks up, where the service that it names has this strategy: its
+-- the templates that a command looks up, if the service that it names has this strategy: its
 -- own, those of its analyses, or those to which an attempt is bound
 abbrev pub names_looked_up : Option CheckedStrategy → Command → List (List ℕ)
 names_looked_up found (command.Template spec) = spec.name ∷ []
@@ -184,6 +184,6 @@ same_parts a b =
 abbrev pub same_command : Command → Command → Bool
 same_command a b = same_kind (kind_of a) (kind_of b) && same_parts a b
 
--- the law: commands are the same exactly where they are equal
+-- the law: commands are the same exactly if they are equal
 abbrev pub SameWhereEqual : Type 0
 SameWhereEqual = (a b : Command) → (same_command a b ≡ true) ↔ (a ≡ b)

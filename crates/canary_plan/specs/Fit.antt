@@ -13,7 +13,7 @@ abbrev pub is_at_least_one : Option ℕ → Bool
 is_at_least_one None = true
 is_at_least_one (Some n) = nat_le 1 n
 
--- the metric's count, and its number of successes in a row, are at least 1 where it has them
+-- the metric's count, and its number of successes in a row, are at least 1 if it has them
 abbrev pub asks_for_some : MetricValue → Bool
 asks_for_some m = is_at_least_one m.count && is_at_least_one m.pass_after
 
@@ -21,7 +21,7 @@ asks_for_some m = is_at_least_one m.count && is_at_least_one m.pass_after
 abbrev pub have_counts : List MetricValue → Bool
 have_counts ms = list_all asks_for_some ms
 
--- at most 32 metrics, each of which asks for at least 1 measurement and 1 success in a row, where
+-- at most 32 metrics, each of which asks for at least 1 measurement and 1 success in a row, if
 -- it asks for a number
 abbrev pub has_few : AnalysisParts → Bool
 has_few a = nat_le (length a.metrics) 32 && have_counts a.metrics

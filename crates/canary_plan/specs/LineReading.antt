@@ -21,7 +21,7 @@ cut (b ∷ text) = if b == 32 then Some ([], text) else with_front b (cut text)
 abbrev pub version_of : List ℕ → Option (List ℕ)
 version_of text = if is_label text then Some text else None
 
--- the number, where it has 32 bits and is printed so
+-- the number, if it has 32 bits and is printed so
 abbrev pub number_if_printed : List ℕ → ℕ → Option ℕ
 number_if_printed text n = if nat_lt n (2 ^ 32) && bytes_eq (decimal n) text then Some n else None
 
@@ -40,7 +40,7 @@ abbrev pub within_a_year : Option ℕ → Option ℕ
 within_a_year None = None
 within_a_year (Some seconds) = if nat_le seconds 31536000 then Some seconds else None
 
--- the seconds of digits, where there are any
+-- the seconds of digits, if there are any
 abbrev pub seconds_if : Option (List ℕ) → Option ℕ
 seconds_if None = None
 seconds_if (Some digits) = within_a_year (number_of digits)
@@ -49,7 +49,7 @@ seconds_if (Some digits) = within_a_year (number_of digits)
 abbrev pub seconds_of : List ℕ → Option ℕ
 seconds_of text = seconds_if (before_s text)
 
--- the number of a text that was cut, where the word stands first
+-- the number of a text that was cut, if the word stands first
 abbrev pub numbered_at : List ℕ → Option (List ℕ × List ℕ) → Option ℕ
 numbered_at word None = None
 numbered_at word (Some parts) = if bytes_eq parts.0 word then number_of parts.1 else None
@@ -94,7 +94,7 @@ closed_at run text (Some parts) =
 abbrev pub closed : ℕ → List ℕ → Option LineEvent
 closed run text = closed_at run text (cut text)
 
--- what words make of a number, where there is one
+-- what words make of a number, if there is one
 abbrev pub with_number : (ℕ → List ℕ → Option LineEvent) → Option ℕ → List ℕ → Option LineEvent
 with_number event None text = None
 with_number event (Some number) text = event number text
@@ -150,6 +150,6 @@ abbrev pub event_at : List ℕ → Option (List ℕ × List ℕ) → Option Line
 event_at text None = event_alone text
 event_at text (Some parts) = event_with parts.0 parts.1
 
--- the event that a line's words tell
+-- the event that a line's words report
 abbrev pub event_of : List ℕ → Option LineEvent
 event_of text = event_at text (cut text)

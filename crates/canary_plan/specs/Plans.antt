@@ -120,7 +120,7 @@ has_unknown known names = list_any (λ name. is_none (known name)) names
 abbrev pub binds : Templates → List (List ℕ) → Bool
 binds known names = not (has_unknown known names) && are_metrics_of_run (metrics_named known names)
 
--- an analysis bound to these templates, or none where they don't bind it
+-- an analysis bound to these templates, or none if they don't bind it
 abbrev pub analysis_of : Templates → List (List ℕ) → Option AnalysisParts
 analysis_of known names =
     if binds known names
@@ -156,12 +156,12 @@ abbrev pub analysis_if : Option (Option AnalysisParts) → Option AnalysisParts
 analysis_if None = None
 analysis_if (Some a) = a
 
--- the analysis at that step, or the background, where it is bound
+-- the analysis at that step, or the background, if it is bound
 abbrev pub analysis_at : BoundParts → Option ℕ → Option AnalysisParts
 analysis_at b (Some i) = analysis_if (slice_get b.steps i)
 analysis_at b None = b.background
 
--- the same, and one of no templates where it is not bound
+-- the same, and one of no templates if it is not bound
 abbrev pub analysis_or_none : BoundParts → Option ℕ → AnalysisParts
 analysis_or_none b step = unwrap_or (analysis_at b step) no_analysis
 

@@ -88,7 +88,7 @@ fn with_background(
     Ok(found)
 }
 
-// The metrics of a template; none where it is not there.
+// The metrics of a template; none if it is not there.
 fn metrics_of(known: &Templates, name: Name) -> &[Metric]
     ensures { result.now ≡ metrics_in (get known.now name) }
 {

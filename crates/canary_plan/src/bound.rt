@@ -23,7 +23,7 @@ use std::alloc::Global;
 use std::marker::Model;
 use std::rc::Rc;
 
-/// The analysis of each step, and that of the background, where they are bound.
+/// The analysis of each step, and that of the background, if they are bound.
 #[derive(Drop)]
 pub struct BoundParts {
     pub steps: Listed<Option<BoundAnalysis>>,
@@ -62,7 +62,7 @@ impl Bound {
         Ok(Bound { parts })
     }
 
-    /// A copy of it, which takes no memory; `Memory` where it has as many copies as can be counted.
+    /// A copy of it, which takes no memory; `Memory` if it has as many copies as can be counted.
     pub fn copy(&self) -> Result<Bound, Memory>
         ensures { IfOk result (λ copy. copy ≡ self.now) }
     {
@@ -70,14 +70,14 @@ impl Bound {
         Ok(Bound { parts })
     }
 
-    /// The analysis of each step, where it is bound.
+    /// The analysis of each step, if it is bound.
     pub fn steps(&self) -> &[Option<BoundAnalysis>]
         ensures value { result.now ≡ self.now.steps }
     {
         self.parts.steps.as_slice()
     }
 
-    /// The analysis at that step, from 0, or the background; none where there is no such analysis,
+    /// The analysis at that step, from 0, or the background; none if there is no such analysis,
     /// or it is not bound.
     pub fn analysis(&self, step: Option<u32>) -> Option<&BoundAnalysis>
         ensures value { option_copied result ≡ analysis_at self.now step }
@@ -90,7 +90,7 @@ impl Bound {
     }
 
     /// A copy of the analysis at that step, from 0, or of the background, which takes no memory;
-    /// one of no templates where there is no such analysis, or it is not bound. `Memory` where it
+    /// one of no templates if there is no such analysis, or it is not bound. `Memory` if it
     /// has as many copies as can be counted, or no memory is left for the one of no templates.
     pub fn analysis_or_none(
         &self,
@@ -114,7 +114,7 @@ impl Bound {
         with_analysis(found, &self.parts.background)
     }
 
-    /// The metrics of the analysis at that step, from 0, or of the background; none where there is
+    /// The metrics of the analysis at that step, from 0, or of the background; none if there is
     /// no such analysis, or it is not bound. 1 to 32.
     pub fn metrics(&self, step: Option<u32>) -> Option<&[Metric]>
         ensures value { option_copied result ≡ metrics_at self.now step }
@@ -151,7 +151,7 @@ fn revisions_of_steps(
     Ok(found)
 }
 
-// These revisions with those of an analysis behind them, where it is bound.
+// These revisions with those of an analysis after them, if it is bound.
 fn with_analysis(
     found: Listed<Revision>,
     analysis: &Option<BoundAnalysis>,
@@ -244,7 +244,7 @@ fn bound_background(
     }
 }
 
-// The analysis bound to these templates, or none where they do not bind it.
+// The analysis bound to these templates, or none if they do not bind it.
 fn analysis_of(
     alloc: Global,
     known: &Templates,

@@ -53,7 +53,7 @@ impl BoundAnalysis {
         BoundAnalysis::of(alloc, parts)
     }
 
-    /// A copy of it, which takes no memory; `Memory` where it has as many copies as can be counted.
+    /// A copy of it, which takes no memory; `Memory` if it has as many copies as can be counted.
     pub fn copy(&self) -> Result<BoundAnalysis, Memory>
         ensures { IfOk result (λ copy. copy ≡ self.now) }
     {

@@ -8,7 +8,7 @@ pub fn conditions()
     ensures { ReadsWhatIsSpelled }
 {}
 
-/// Two commands are the same exactly where they are equal.
+/// Two commands are the same exactly if they are equal.
 pub fn same_commands()
     ensures { SameWhereEqual }
 {}

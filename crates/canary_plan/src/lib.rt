@@ -3,9 +3,9 @@
 //!
 //! Callers may rest on this: `Template::bind` gives the conditions that a template's texts spell,
 //! `Strategy::check` a strategy that names templates, and `Strategy::bind` the revisions of these,
-//! and their metrics, for each of its analyses, each exactly where nothing refuses it; else the
+//! and their metrics, for each of its analyses, each exactly if nothing refuses it; else the
 //! first refusal that holds is answered (`Memory` aside). Each `Strategy` was checked.
-//! Two commands are the same exactly where they are equal (`same_commands` of `laws`). The words of
+//! Two commands are the same exactly if they are equal (`same_commands` of `laws`). The words of
 //! a line are read as its event, and as no other.
 //!
 //! In use (canary_check, src/alone.rt):

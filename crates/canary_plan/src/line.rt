@@ -61,7 +61,7 @@ pub struct Line {
 
 impl Line {
     /// Appends the words of its event, without the moment: `step 2 setWeight 50`, `run 1 Failed`.
-    /// `Memory` comes only where the text's capacity does not suffice, and the text is then as
+    /// `Memory` comes only if the text's capacity does not suffice, and the text is then as
     /// before.
     #[tactic(auto, using(crate::proofs::LineLemmas::event_again))]
     pub fn words(&self, out: &mut String) -> Result<(), Memory>

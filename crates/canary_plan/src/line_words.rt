@@ -134,7 +134,7 @@ fn of_ended_run(run: u32, phase: Phase) -> ArrayString<MAX_WORDS>
     words
 }
 
-// The event that the words tell.
+// The event that the words report.
 pub(crate) fn read_event(text: &str) -> Option<LineEvent>
     ensures { result ≡ event_of text.now }
 {

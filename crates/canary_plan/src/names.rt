@@ -13,7 +13,7 @@ use canary_base::names::Name;
 use std::alloc::Global;
 
 impl Command {
-    /// The templates that it looks up, where the service that it names has this strategy: its own,
+    /// The templates that it looks up, if the service that it names has this strategy: its own,
     /// those of its analyses, or those to which an attempt is bound; or `Memory`.
     pub fn names_looked_up(
         &self,
@@ -73,7 +73,7 @@ fn names_of_steps(alloc: Global, steps: &[Step]) -> Result<Vec<Name>, Memory>
     Ok(names)
 }
 
-// The names with those of the background analysis behind them.
+// The names with those of the background analysis after them.
 fn with_background(
     mut names: Vec<Name>,
     background: Option<&Background>,

@@ -55,8 +55,8 @@ impl Strategy {
     /// The strategy that a service asks for, whose analyses name templates that are known.
     ///
     /// # Errors
-    /// `Refused` with the first of these that holds: `UnknownTemplate` where a template of an
-    /// analysis is not known; `BadStrategy` where there are more than 64 steps, a weight above 100,
+    /// `Refused` with the first of these that holds: `UnknownTemplate` if a template of an
+    /// analysis is not known; `BadStrategy` if there are more than 64 steps, a weight above 100,
     /// or an analysis with no template or more than 8. `Memory` in place of any.
     pub fn check(
         alloc: Global,
@@ -85,10 +85,10 @@ impl Strategy {
     /// their templates, and their metrics.
     ///
     /// # Errors
-    /// `Refused` with the first of these that holds: `DuplicateMetric` where two metrics of one
-    /// analysis have one name, among the templates that are known; `EndlessMetric` where a step's
+    /// `Refused` with the first of these that holds: `DuplicateMetric` if two metrics of one
+    /// analysis have one name, among the templates that are known; `EndlessMetric` if a step's
     /// analysis has a metric with neither an effective count nor a number of successes in a row;
-    /// `BadStrategy` where a template of an analysis is not known, or an analysis has no metric or
+    /// `BadStrategy` if a template of an analysis is not known, or an analysis has no metric or
     /// more than 32. `Memory` in place of any.
     pub fn bind(&self, alloc: Global, known: &Templates) -> Result<Bound, CheckFault>
         ensures { IsBoundTo (get known.now) self.now result }
@@ -115,7 +115,7 @@ impl Strategy {
         Bound::of(alloc, parts)
     }
 
-    /// A copy of it, which takes no memory; `Memory` where it has as many copies as can be counted.
+    /// A copy of it, which takes no memory; `Memory` if it has as many copies as can be counted.
     pub fn copy(&self) -> Result<Strategy, Memory>
         ensures { IfOk result (λ copy. copy ≡ self.now) }
     {

@@ -40,9 +40,9 @@ impl Template {
     /// that is dry-run.
     ///
     /// # Errors
-    /// `Refused` with the first of these that holds: `BadCondition` where a condition has no
-    /// reading; `IntervalNeeded` where a metric has a count above 1 and no interval;
-    /// `DuplicateMetric` where two metrics have one name; `BadDryRun` where a name that is to be
+    /// `Refused` with the first of these that holds: `BadCondition` if a condition has no
+    /// reading; `IntervalNeeded` if a metric has a count above 1 and no interval;
+    /// `DuplicateMetric` if two metrics have one name; `BadDryRun` if a name that is to be
     /// dry-run is neither a metric's nor `.*`. `Memory` in place of any.
     pub fn bind(alloc: Global, spec: &TemplateSpec, revision: u32) -> Result<Template, BindFault>
         ensures { IsBound spec.now revision result }
@@ -168,7 +168,7 @@ fn read(alloc: Global, text: &Option<Text>) -> Result<Option<Condition>, BindFau
     }
 }
 
-// The condition of a text, or none where it is no condition.
+// The condition of a text, or none if it is no condition.
 fn condition_of(alloc: Global, text: &str) -> Result<Option<Condition>, Memory>
     ensures { IfOk result (λ found. found ≡ condition_of text.now) }
 {

@@ -23,7 +23,7 @@ served_so r new_r w new_w old new (Err Read) ok read write memory = read refl
 served_so r new_r w new_w old new (Err Write) ok read write memory = write refl
 served_so r new_r w new_w old new (Err Memory) ok read write memory = memory refl
 
--- only where there was no memory to begin with
+-- only if there was no memory to begin with
 pub only_memory : (served : Result Ended ServeFault) → done_of served ≡ Err fault.Memory → served ≡ Err Memory
 only_memory (Ok EndOfInput) is = cc
 only_memory (Ok Closed) is = cc
@@ -33,6 +33,6 @@ only_memory (Err Read) is = cc
 only_memory (Err Write) is = cc
 only_memory (Err Memory) is = refl
 
--- what went out where the call succeeded, whatever its faults are called
+-- what went out if the call succeeded, whatever its faults are called
 pub puts_done : {A E F : Type 0} (old new : Known) (text : List ℕ) (x : A) → Puts {A = A} {E = E} old new text (Ok x) → Puts {A = A} {E = F} old new text (Ok x)
 puts_done old new text x p = record { front = p.front; back = p.back; parts = p.parts; written = p.written; all = p.all }

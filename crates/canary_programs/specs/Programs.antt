@@ -23,7 +23,7 @@ use Rattle.canary_programs.specs.Faults.{of_import, of_export, done_of}
 
 -- ---- names
 
--- a word is a name, or the fault says that it is none
+-- a word is a name, or the fault says that it is invalid
 abbrev pub IsNamed : List ℕ → Result (List ℕ) Fault → Type 0
 IsNamed word (Ok name) = IsTrue (is_name word) × (name ≡ word)
 IsNamed word (Err f) = (IsTrue (is_name word) → ⊥) × (f ≡ fault.BadName)

@@ -16,7 +16,7 @@ use std::io::Write;
 /// Writes the measurements of a service in a book, as `canary_files` does. The book is unchanged.
 ///
 /// # Errors
-/// `UnknownService`, `TooMany`, `Write`, `Memory` and `Storage`, each where `canary_files` answers
+/// `UnknownService`, `TooMany`, `Write`, `Memory` and `Storage`, each if `canary_files` answers
 /// the same.
 pub fn export_rows<W: Write, B: Book>(
     alloc: Global,

@@ -238,7 +238,7 @@ impl From<PageFault> for Fault {
 /// Whether a stream that was served so was served to its end.
 ///
 /// # Errors
-/// `Truncated` and `TurnsSpent` where it ended so; `Read`, `Write` and `Memory` for the same
+/// `Truncated` and `TurnsSpent` if it ended so; `Read`, `Write` and `Memory` for the same
 /// faults.
 pub fn done_of(served: Result<Ended, ServeFault>) -> Result<(), Fault>
     ensures { result ≡ done_of served }

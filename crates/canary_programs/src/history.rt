@@ -17,8 +17,8 @@ use std::io::Write;
 /// Writes the history of a service, which is stored in a book. The book is unchanged.
 ///
 /// # Errors
-/// `UnknownService` where there is no such service, `Memory` where an allocation was refused,
-/// `Storage` where the store failed: nothing is written. `Write` where the output failed.
+/// `UnknownService` if there is no such service, `Memory` if an allocation was refused,
+/// `Storage` if the store failed: nothing is written. `Write` if the output failed.
 pub fn write_history<W: Write, B: Book>(
     alloc: Global,
     book: &mut B,

@@ -16,7 +16,7 @@ use std::io::{Read, Write};
 /// Imports a measurement file into a book, as `canary_files` does.
 ///
 /// # Errors
-/// `Header`, `Read`, `Memory`, `RowsSpent` and `Write`, each where `canary_files` answers the same.
+/// `Header`, `Read`, `Memory`, `RowsSpent` and `Write`, each if `canary_files` answers the same.
 pub fn import_rows<R: Read, W: Write, C: Clock, B: Book>(
     alloc: Global,
     input: &mut R,

@@ -58,7 +58,7 @@ impl Overview {
     /// One of no service.
     ///
     /// # Errors
-    /// `Memory` where an allocation was refused.
+    /// `Memory` if an allocation was refused.
     pub fn new(alloc: Global, form: OverviewFormat) -> Result<Overview, Memory> {
         let services = Table::new(alloc, &SERVICE_TITLES)?;
         let runs = Table::new(alloc, &RUN_TITLES)?;
@@ -75,7 +75,7 @@ impl Overview {
     /// Adds a service, passed to a moment, and its open runs.
     ///
     /// # Errors
-    /// `Memory` where an allocation was refused; some of its rows may be there then.
+    /// `Memory` if an allocation was refused; some of its rows may be there then.
     pub fn add(&mut self, service: &Service, now: Moment) -> Result<(), Memory> {
         let passed = service.passed(self.alloc, now)?;
         match self.form {
@@ -97,7 +97,7 @@ impl Overview {
     /// Its text. Of two tables, the second one follows an empty line, if it has rows.
     ///
     /// # Errors
-    /// `Memory` where an allocation was refused.
+    /// `Memory` if an allocation was refused.
     pub fn text(&self) -> Result<String, Memory> {
         match self.form {
             OverviewFormat::Tables => self.tables(),
@@ -117,7 +117,7 @@ impl Overview {
     }
 }
 
-// A text, and a table behind an empty line.
+// A text, and a table after an empty line.
 fn with_table(text: String, table: &Table) -> Result<String, Memory> {
     let mut text = text;
     text.push_str("\n")?;
@@ -278,7 +278,7 @@ fn passes_text(alloc: Global, wanted: Option<u32>, passes: u32) -> Result<String
     }
 }
 
-// When the next measurement of a metric is due; `-` where it wants none.
+// When the next measurement of a metric is due; `-` if it wants none.
 fn due_text(
     alloc: Global,
     run: &OpenRun,

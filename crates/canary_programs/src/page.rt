@@ -16,7 +16,7 @@ use std::io::Write;
 /// Draws the page of these services of a book, as canary_page does. The book is unchanged.
 ///
 /// # Errors
-/// `Write`, `Memory` and `Storage`, each where canary_page answers the same.
+/// `Write`, `Memory` and `Storage`, each if canary_page answers the same.
 pub fn draw_page<W: Write, B: Book, P: DrawingProgress>(
     alloc: Global,
     book: &mut B,
@@ -38,7 +38,7 @@ pub fn draw_page<W: Write, B: Book, P: DrawingProgress>(
 /// book is unchanged.
 ///
 /// # Errors
-/// `Write`, `Memory` and `Storage`, each where canary_page answers the same.
+/// `Write`, `Memory` and `Storage`, each if canary_page answers the same.
 pub fn write_json<W: Write, B: Book>(
     alloc: Global,
     book: &mut B,
@@ -58,7 +58,7 @@ pub fn write_json<W: Write, B: Book>(
 /// canary_page does. The book is unchanged.
 ///
 /// # Errors
-/// `Write`, `Memory` and `Storage`, each where canary_page answers the same.
+/// `Write`, `Memory` and `Storage`, each if canary_page answers the same.
 pub fn write_services<W: Write, B: Book>(
     alloc: Global,
     book: &mut B,

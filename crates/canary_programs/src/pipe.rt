@@ -15,8 +15,8 @@ use std::io::{Read, Write};
 /// Answers HTTP from `input` on `output` over a book, to the end of the stream.
 ///
 /// # Errors
-/// `Truncated` where the input ended in the midst of a message, `TurnsSpent` where it went on after
-/// the most reads, `Read` where it failed, `Write` where the output did, and `Memory` where there
+/// `Truncated` if the input ended in the midst of a message, `TurnsSpent` if it went on after
+/// the most reads, `Read` if it failed, `Write` if the output did, and `Memory` if there
 /// was none to begin with.
 pub fn answer<R: Read, W: Write, C: Clock, B: Book>(
     alloc: Global,

@@ -180,7 +180,7 @@ impl Families {
     }
 }
 
-/// A family of samples: its name behind `canary_`, what it is of, and a line for each sample.
+/// A family of samples: its name after `canary_`, what it is of, and a line for each sample.
 #[derive(Drop)]
 struct Family {
     name: &'static str,

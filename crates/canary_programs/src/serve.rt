@@ -25,7 +25,7 @@ const NOTICE: &str = "canary: the records of this desk are in memory, and end wi
 pub struct Listening {
     /// The address that it listens on.
     pub address: SocketAddr,
-    /// After so many connections it serves no more; none where it serves as many as come.
+    /// After so many connections it serves no more; none if it serves as many as come.
     pub connections: Option<u64>,
     /// What a client may hold, and how long it may take.
     pub limits: Limits,
@@ -35,7 +35,7 @@ impl Listening {
     /// Listening at the address that `listen` spells.
     ///
     /// # Errors
-    /// `Listen` where it spells none.
+    /// `Listen` if the address is invalid.
     pub fn at(listen: &str, connections: Option<u64>, limits: Limits) -> Result<Listening, Fault> {
         match listen.parse::<SocketAddr>() {
             Ok(address) => Ok(Listening {
@@ -67,8 +67,8 @@ pub fn serve_memory<W: Write, F: Write>(
 /// standard error of the process: the lines of `Listener::serve` do not wait for whoever reads it.
 ///
 /// # Errors
-/// `Listen` where the address cannot be listened on; `Memory` where an allocation was refused;
-/// `Write` where the output failed; `Accept` where waiting for clients failed; `Replaced` where the
+/// `Listen` if the address cannot be listened on; `Memory` if an allocation was refused;
+/// `Write` if the output failed; `Accept` if waiting for clients failed; `Replaced` if the
 /// records of the book are not where they were found.
 pub fn serve_book<B: Placed, W: Write, F: Write>(
     rt: &HostRuntime,
@@ -112,7 +112,7 @@ fn run_listener<P: time::Clock + AllocGlobal, B: Placed, F: Write>(
 /// Serves so many connections at a socket over a book, or as many as come.
 ///
 /// # Errors
-/// `Accept` where the system tells no more of the connections; `Replaced` where the records of the
+/// `Accept` if the system reports no more of the connections; `Replaced` if the records of the
 /// book are not where they were found.
 pub fn serve_clients<P: time::Clock + AllocGlobal, C: Clock, B: Placed, F: Write>(
     rt: &P,
@@ -132,7 +132,7 @@ pub fn serve_clients<P: time::Clock + AllocGlobal, C: Clock, B: Placed, F: Write
     }
 }
 
-// Writes the line that tells the address.
+// Writes the line that gives the address.
 fn announce<P: AllocGlobal, W: Write>(
     rt: &P,
     listener: &Listener,

@@ -11,7 +11,7 @@ use std::io::Write;
 /// Writes a text out.
 ///
 /// # Errors
-/// `Write` where the output failed.
+/// `Write` if the output failed.
 pub fn show<W: Write>(text: &str, output: &mut W) -> Result<(), Fault>
     ensures ok { OnOk result (Appends (W.contents output.old) (W.contents output.new) text.now) }
     ensures err { IfErr result (λ f. f ≡ fault.Write) }
@@ -25,7 +25,7 @@ pub fn show<W: Write>(text: &str, output: &mut W) -> Result<(), Fault>
 /// The name that a word spells.
 ///
 /// # Errors
-/// `BadName` where it spells none.
+/// `BadName` if the name is invalid.
 pub fn name_of(word: &str) -> Result<Name, Fault>
     ensures { IsNamed word.now result }
 {

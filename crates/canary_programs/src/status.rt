@@ -18,16 +18,16 @@ const CLEARED: &str = "\x1b[H\x1b[2J";
 pub struct Drawing {
     /// Tables, or JSON.
     pub form: OverviewFormat,
-    /// The seconds from one drawing to the next; none where it is drawn once.
+    /// The seconds from one drawing to the next; none if it is drawn once.
     pub every: Option<u64>,
-    /// The output is a terminal: it is erased before each drawing where there are more than one.
+    /// The output is a terminal: it is erased before each drawing if there is more than one.
     pub is_terminal: bool,
 }
 
 /// Draws a text, which is on its way then.
 ///
 /// # Errors
-/// `Write` where the output failed.
+/// `Write` if the output failed.
 pub fn draw<W: Write>(text: &str, drawing: Drawing, output: &mut W) -> Result<(), Fault> {
     if drawing.is_terminal && drawing.every.is_some() {
         show(CLEARED, output)?;
@@ -42,7 +42,7 @@ pub fn draw<W: Write>(text: &str, drawing: Drawing, output: &mut W) -> Result<()
 /// The text of the status of these services of a book, passed to a moment. The book is unchanged.
 ///
 /// # Errors
-/// `Memory` where an allocation was refused, and `Storage` where the store failed.
+/// `Memory` if an allocation was refused, and `Storage` if the store failed.
 pub fn text_of_book<B: Book>(
     alloc: Global,
     book: &mut B,

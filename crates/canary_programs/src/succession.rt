@@ -102,7 +102,7 @@ fn with_templates<B: Book>(
     Ok(commands)
 }
 
-// These commands, and behind them those that make these services anew.
+// These commands, and after them those that make these services anew.
 fn with_services<B: Book>(
     alloc: Global,
     book: &mut B,

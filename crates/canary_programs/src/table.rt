@@ -30,7 +30,7 @@ impl Table {
         Ok(())
     }
 
-    /// Whether it has rows behind its heading.
+    /// Whether it has rows after its heading.
     pub(crate) fn has_rows(&self) -> bool {
         self.rows.len() > 1
     }

@@ -3,7 +3,7 @@
 //!
 //! Callers may rest on this: what is measured is what the body of the reply says at the place that
 //! the plan names, and if nothing is measured, it says nothing there; a message has the lines that
-//! the plan asks for and no others; and no text that tells a failure has a character that a
+//! the plan asks for and no others; and no text that reports a failure has a character that a
 //! terminal takes for more than one.
 //!
 //! In use (canary_agent, src/taken.rt):

@@ -26,7 +26,7 @@ impl Model for HeaderLine {
 }
 
 impl HeaderLine {
-    /// The line of these bytes; none if they are none.
+    /// The line of these bytes; none if they are no line.
     pub fn of(bytes: Vec<u8>) -> Option<HeaderLine>
         ensures line { SomeIff result (IsTrue (is_line bytes.items)) bytes.items }
         ensures none { IfNone result (is_line bytes.items ≡ false) }

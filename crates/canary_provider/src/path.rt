@@ -36,7 +36,7 @@ pub struct Path {
     pub steps: Vec<JsonPathStep>,
 }
 
-// A step, and what stands behind it.
+// A step, and what stands after it.
 type First<'t> = Option<(JsonPathStep, &'t [u8])>;
 
 impl JsonPathStep {
@@ -111,7 +111,7 @@ fn path_in(alloc: Global, inside: &[u8]) -> Result<Option<Path>, Memory>
     Ok(Some(Path { steps }))
 }
 
-// The first step, and what stands behind it.
+// The first step, and what stands after it.
 fn first(alloc: Global, text: &[u8]) -> Result<First<'_>, Memory>
     ensures spelled { IfOk result (λ read. IfSome read
         (λ x. text.now ≡ spelled x.0 ++ x.1.now)) }
@@ -125,7 +125,7 @@ fn first(alloc: Global, text: &[u8]) -> Result<First<'_>, Memory>
     }
 }
 
-// The member whose name the text begins with, and what stands behind.
+// The member whose name the text begins with, and what stands after it.
 fn member(alloc: Global, text: &[u8]) -> Result<First<'_>, Memory>
     ensures spelled { IfOk result (λ read. IfSome read
         (λ x. 46 ∷ text.now ≡ spelled x.0 ++ x.1.now)) }
@@ -157,7 +157,7 @@ fn is_name_byte(byte: u8) -> bool {
     byte > b' ' && byte != 127 && !b".[]{}()*?@$,:'\"\\".contains(&byte)
 }
 
-// The item whose index the text begins with, a bracket, and what stands behind.
+// The item whose index the text begins with, a bracket, and what stands after it.
 fn item(text: &[u8]) -> First<'_>
     ensures spelled { IfSome result (λ x. 91 ∷ text.now ≡ spelled x.0 ++ x.1.now) }
     ensures shorter { IfSome result (λ x. length x.1.now < length (91 ∷ text.now)) }

@@ -14,7 +14,7 @@ pub enum ProviderRefusal {
     Authentication,
     Insecure,
     RangeQuery,
-    /// An address that begins with `https:`, and one that is none.
+    /// An address that begins with `https:`, and one that is invalid.
     Https,
     Address,
     /// No query, or one that is no text.

@@ -243,7 +243,7 @@ pub(crate) fn web_line(
     line_of(alloc, front.as_slice(), target, VERSION.as_bytes())
 }
 
-// A target, which is a slash where the address has none.
+// A target, which is a slash if the address has none.
 fn web_target(target: &[u8]) -> &[u8]
     ensures { result.now ≡ web_target target.now }
 {

@@ -95,6 +95,6 @@ watches_alike one p (x ∷ xs) = watches_alike one (past_with p x) xs ∙ ap (λ
 pub one_watch : WatchesAlike → (p : Past) (kept : Runs) → kept ≡ tracked p → watch_of p ≡ after_all kept
 one_watch alike p kept known = λ i xs. (alike p xs ∙ ap (λ (w : Runs). after_all w xs) (sym known)) i
 
--- so a rule, which is told of an evolution alone, says of the one what it says of the other
+-- so a rule, which is given an evolution alone, says of the one what it says of the other
 pub rules_alike : WatchesAlike → {A : Type 0} (rule : Evolution → A) (s : ServiceState) (p : Past) (kept : Runs) → kept ≡ tracked p → rule (evolution_from s (watch_of p)) ≡ rule (evolution_from s (after_all kept))
 rules_alike alike rule s p kept known = ap (λ (w : RunView). rule (evolution_from s w)) (one_watch alike p kept known)

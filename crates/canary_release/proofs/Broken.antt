@@ -1,4 +1,4 @@
--- Causes in groups: one holds in the list exactly where one holds in a group.
+-- Causes in groups: one holds in the list exactly if one holds in a group.
 use Rattle.std.proofs.Common.{◌≡◌, refl, ap, ◌∙◌, Bool, true, false, ◌||◌, List, [], ◌∷◌, ◌++◌}
 use Rattle.std.specs.List.{list_any}
 use Rattle.std.proofs.lemmas.List.Folds.{list_any-append}

@@ -91,8 +91,8 @@ numbered_after_all : (ts : RevisionMap) (st : CheckedStrategy) (w : Runs) (xs : 
 numbered_after_all ts st w [] h n = n
 numbered_after_all ts st w (x ∷ xs) h n = numbered_after_all ts st (effect_applied w x) xs h.1 (numbered_after ts st w x h.0 n)
 
--- An evolution of a service that stood so, and of which this was tracked, where these are the
--- templates: the same strategy and name, bound to revisions that there are, wholly where it is in
+-- An evolution of a service that stood so, and of which this was tracked, if these are the
+-- templates: the same strategy and name, bound to revisions that there are, wholly if it is in
 -- progress, and allowed effects.
 pub record IsFollowing (ts : RevisionMap) (s : ServiceState) (w : Runs) (c : Evolution) : Type 0 where
   pub strategy : c.service.strategy ≡ s.strategy

@@ -41,7 +41,7 @@ neither false b e = (refl, e)
 pub any_neither : {A : Type 0} (test : A → Bool) (x : A) (xs : List A) → list_any test (x ∷ xs) ≡ false → (test x ≡ false) × (list_any test xs ≡ false)
 any_neither test x xs e = neither (test x) (list_any test xs) e
 
--- what is said of each element says more of each
+-- what holds of each element shows more of each
 pub each : {A : Type 0} (P Q : A → Type 0) → ((x : A) → P x → Q x) → (xs : List A) → AllByRecursion P xs → AllByRecursion Q xs
 each P Q f [] h = tt
 each P Q f (x ∷ xs) h = (f x h.0, each P Q f xs h.1)
@@ -107,7 +107,7 @@ found_mapped test f same (x ∷ xs) =
     as (λ b. cond b (Some (f x)) (find test (map f xs)) ≡ option_map f (cond b (Some x) (find test xs)))
     [ true ↦ refl | false ↦ rest ]
 
--- where no row of a table of refusals holds, its first doesn't, nor one of the others
+-- if no row of a table of refusals holds, its first doesn't, nor one of the others
 pub row_false : (b : Bool) (r : Refusal) (rows : List (Bool × Refusal)) → first_that_holds ((b, r) ∷ rows) ≡ None → (b ≡ false) × (first_that_holds rows ≡ None)
 row_false true r rows e = cc e
 row_false false r rows e = (refl, e)

@@ -248,7 +248,7 @@ length_mapped f (x ∷ xs) = ap suc (length_mapped f xs)
 size_is_length : (list : List Recorded) → size (counts_of list) ≡ length list
 size_is_length list = kinds_are_all (map measurement_of list) ∙ length_mapped measurement_of list
 
--- the lists of the run that is measured, the first of which is that of a metric; the measurement is of the metric that lies so many behind it
+-- the lists of the run that is measured, the first of which is that of a metric; the measurement is of the metric that lies so many after it
 lists_measured : (all : List Recorded) (run metric k : ℕ) (lists : List (List Recorded)) (x : Recorded) (t : Counts) → x.run ≡ run → x.metric ≡ metric + k → slice_get (map counts_of lists) k ≡ Some t → x.ordinal ≡ size t + 1 → size t + 1 ≤ 1000000 → AreLists all run metric lists → AreLists (all ++ x ∷ []) run metric (change_at k (with_recorded x) lists)
 lists_measured all run metric k [] x t e f there next room h = tt
 lists_measured all run metric zero (list ∷ lists) x t e f there next room h =

@@ -134,7 +134,7 @@ module _ (ts : RevisionMap) (s : ServiceState) (w : Runs) (numbered : IsNumbered
       let is : analysis_at (bound_of (known_by ts b) s.strategy) step ≡ Some (analysis_or_none c.service.bound step) = ap (λ (x : BoundParts). analysis_at x step) same ∙ e ∙ sym (ap (λ (o : Option AnalysisParts). Some (unwrap_or o no_analysis)) e) in
       follows_on ts s w c (RunOpened (record { run = next_run c; step = step; analysis = analysis_or_none c.service.bound step; started = at })) f (record { number = refl; binding = b; analysis = is })
 
-  -- standing otherwise, bound as before and in progress only where it was
+  -- standing otherwise, bound as before and in progress only if it was
   stays : (c : Evolution) (d : ServiceState) → IsFollowing ts s w c → d.strategy ≡ c.service.strategy → d.name ≡ c.service.name → d.bound ≡ c.service.bound → (is_in_progress d.state ≡ true → is_bound d ≡ true) → IsFollowing ts s w (with_service_state c d)
   stays c d f same named bound wholly = stands_on ts s w c d f same named (as_bound ts s w c d f same bound) wholly
 
@@ -160,7 +160,7 @@ module _ (ts : RevisionMap) (s : ServiceState) (w : Runs) (numbered : IsNumbered
       told (open_run c (Some i) at) at (AnalysisEntered i (next_run c)) (opened c (Some i) at there.0 f there.1)
   shown c None i at g f e = f
 
-  -- the step is shown, once the background was opened where it begins
+  -- the step is shown, once the background was opened if it begins here
   after_background : (c : Evolution) (i at : ℕ) → is_in_progress c.service.state ≡ true → IsFollowing ts s w c → (o : Option Step) → slice_get c.service.strategy.steps i ≡ o → IsFollowing ts s w (show_step (open_background c i at) o i at)
   after_background c i at g f o e =
       elim (begins_background c.service.strategy.background i c.service.background)

@@ -186,7 +186,7 @@ step_analysis s i names acc bound e =
     let l = listed s.strategy.steps s.bound.steps i names steps fit e in
     found_fit s.bound (Some i) names (analysis_at s.bound (Some i)) refl l.bound l.fit
 
--- where a step is no analysis, none is bound at it
+-- if a step is no analysis, none is bound at it
 pub no_analysis_at : (steps : List Step) (found : List (Option AnalysisParts)) (i : ℕ) (step : Step) → pointwise is_step_bound steps found ≡ true → slice_get steps i ≡ Some step → ((names : List (List ℕ)) → step ≡ Analysis names → ⊥) → is_none (analysis_if (slice_get found i)) ≡ true
 no_analysis_at [] found i step f h other = cc h
 no_analysis_at (s ∷ ss) [] i step f h other = cc f

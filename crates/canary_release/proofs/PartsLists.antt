@@ -144,7 +144,7 @@ found_counts t p (x ∷ xs) r h g =
           elim (p x) as (λ b. 1 ≤ length (cond b (x ∷ filter p xs) (filter p xs))) [ true ↦ omega arith | false ↦ rest ]
     ] h
 
--- where one element at most passes, and it is found and taken away, none passes
+-- if one element at most passes, and it is found and taken away, none passes
 pub only_one : {X : Type 0} (t p : X → Bool) (xs : List X) (r : X) → find t xs ≡ Some r → p r ≡ true → length (filter p xs) ≤ 1 → list_any p (filter (λ x. not (t x)) xs) ≡ false
 only_one t p [] r h g few = refl
 only_one t p (x ∷ xs) r h g few =
@@ -210,6 +210,6 @@ none_of_all p n (x ∷ xs) r d f h g =
           (none_of_all p n xs r (or_right (list_any (has_number x.number) xs) (repeats_number xs) d) found h (or_right (of_others n p x) (list_any (of_others n p) xs) g))
     ] refl f
 
--- where no run has that number, the others are all
+-- if no run has that number, the others are all
 pub none_without : (p : OpenRun → Bool) (n : ℕ) (rs : List OpenRun) → find (has_number n) rs ≡ None → list_any (of_others n p) rs ≡ false → list_any p rs ≡ false
 none_without p n rs f g = any_both (has_number n) (of_others n p) p (λ y a o. of_other (y.number == n) (p y) o a) rs (not_found (has_number n) rs f) g

@@ -52,7 +52,7 @@ bound_going s f g =
     let other : Bool = not (is_bound s || (is_done s.state && is_unbound s)) in
     (going_bound (is_bound s) (is_unbound s) s.state (or_left other (is_refused s.bound) f.bound) g, or_right other (is_refused s.bound) f.bound)
 
--- where the present step has no analysis, or is held, no step run is open
+-- if the present step has no analysis, or is held, no step run is open
 
 step_away : (s : ServiceState) (o : Option ℕ) → (is_none (analysis_at s.bound (Some s.step)) || is_held s) ≡ true → is_elsewhere s o ≡ false → is_some o ≡ false
 step_away s None away h = refl
@@ -91,7 +91,7 @@ later s t u c le l = record { steady = l.steady; same = l.same; entered = (let e
 
 -- a move
 
--- where the present step is no analysis, none is bound at it
+-- if the present step is no analysis, none is bound at it
 pub not_bound : (s : ServiceState) (step : Step) → step_of s ≡ Some step → ((names : List (List ℕ)) → step ≡ Analysis names → ⊥) → is_bound s ≡ true → is_none (analysis_at s.bound (Some s.step)) ≡ true
 not_bound s step e other bound = no_analysis_at s.strategy.steps s.bound.steps s.step step (and_left (pointwise is_step_bound s.strategy.steps s.bound.steps) (is_background_bound s.strategy.background s.bound.background) bound) e other
 

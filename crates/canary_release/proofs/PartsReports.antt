@@ -51,7 +51,7 @@ step_held_fits s w f g no_step =
       same = f.same;
     }
 
--- the run numbers that are left where the background is open are enough where it is held
+-- the run numbers that are left if the background is open are enough if it is held
 abbrev pub HasRoom : ServiceState → Runs → Type 0
 HasRoom s w = (length s.strategy.steps - (s.step + 1)) + of_background (is_some s.strategy.background) s.background true s.background_hold ≤ 1000000 - w.count
 

@@ -79,7 +79,7 @@ paused_service : service_after to_second_pause web ≡ Some (record {
 })
 paused_service = service_then (λ found. found) to_second_pause web _ refl
 
--- Moments that fall: a request is judged at the service's last moment, where that is later.
+-- Moments that fall: a request is judged at the service's last moment, if that is later.
 
 abbrev falling : List (ℕ × Command)
 falling = (b + 9, add web (SetWeight 20 ∷ Pause None ∷ [])) ∷ (b + 3, Start web v2) ∷ (b + 12, Promote web) ∷ (b, Start web v3) ∷ []
@@ -136,7 +136,7 @@ without_pauses_replies : (machine no_desk without_pauses).replies ≡
 unfolding digits
 without_pauses_replies = replies_from_nothing without_pauses _ refl
 
--- Weights alone are passed as the release starts, each told in its turn.
+-- Weights alone are passed as the release starts, each reported in its turn.
 
 abbrev weights_alone : List (ℕ × Command)
 weights_alone = (b, add web (SetWeight 5 ∷ SetWeight 100 ∷ [])) ∷ (b + 4, Start web v2) ∷ []
@@ -314,7 +314,7 @@ start_with_shown : start_refusal_at (standing (record of_two_pauses { version = 
 unfolding of_two_pauses
 start_with_shown = refl
 
--- A promotion is refused where the release is done, and then where it is not at a pause.
+-- A promotion is refused if the release is done, and then if it is not at a pause.
 
 at_weight : ServiceState
 at_weight = record (new_service_state (record { name = web; version = v1; steps = two_pauses; background = None }) b) { state = InProgress; step = 2 }

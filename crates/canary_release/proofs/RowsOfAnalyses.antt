@@ -167,7 +167,7 @@ inconclusive_step_history : lines_of (service_after ((step_setup (above_ten m �
 unfolding digits moment_text
 inconclusive_step_history = service_then lines_of ((step_setup (above_ten m ∷ []) [] refl) ++ inconclusive_step_requests) web _ refl
 
--- Where both conditions are true the measurement is failed, and a retry opens run 2.
+-- If both conditions are true the measurement is failed, and a retry opens run 2.
 
 abbrev both_conditions_true_requests : List (ℕ × Command)
 both_conditions_true_requests =
@@ -280,7 +280,7 @@ dry_run_fails : replies_after (step_setup (zero_is_good (codes "d") ∷ metric (
 unfolding digits
 dry_run_fails = replies_then (step_setup (zero_is_good (codes "d") ∷ metric (codes "e") ∷ []) (codes "d" ∷ []) refl) dry_run_fails_requests _ refl
 
--- So too where it is alone.
+-- So too if it is alone.
 
 abbrev dry_run_alone_requests : List (ℕ × Command)
 dry_run_alone_requests =
@@ -293,7 +293,7 @@ dry_run_alone : replies_after (step_setup (zero_is_good (codes "d") ∷ []) (cod
 unfolding digits
 dry_run_alone = replies_then (step_setup (zero_is_good (codes "d") ∷ []) (codes "d" ∷ []) refl) dry_run_alone_requests _ refl
 
--- And where all metrics are marked.
+-- And if all metrics are marked.
 
 abbrev dry_run_all_requests : List (ℕ × Command)
 dry_run_all_requests =
@@ -329,7 +329,7 @@ turns_and_moments : replies_after background_setup turns_and_moments_requests �
 unfolding digits
 turns_and_moments = replies_then background_setup turns_and_moments_requests _ refl
 
--- The first measurement is due after the initial delay, and the next after an error in 10 seconds, where there is no interval.
+-- The first measurement is due after the initial delay, and the next after an error in 10 seconds, if there is no interval.
 
 abbrev initial_delay_requests : List (ℕ × Command)
 initial_delay_requests =
@@ -373,7 +373,7 @@ templates_together : (machine no_desk templates_together_requests).replies ≡
 unfolding digits
 templates_together = replies_from_nothing templates_together_requests _ refl
 
--- A condition that looks behind the end of a list faults.
+-- A condition that looks past the end of a list faults.
 
 abbrev index_out_of_range_requests : List (ℕ × Command)
 index_out_of_range_requests =
@@ -386,7 +386,7 @@ index_out_of_range : replies_after (step_setup (with_success (metric m) (codes "
 unfolding digits
 index_out_of_range = replies_then (step_setup (with_success (metric m) (codes "result[2] > 0") refl ∷ []) [] refl) index_out_of_range_requests _ refl
 
--- It does not where the first operand decides.
+-- It does not if the first operand decides.
 
 abbrev second_operand_unread_requests : List (ℕ × Command)
 second_operand_unread_requests =
@@ -399,7 +399,7 @@ second_operand_unread : replies_after (step_setup (with_success (metric m) (code
 unfolding digits
 second_operand_unread = replies_then (step_setup (with_success (metric m) (codes "result[0] > 0 || result[9] > 0") refl ∷ []) [] refl) second_operand_unread_requests _ refl
 
--- It does where the first operand faults.
+-- It does if the first operand faults.
 
 abbrev first_operand_faults_requests : List (ℕ × Command)
 first_operand_faults_requests =

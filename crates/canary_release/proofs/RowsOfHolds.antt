@@ -286,7 +286,7 @@ promoted_after_its_end_history : lines_of (service_after (long_pause ++ after_it
 unfolding digits moment_text
 promoted_after_its_end_history = service_then lines_of (long_pause ++ after_its_end) web _ refl
 
--- So it is refused where the pause has led to an analysis, which leaves the passing undone, or to the end.
+-- So it is refused if the pause has led to an analysis, which leaves the passing undone, or to the end.
 
 abbrev to_an_analysis : List (ℕ × Command)
 to_an_analysis =
@@ -376,7 +376,7 @@ wide_backgrounds_replies : (machine no_desk wide_backgrounds).replies ≡
 unfolding digits
 wide_backgrounds_replies = replies_from_nothing wide_backgrounds _ refl
 
--- The stable version is started after an abort, which leads to the end: it is refused, too, where fewer than 66 numbers of runs are left.
+-- The stable version is started after an abort, which leads to the end: it is refused, too, if fewer than 66 numbers of runs are left.
 
 abbrev spec_of_web : ServiceSpec
 spec_of_web = record { name = web; version = v1; steps = two_pauses; background = None }

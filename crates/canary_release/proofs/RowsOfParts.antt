@@ -104,7 +104,7 @@ a_run_too_many = refl
 all_runs_made : is_broken (parts (at_step Done 5) 1000000 []) ≡ false
 all_runs_made = refl
 
--- Too few run numbers are left: one for the step that is to come, two more where the background analysis wasn't begun, and one more where its run is open or held.
+-- Too few run numbers are left: one for the step that is to come, two more if the background analysis wasn't begun, and one more if its run is open or held.
 
 unbegun_is_spent : is_broken (parts (unbegun InProgress 3) 999998 []) ≡ true
 unbegun_is_spent = refl

@@ -59,7 +59,7 @@ name_taken = replies_from_nothing name_taken_requests _ refl
 
 -- Templates, of a new name and of one that is taken: a condition without a reading; a count above 1
 -- without an interval; two metrics of one name; a dry-run name that is no metric. Each comes before
--- those behind it.
+-- those after it.
 
 abbrev bad_templates_requests : List (ℕ × Command)
 bad_templates_requests =
@@ -249,7 +249,7 @@ bad_reports : replies_after (step_setup (above_ten m ∷ []) [] refl) bad_report
 unfolding digits
 bad_reports = replies_then (step_setup (above_ten m ∷ []) [] refl) bad_reports_requests _ refl
 
--- Entries, each after those before it: the metric stands twice, it is completed, its ordinal is recorded or out of turn, and its moment is to come or too early. Each comes before those behind it.
+-- Entries, each after those before it: the metric stands twice, it is completed, its ordinal is recorded or out of turn, and its moment is to come or too early. Each comes before those after it.
 
 abbrev bad_entries_requests : List (ℕ × Command)
 bad_entries_requests =

@@ -81,7 +81,7 @@ pause_until_299_history : lines_of (service_after pause_until_299_requests web) 
 unfolding digits moment_text
 pause_until_299_history = service_then lines_of pause_until_299_requests web _ refl
 
--- A pause of 5 minutes, 300 seconds later: the line tells when it ended.
+-- A pause of 5 minutes, 300 seconds later: the line says when it ended.
 
 abbrev pause_until_300_requests : List (ℕ × Command)
 pause_until_300_requests =
@@ -107,7 +107,7 @@ pause_until_300_history : lines_of (service_after pause_until_300_requests web) 
 unfolding digits moment_text
 pause_until_300_history = service_then lines_of pause_until_300_requests web _ refl
 
--- A pause of 5 minutes, 301 seconds later: the line tells when it ended.
+-- A pause of 5 minutes, 301 seconds later: the line says when it ended.
 
 abbrev pause_until_301_requests : List (ℕ × Command)
 pause_until_301_requests =

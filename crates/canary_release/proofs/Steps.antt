@@ -52,7 +52,7 @@ same_ruling alike desk known o now command agree there =
     ∙ ap (λ (p : Option ServiceParts). model_decision (newest desk.templates) (option_map stored_evolution p) now command) there
     ∙ sym (ap (λ (c : Option Evolution). model_decision (newest desk.templates) c now command) (one_evolution alike found))
 
--- what is decided from what is kept is the machine's step, where the templates that the command looks up are the desk's
+-- what is decided from what is kept is the machine's step, if the templates that the command looks up are the desk's
 pub told_step : WatchesAlike → (desk : Desk) (known : Templates) (o : Option ServiceParts) (now : ℕ) (command : Command) (r : ModelDecision) (d : Decision) → d ≡ decision_of r → r ≡ model_decision known (option_map stored_evolution o) now command
     → Agree known (newest desk.templates) (names_looked_up (option_map strategy_kept o) command) → o ≡ stored_service desk (subject_of command) → IsStep desk now command d
 told_step alike desk known o now command r d says is agree there =

@@ -145,7 +145,7 @@ still_passed : (t : ℕ) (a b c d : Option ModelService) → c ≡ a → d ≡ b
 still_passed t a b c d e f (inl s) = inl (e ∙ s ∙ sym f)
 still_passed t a b c d e f (inr s) = inr (e ∙ s ∙ ap (option_map (passed_to t)) (sym f))
 
--- where the same service is put at one name
+-- if the same service is put at one name
 put_same : (t : ℕ) (b : Bool) (m n : ModelService) (ticked plain : Option ModelService) → m ≡ n → IsPassed t ticked plain → IsPassed t (cond b (Some m) ticked) (cond b (Some n) plain)
 put_same t true m n ticked plain same h = inl (ap (λ (k : ModelService). Some k) same)
 put_same t false m n ticked plain same h = h
@@ -167,14 +167,14 @@ put_both t name ticked plain command c d h same =
 
 -- One command on both desks.
 
--- the same change, where no template is changed and the desks agree on the service that the command names
+-- the same change, if no template is changed and the desks agree on the service that the command names
 same_change : (t : ℕ) (name : List ℕ) (ticked plain : Desk) (command : Command) (x : Change) → ChangesNoTemplate x → get ticked.services (subject_of command) ≡ get plain.services (subject_of command) → AreApart t name ticked plain
     → AreApart t name (desk_after ticked command x) (desk_after plain command x)
 same_change t name ticked plain command Nothing none there h = h
 same_change t name ticked plain command (Adds k) none there h = absurd none
 same_change t name ticked plain command (Becomes c) none there h = put_both t name ticked plain command c c h (λ i. after (there i) c.service c.effects)
 
--- the same change, where no service is changed
+-- the same change, if no service is changed
 same_added : (t : ℕ) (name : List ℕ) (ticked plain : Desk) (command : Command) (x : Change) → ChangesNoService x → AreApart t name ticked plain → AreApart t name (desk_after ticked command x) (desk_after plain command x)
 same_added t name ticked plain command Nothing none h = h
 same_added t name ticked plain command (Adds k) none h =

@@ -94,6 +94,6 @@ replies_from_nothing xs rs e = machine-replies no_desk xs ∙ ap (λ w. replies_
 pub replies_then : (first xs : List (ℕ × Command)) (rs : List Reply) → replies_in (world_after_all nowhere first) xs ≡ rs → replies_after first xs ≡ rs
 replies_then first xs rs e = machine-replies (machine no_desk first).desk xs ∙ ap (λ w. replies_in w xs) (from_nothing first) ∙ e
 
--- and what is told of its service of a name
+-- and what is reported of its service of a name
 pub service_then : {A : Type 0} (tells : Option ModelService → A) (xs : List (ℕ × Command)) (name : List ℕ) (a : A) → tells ((world_after_all nowhere xs).services name) ≡ a → tells (service_after xs name) ≡ a
 service_then tells xs name a e = ap (λ (w : World). tells (w.services name)) (from_nothing xs) ∙ e

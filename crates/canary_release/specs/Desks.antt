@@ -59,7 +59,7 @@ abbrev pub rules : Result ModelResult Refusal → ModelDecision
 rules (Ok a) = record { change = Becomes a.evolution; reply = accepted (a.shows a.evolution.service) }
 rules (Err refusal) = refuses refusal
 
--- passed to t, where it is not refused
+-- passed to t, if it is not refused
 abbrev pub passed_on : Result ModelResult Refusal → ℕ → Result ModelResult Refusal
 passed_on (Ok a) t = Ok (record a { evolution = pass a.evolution t })
 passed_on (Err refusal) t = Err refusal
@@ -94,7 +94,7 @@ abbrev pub new_service : ServiceSpec → ℕ → Evolution
 new_service spec now =
     tell (evolution_from (new_service_state spec now) (watch_of no_past)) now (Created spec.version)
 
--- a command where no service of its name is there
+-- a command if there is no service of its name
 abbrev pub act_new : Templates → Command → ℕ → Result ModelResult Refusal
 act_new known (AddService spec) now =
     unless (strategy_refusal known spec) (succeeds_with (new_service spec now))

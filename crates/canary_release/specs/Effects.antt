@@ -1,5 +1,5 @@
 -- Which effects may happen to a service, and that commands and time bring such alone: a change
--- tells all that a store writes.
+-- shows all that a store writes.
 use Rattle.std.specs.Prelude.{◌≡◌, ℕ, ◌+◌, ◌≤◌, true, List, [], ◌∷◌, length, find, Option, Some, None, slice_get}
 use Rattle.std.specs.FinMap.{get}
 use Rattle.std.specs.List.{AllByRecursion}

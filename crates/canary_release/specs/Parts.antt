@@ -173,7 +173,7 @@ is_broken s =
     ∷ []
     )
 
--- parts are a service exactly where no cause holds
+-- parts are a service exactly if no cause holds
 abbrev pub IsAccepted : ServiceParts → Result ServiceParts PartsFault → Type 0
 IsAccepted parts (Ok service) = (is_broken parts ≡ false) × (service ≡ parts)
 IsAccepted parts (Err Broken) = is_broken parts ≡ true

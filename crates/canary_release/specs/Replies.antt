@@ -104,7 +104,7 @@ code_at_with at code key number =
     ++ (quoted code
     ++ (codes "," ++ (quoted key ++ (codes ":" ++ (decimal number ++ codes "}")))))))
 
--- the code, and where a refusal has a place, that too
+-- the code, and if a refusal has a place, that too
 abbrev pub refusal_text : Refusal → List ℕ
 refusal_text (UnknownMetric at) = code_at at (codes "unknown-metric")
 refusal_text (RepeatedMetric at) = code_at at (codes "repeated-metric")

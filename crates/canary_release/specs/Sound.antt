@@ -29,7 +29,7 @@ AreJudged (m ∷ ms) (list ∷ lists) = AllByRecursion (IsJudgedBy m) list × Ar
 abbrev pub verdict_on : Run → Bool → Phase
 verdict_on r outside = verdict r.analysis.metrics (map (map measurement_of) r.lists) outside
 
--- a run is closed exactly where its verdict isn't Running: an open run is Running, and a closed one
+-- a run is closed exactly if its verdict isn't Running: an open run is Running, and a closed one
 -- was closed at its verdict, a completed phase
 abbrev pub HasVerdict : Run → Option Closing → Type 0
 HasVerdict r None = verdict_on r false ≡ Running

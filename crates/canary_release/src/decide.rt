@@ -299,7 +299,7 @@ fn act_within(
     }
 }
 
-// A command where no service of its name is there.
+// A command if there is no service of its name.
 fn act_new(
     alloc: Global,
     templates: &Templates,
@@ -336,7 +336,7 @@ fn add(
     }
 }
 
-// A new service has no past but the line that tells of it.
+// A new service has no past but the line that reports it.
 fn new_service(
     alloc: Global,
     spec: &ServiceSpec,

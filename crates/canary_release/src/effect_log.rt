@@ -75,7 +75,7 @@ impl TrackedRuns {
         &self.runs
     }
 
-    /// A line is told.
+    /// A line is added.
     #[tactic(auto, using(crate::proofs::Pushes::after_all_push))]
     pub(crate) fn told(self, line: Line) -> Result<TrackedRuns, Memory>
         ensures { IfOk result (λ tracked. tracked

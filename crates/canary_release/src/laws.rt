@@ -56,7 +56,7 @@ pub fn independence()
     ensures { AreIndependent }
 {}
 
-/// A Tick only passes time: where no later command on the service has an earlier moment, a Tick put
+/// A Tick only passes time: if no later command on the service has an earlier moment, a Tick put
 /// into a list of commands, or left out, changes no reply but its own, no template and no other
 /// service; and the service, passed to any moment from the Tick's on, is the same.
 pub fn ticks()
@@ -82,7 +82,7 @@ pub fn in_order()
 
 /// An empty desk is sound, and the machine keeps a desk in order sound: each verdict is that of its
 /// run's recorded measurements, each judged by its metric's conditions; and a run is closed exactly
-/// where its verdict is not Running.
+/// if its verdict is not Running.
 pub fn sound()
     ensures empty { AreSound no_desk }
     ensures keeping { StaySound }
@@ -91,7 +91,7 @@ pub fn sound()
     parts();
 }
 
-/// What a command changes of a desk in order tells all that a store writes: a template has the name
+/// What a command changes of a desk in order shows all that a store writes: a template has the name
 /// that the command has, and is the next revision of that name; a service has that name and the
 /// strategy that it had; a Start and a Retry bind it to the newest revisions, a new service is
 /// bound to none, and no other command binds one; a run that is opened has the next number, and is

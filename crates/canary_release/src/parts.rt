@@ -61,7 +61,7 @@ impl Service {
     /// by number.
     ///
     /// # Errors
-    /// `Broken` where no service can stand so.
+    /// `Broken` if no service can stand so.
     pub fn from_parts(parts: ServiceParts) -> Result<Service, PartsFault>
         ensures { IsAccepted parts result }
     {
@@ -98,7 +98,7 @@ fn is_behind(parts: &ServiceParts) -> bool
         || lacks_runs(parts)
 }
 
-// Open runs out of number, with wrong tallies, or where no release is going on.
+// Open runs out of number, with wrong tallies, or though no release is going on.
 fn has_bad_runs(parts: &ServiceParts) -> bool
     ensures { result ≡ (list_any (is_misnumbered parts.now.runs.count) parts.now.runs.open_runs
         || (repeats_number parts.now.runs.open_runs
@@ -113,7 +113,8 @@ fn has_bad_runs(parts: &ServiceParts) -> bool
         || is_left_open(&parts.service, runs)
 }
 
-// More than one run of a kind, a run of a step astray, or a background run where there is none.
+// More than one run of a kind, a run of a step astray, or a background run though there can be
+// none.
 fn has_stray_run(parts: &ServiceParts) -> bool
     ensures { result ≡ (nat_lt 1 (length (filter is_background_run parts.now.runs.open_runs))
         || (nat_lt 1 (length (filter is_step_run parts.now.runs.open_runs))
@@ -128,8 +129,8 @@ fn has_stray_run(parts: &ServiceParts) -> bool
         || has_stray_background(parts)
 }
 
-// A hold or a background analysis where there is none, a run whose verdict is due, or a step that
-// has been left by time.
+// A hold or a background analysis though there can be none, a run whose verdict is due, or a step
+// that has been left by time.
 fn has_bad_mark(parts: &ServiceParts) -> bool
     ensures { result ≡ ((is_held parts.now.service && not (is_in_progress parts.now.service.state))
         || ((parts.now.service.background && is_none parts.now.service.strategy.background)

@@ -157,7 +157,7 @@ fn template_body(alloc: Global, name: Name, revision: u32) -> Result<String, Mem
     Ok(format!(in alloc; "{{\"code\":\"ok\",\"revision\":{revision},\"template\":\"{name}\"}}")?)
 }
 
-// The code, and where a refusal has a place, that too.
+// The code, and if a refusal has a place, that too.
 fn refusal_body(alloc: Global, refusal: Refusal) -> Result<String, Memory>
     ensures { IfOk result (λ body. string_bytes body ≡ refusal_text refusal) }
 {

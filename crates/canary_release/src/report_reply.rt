@@ -16,7 +16,7 @@ const ROOM: usize = 192;
 
 impl Reply {
     /// The reply that shows the phases of a report's entries, its run's verdict, and how its
-    /// service stands; `Memory` where memory is refused.
+    /// service stands; `Memory` if memory is refused.
     pub(crate) fn reports(
         alloc: Global,
         service: &ServiceState,
@@ -67,7 +67,7 @@ fn with_phases(front: String, phases: &[Phase]) -> Result<String, Memory>
     with(text, "]")
 }
 
-// The text with one more phase, after a comma where it is not the first.
+// The text with one more phase, after a comma if it is not the first.
 fn with_phase(text: String, later: bool, phase: Phase) -> Result<String, Memory>
     ensures { IfOk result (λ all. string_bytes all ≡ string_bytes text ++ phase_words later phase) }
 {

@@ -67,7 +67,7 @@ impl OpenRun {
         })
     }
 
-    // Counts a measurement where it is of this run.
+    // Counts a measurement if it is of this run.
     fn count(&mut self, alloc: Global, recorded: &Recorded)
         requires room { takes recorded.now self.old ≡ true }
         requires measured { is_measured recorded.now.phase ≡ true }
@@ -79,7 +79,7 @@ impl OpenRun {
         }
     }
 
-    /// Its verdict, where it is ended from outside or not.
+    /// Its verdict, by whether it is ended from outside.
     pub(crate) fn verdict(&self, outside: bool) -> Phase
         ensures { result ≡ run_verdict outside self.now }
     {

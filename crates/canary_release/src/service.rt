@@ -111,7 +111,7 @@ impl Service {
         transition.pass(alloc, now)
     }
 
-    /// The service passed to a moment, or to its last one where that is later: to the end of the
+    /// The service passed to a moment, or to its last one if that is later: to the end of the
     /// longest chain of moves up to then, with the effects along the chain. The service itself
     /// stays as it is.
     ///
@@ -165,7 +165,7 @@ impl Service {
         self.parts.service.stable
     }
 
-    /// The version of its last release, or the stable one where there was none.
+    /// The version of its last release, or the stable one if there was none.
     pub fn version(&self) -> Label
         ensures value { result ≡ self.now.service.version }
     {
@@ -236,7 +236,7 @@ impl Service {
         self.parts.runs.open_runs.as_slice()
     }
 
-    /// Its status: Healthy where the release is done, Degraded where it is aborted, Paused where it
+    /// Its status: Healthy if the release is done, Degraded if it is aborted, Paused if it
     /// is held or at a pause, else Progressing.
     pub fn status(&self) -> Status
         ensures { result ≡ status self.now.service }
@@ -244,7 +244,7 @@ impl Service {
         self.parts.service.status()
     }
 
-    /// The weight of the new version, in percent: 0 where the release is aborted, 100 where it is
+    /// The weight of the new version, in percent: 0 if the release is aborted, 100 if it is
     /// done, else the last weight set at or before the present step, or 0.
     pub fn weight(&self) -> u32
         ensures { result ≡ weight self.now.service }

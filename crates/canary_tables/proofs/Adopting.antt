@@ -67,7 +67,7 @@ whole db h =
 pub formed : (db : Database) → IsDeskSchema db.schema → IsRising db → db.trees 0 ≡ meta_rows → IsFormed db
 formed db cached rises meta = record { layout = cached.0; schema = cached.1; numbered = rises cached.0 cached.1; meta = meta }
 
--- meta has its one row where the row of the schema is found alone
+-- meta has its one row if the row of the schema is found alone
 pub alone_row : (rows : List Row) (row : MetaRow) → row ≡ Alone → Stands 2 (rows ≡ meta_rows) rows row → rows ≡ meta_rows
 alone_row rows row is stands = subst (Stands 2 (rows ≡ meta_rows) rows) is stands
 

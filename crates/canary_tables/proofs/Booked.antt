@@ -58,7 +58,7 @@ module _ {S : Type 0} (g : Ghosts S) where
     kept = kept_still old new notes kept book same;
   }
 
-  -- also where it keeps more, or less
+  -- also if it keeps more, or less
   pub book_keeps : (old new : Held S) (notes : Notes) (before after : Cache) → IsBook g old notes before → new.in_transaction ≡ false → IsSame (state g old) (state g new) → (IsUsable (state g new) → IsCacheOf after (contents_in (state g new))) → IsBook g new notes after
   book_keeps old new notes before after book mode same kept = record {
     autocommit = mode;

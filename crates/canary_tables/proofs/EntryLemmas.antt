@@ -159,7 +159,7 @@ value_put : {A : Type 0} (b : Bool) (w : Weighed A) (a : Found A) → value_if (
 value_put true w a = refl
 value_put false w a = refl
 
--- what is written where a name was found
+-- what is written if a name was found
 pub written_put : {A : Type 0} (m n : BTreeMap (List ℕ) (Weighed A)) (k : List ℕ) (old new : Weighed A) → Some old ≡ at_name m.entries k → WritesThrough (slice_cmp nat_cmp) (slice_cmp nat_cmp k) m new n → IsPut m.entries n.entries k new.value
 written_put {A} m n k old new there written = λ q. ap value_if ((written.3 (subst IsSome there refl)).0 q) ∙ value_put (is_it k q) new (at_name m.entries q)
 

@@ -35,7 +35,7 @@ tallies_told old new name number rows shown found law desk same usable read are 
     let sorted = read _ d.stores in
     is ∙ ap (map (λ (row : TallyRow). row.counts)) are ∙ law _ d.holds name number rows sorted.same sorted.ascend
 
--- where there is no service there is no run
+-- if there is no service there is no run
 pub no_service : (old new : State) (name : List ℕ) (number : ℕ) → RunsHaveServices → (IsUsable old → IsDesk old) → IsSame old new → IsUsable new → ((t : Tables) → Stores old t → None ≡ first (filter (is_service name) t.services)) → None ≡ run_of (contents_in old) name number
 no_service old new name number law desk same usable read =
     let d = desk (same usable).0 in sym (law _ d.holds name number (sym (read _ d.stores)))
@@ -47,12 +47,12 @@ made_by old new name row made desk same usable read is =
     let d = desk (same usable).0 in
     ap (λ (t : Tables). strategy_by (first (filter (is_service name) t.services))) (tables_stay old new same usable) ∙ sym (ap strategy_by (read _ d.stores)) ∙ ap (option_map strategy_of) is
 
--- the run is told as after the row of its service was read
+-- the run is reported as after the row of its service was read
 pub run_before : (old new : State) (name : List ℕ) (number asked : ℕ) (found : Option RunRecord) → IsSame old new → IsUsable new → found ≡ run_of (contents_in new) name asked → asked ≡ number → found ≡ run_of (contents_in old) name number
 run_before old new name number asked found same usable told is =
     told ∙ ap (λ (c : Contents). run_of c name asked) (contents_stay old new same usable) ∙ ap (run_of (contents_in old) name) is
 
--- where there is no row there is no run
+-- if there is no row there is no run
 pub no_run : (old new : State) (name : List ℕ) (number : ℕ) (made : ServiceSpec) → RunsAreFound → (IsUsable old → IsDesk old) → IsMadeBy old name made → IsSame old new → IsUsable new → ((t : Tables) → Stores old t → None ≡ first (filter (is_run name number) t.runs))
     → None ≡ run_of (contents_in old) name number
 no_run old new name number made law desk by same usable read =

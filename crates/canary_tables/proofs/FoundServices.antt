@@ -25,7 +25,7 @@ use Rattle.canary_tables_read.specs.Finds.{IsSame, first}
 use Rattle.canary_tables.specs.Desk.{IsDesk, contents_in}
 use Rattle.canary_tables.proofs.Standing.{contents_stay, tables_stay, same_then}
 
--- where there is no row there is no service
+-- if there is no row there is no service
 pub no_service : (old new : State) (name : List ℕ) → ServicesAreFound → (IsUsable old → IsDesk old) → IsSame old new → IsUsable new → ((t : Tables) → Stores old t → None ≡ first (filter (is_service name) t.services))
     → None ≡ stored_service (contents_in old).desk name
 no_service old new name law desk same usable read =

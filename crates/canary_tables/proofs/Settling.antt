@@ -21,7 +21,7 @@ use Rattle.canary_tables_read.specs.Finds.{IsSame}
 use Rattle.canary_tables.specs.Desk.{contents_in, IsDesk}
 use Rattle.canary_tables_write.specs.Commits.{IsBoundSaid, CommitAsks}
 
--- what is said of the attempt of the service that the change names
+-- what is reported of the attempt of the service that the change names
 pub bound_said : {E : Type 0} (command : Command) (change : DeskChange) (s : ServiceParts) (effects : List Effect) (name : List ℕ) (t : Tables) (r : Result Bool E) → change ≡ Updates s effects → name ≡ s.service.name → IfOk r (λ has. begins command ≡ true → has ≡ has_bindings name t)
     → IfOk r (λ is_bound. IsBoundSaid is_bound command change t)
 bound_said command change s effects name t r is named told =

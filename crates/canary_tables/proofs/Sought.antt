@@ -21,7 +21,7 @@ pub mapped : {A B C : Type 0} (f : B → C) (g : A → B) (xs : List A) → map 
 mapped f g [] = refl
 mapped f g (x ∷ xs) = ap (λ (ys : List _). f (g x) ∷ ys) (mapped f g xs)
 
--- where one row stands for nothing, no values are those of all rows
+-- if one row stands for nothing, no values are those of all rows
 pub one_missing : {A B : Type 0} (f : A → Option B) (rows : List A) (i : ℕ) (d : A) (all : List B) → i < length rows → f (get_or rows i d) ≡ None → map Some all ≡ map f rows → ⊥
 one_missing f [] i d all lt none same = omega arith
 one_missing f (row ∷ rows) i d [] lt none same = cc

@@ -65,9 +65,9 @@ pub record IsBegun (old new : State) : Type 0 where
 abbrev pub IsMadeOf : State → State → Type 0
 IsMadeOf old new = IsBegun old new ⊎ IsAdopted old new
 
--- What is left where there is no book.
+-- What is left if there is no book.
 
--- a connection tells what its tables are; a store alone is not asked
+-- a connection shows what its tables are; a store alone is not asked
 abbrev pub TellsTables : {S : Type 0} → Ghosts S → Unadopted S → Type 0
 TellsTables g (left.Connection conn) = IsUsable (state g conn)
 TellsTables g (left.Store store) = Unit {0}
@@ -78,7 +78,7 @@ LeavesRows g old (left.Connection conn) =
     IsUsable (state g conn) → IsUsable old × ((state g conn).now ≡ old.now)
 LeavesRows g old (left.Store store) = IsLeft old (g.view store)
 
--- a store alone is left only where memory or the store failed
+-- a store alone is left only if memory or the store failed
 abbrev pub IsLeftBy : {S : Type 0} → TableFault → Unadopted S → Type 0
 IsLeftBy f (left.Connection conn) = Unit {0}
 IsLeftBy f (left.Store store) = (cause : StoreFault) × (f ≡ fault_of_store cause)

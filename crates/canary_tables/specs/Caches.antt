@@ -73,12 +73,12 @@ with_changed services (Updates s effects) = insert services s.service.name s
 with_changed services Nothing = services
 with_changed services (AddsTemplate template) = services
 
--- with the lines that effects tell at the end of the history under a name, if that is kept
+-- with the lines of effects at the end of the history under a name, if that is kept
 abbrev pub with_told : Named (List Line) → List ℕ → List Effect → Named (List Line)
 with_told histories name effects =
     put_some histories name (option_map (λ lines. lines_after lines effects) (get histories name))
 
--- with the lines that a change tells
+-- with the lines of a change
 abbrev pub with_lines : Named (List Line) → DeskChange → Named (List Line)
 with_lines histories (Updates s effects) = with_told histories s.service.name effects
 with_lines histories Nothing = histories

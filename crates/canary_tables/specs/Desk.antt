@@ -47,7 +47,7 @@ IsMadeBy s name made =
 abbrev pub IsMemory : {S : Type 0} → Ghosts S → Type 0
 IsMemory {S} g = (h : Held S) → IsUsable (state g h)
 
--- how a book over a connection stands: its store is honest where the connection is usable
+-- how a book over a connection stands: its store is honest if the connection is usable
 abbrev pub book_state : {S : Type 0} → Ghosts S → Held S → BookState
 book_state g h =
     record {

@@ -99,11 +99,11 @@ impl<S: Alter + Drop> TableBook<S> {
     ///
     /// # Errors
     ///
-    /// `OtherSchema` where the database has other tables, indexes or views than a desk's, or its
-    /// table meta lacks the row 1, 2; `BrokenRow` where the rows are not those that a desk leaves,
-    /// as with a second row in meta; `Memory` where an allocation was refused; `Storage` where the
-    /// store failed, or the connection stands inside a transaction. What is left of the connection
-    /// is handed back, with the database as it was.
+    /// `OtherSchema` if the database has other tables, indexes or views than a desk's, or its table
+    /// meta lacks the row 1, 2; `BrokenRow` if the rows are not those that a desk leaves, as with a
+    /// second row in meta; `Memory` if an allocation was refused; `Storage` if the store failed, or
+    /// the connection stands inside a transaction. What is left of the connection is handed back,
+    /// with the database as it was.
     pub fn adopt<G: JudgingProgress>(
         alloc: Global,
         conn: Connection<S>,

@@ -281,8 +281,8 @@ impl Cache {
     }
 
     /// Keeps what a settled request left: how many requests of its caller are settled now, the
-    /// lines that it told, the service that it changed, and its receipt. Each takes the place of
-    /// what is kept there.
+    /// service that it changed, and its receipt, each in the place of what is kept there; and the
+    /// lines that it added, at the end of a history that is kept. What finds no room is not kept.
     pub(crate) fn keep(&mut self, settlement: Settlement)
         ensures counts { IsWithin self.new.counts
             (map.insert self.old.counts settlement.caller settlement.number) }
@@ -322,7 +322,7 @@ impl Cache {
         }
     }
 
-    // Adds the lines that the change tells to the history of its service, if that is kept.
+    // Adds the lines of the change to the history of its service, if that is kept.
     fn keep_lines(&mut self, change: &DeskChange)
         ensures counts { self.new.counts ≡ self.old.counts }
         ensures services { self.new.services ≡ self.old.services }
@@ -336,8 +336,8 @@ impl Cache {
         }
     }
 
-    // Adds the lines that these effects tell to the history under that name, if it is kept. If
-    // there is no memory or no room for them, the history is forgotten.
+    // Adds the lines of these effects to the history under that name, if it is kept. If there is no
+    // memory or no room for them, the history is forgotten.
     fn add_lines(&mut self, name: Name, effects: &[Effect])
         ensures counts { self.new.counts ≡ self.old.counts }
         ensures services { self.new.services ≡ self.old.services }

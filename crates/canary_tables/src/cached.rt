@@ -125,8 +125,8 @@ pub(crate) fn service<S: Alter>(
     Ok(found)
 }
 
-/// The history of a service, oldest line first; none where there is no such service. If it is not
-/// kept yet, it is read from the tables, and a copy is kept if there is memory for one.
+/// The history of a service, oldest line first; none if there is no such service. If it is not kept
+/// yet, it is read from the tables, and a copy is kept if there is memory for one.
 ///
 /// # Errors
 /// `Memory` if there is not enough, `Storage` if the database fails or holds what no desk writes.
@@ -215,7 +215,7 @@ pub(crate) fn templates<S: Alter>(
 }
 
 /// Settles a request, with all that it changes, or does nothing. Once it is settled, what is kept
-/// of its caller and of the service that it changes is replaced, and the lines that it tells are
+/// of its caller and of the service that it changes is replaced, and the lines that it reports are
 /// added to the history that is kept. A template of which it adds a revision is forgotten first.
 ///
 /// # Errors

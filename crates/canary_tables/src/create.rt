@@ -21,14 +21,13 @@ use std::alloc::Global;
 
 impl<S: Alter> TableBook<S> {
     /// Makes an empty database a desk's, in one transaction, and a book of it, which contains
-    /// nothing yet. Where it fails, the connection is handed back, and the database stays as it
-    /// was.
+    /// nothing yet. If it fails, the connection is handed back, and the database stays as it was.
     ///
     /// # Errors
     ///
-    /// `OtherSchema` where the database has a table, an index or a view, `Memory` where an
-    /// allocation was refused, `Storage` where a statement failed otherwise, as where the disk did,
-    /// or the connection stands inside a transaction.
+    /// `OtherSchema` if the database has a table, an index or a view, `Memory` if an allocation was
+    /// refused, `Storage` if a statement failed otherwise, as when the disk did, or the connection
+    /// stands inside a transaction.
     pub fn create(
         alloc: Global,
         mut conn: Connection<S>,

@@ -55,7 +55,7 @@ impl From<ReadFault> for TableFault {
     }
 }
 
-/// What is left of a connection where there is no book over it.
+/// What is left of a connection if there is no book over it.
 #[derive(Drop)]
 pub enum Unadopted<S: Alter> {
     /// A connection to the database.

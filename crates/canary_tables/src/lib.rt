@@ -1,9 +1,9 @@
 //! A book whose contents are the rows of ten tables of SQLite: over an empty database (`create`),
 //! over one that has a desk's tables (`adopt`), or over a file (`open`).
 //!
-//! Callers may rest on this: the book is a `Book`, honest where its connection is usable, so all
-//! that is proved of one holds of it. `create` takes an empty database alone, and `adopt` one whose
-//! rows are those of sound contents alone; a fault hands back the connection or its store, with the
+//! Callers may rest on this: the book is a `Book`, honest if its connection is usable, so all that
+//! is proved of one holds of it. `create` takes an empty database alone, and `adopt` one whose rows
+//! are those of sound contents alone; a fault hands back the connection or its store, with the
 //! database as it was. No contract says what `open` opens.
 //!
 //! In use (canary_cli, src/file/open.rt):

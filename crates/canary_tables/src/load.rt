@@ -1,4 +1,4 @@
-//! What is kept of callers, as the tables tell it.
+//! What is kept of callers, as the tables give it.
 ghost use Rattle.std.specs.Prelude.{◌≡◌, false, Some, None, Err, option_map, IfOk};
 ghost use Rattle.sqlite.specs.Held.{state};
 ghost use Rattle.canary_once.specs.Contents.{count_of, receipt_at};
@@ -32,8 +32,8 @@ pub(crate) fn store_fault(fault: RowFault) -> StoreFault
 /// The number of settled requests of a caller.
 ///
 /// # Errors
-/// `Memory` where an allocation was refused, `Storage` where the database fails or holds what no
-/// desk writes.
+/// `Memory` if an allocation was refused, `Storage` if the database fails or holds what no desk
+/// writes.
 pub(crate) fn count<S: Alter>(conn: &mut Connection<S>, caller: &Name) -> Result<u32, StoreFault>
     requires ready { HasDesk conn.old.in_transaction (state S.Store conn.old) }
     ensures reads { Looks conn.new.in_transaction
@@ -46,11 +46,11 @@ pub(crate) fn count<S: Alter>(conn: &mut Connection<S>, caller: &Name) -> Result
     Ok(settled.unwrap_or(0))
 }
 
-/// The receipt under a caller's number; none where no request of that number is settled.
+/// The receipt under a caller's number; none if no request of that number is settled.
 ///
 /// # Errors
-/// `Memory` where an allocation was refused, `Storage` where the database fails or holds what no
-/// desk writes.
+/// `Memory` if an allocation was refused, `Storage` if the database fails or holds what no desk
+/// writes.
 pub(crate) fn receipt<S: Alter>(
     conn: &mut Connection<S>,
     alloc: Global,
@@ -68,7 +68,7 @@ pub(crate) fn receipt<S: Alter>(
     receipt_of(alloc, row)
 }
 
-// The receipt of a row, if there is one. `Storage` only where the row stands for none.
+// The receipt of a row, if there is one. `Storage` only if the row stands for none.
 fn receipt_of(alloc: Global, row: Option<KeptRow>) -> Result<Option<Receipt>, StoreFault>
     ensures found { IfOk result
         (λ found. option_map receipt_of_row row ≡ option_map Some found) }

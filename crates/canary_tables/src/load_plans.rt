@@ -1,4 +1,4 @@
-//! Templates and strategies, as the tables tell them.
+//! Templates and strategies, as the tables give them.
 ghost use Rattle.std.specs.Prelude.{◌≡◌, ◌≢◌, false, Some, None, Ok, Err, IfOk, IfSome};
 ghost use Rattle.std.specs.FinMap.{get};
 ghost use Rattle.sqlite.specs.Held.{state};
@@ -40,8 +40,7 @@ use std::alloc::Global;
 /// The newest revision of the template of that name, if there is one.
 ///
 /// # Errors
-/// `Memory` where there is not enough, `Storage` where the database fails or holds what no desk
-/// writes.
+/// `Memory` if there is not enough, `Storage` if the database fails or holds what no desk writes.
 pub(crate) fn template<S: Alter>(
     conn: &mut Connection<S>,
     alloc: Global,
@@ -60,7 +59,7 @@ pub(crate) fn template<S: Alter>(
     Ok(Some(revision(alloc, &row)?))
 }
 
-// The revision of a template in this row. `Storage` only where the row is read as none.
+// The revision of a template in this row. `Storage` only if the row is read as none.
 fn revision(alloc: Global, row: &RevisionRow) -> Result<Template, StoreFault>
     ensures found { IfOk result (λ found. revision_of_row row.now ≡ Some found) }
     ensures storage { result ≡ Err StoreFault.Storage → IsRevisionRead row.now.revision
@@ -91,7 +90,7 @@ fn templates<S: Alter>(
 /// The service that this text makes, as it was asked for.
 ///
 /// # Errors
-/// `Memory` where there is not enough, `Storage` where the text makes no service.
+/// `Memory` if there is not enough, `Storage` if the text makes no service.
 pub(crate) fn made(alloc: Global, spec: &str) -> Result<ServiceSpec, StoreFault>
     ensures made { IfOk result (λ made. made_from (canonical_in spec.now) ≡ Some made) }
     ensures storage { result ≡ Err StoreFault.Storage → made_from (canonical_in spec.now) ≡ None }
@@ -124,7 +123,7 @@ fn checked(
     }
 }
 
-// Its strategy. `Storage` only where these templates refuse it.
+// Its strategy. `Storage` only if these templates refuse it.
 fn accepted(
     alloc: Global,
     made: &ServiceSpec,
@@ -194,8 +193,7 @@ fn bound_templates<S: Alter>(
 /// present attempt, for run 0.
 ///
 /// # Errors
-/// `Memory` where there is not enough, `Storage` where the database fails or holds what no desk
-/// writes.
+/// `Memory` if there is not enough, `Storage` if the database fails or holds what no desk writes.
 pub(crate) fn plan<S: Alter>(
     conn: &mut Connection<S>,
     alloc: Global,

@@ -1,4 +1,4 @@
-//! Runs, as the tables tell them.
+//! Runs, as the tables give them.
 ghost use Rattle.std.specs.Prelude.{◌≡◌, false, map, Some, None, Err, IfOk};
 ghost use Rattle.sqlite.specs.Held.{state};
 ghost use Rattle.canary_plan.specs.Plans.{strategy_of, bound_of, analysis_or_none};
@@ -30,11 +30,10 @@ use canary_tables_schema::fault::StoreFault;
 use sqlite::{Alter, Connection};
 use std::alloc::Global;
 
-/// The tallies of a service's run, one a metric, in order; none where there is no such run.
+/// The tallies of a service's run, one a metric, in order; none if there is no such run.
 ///
 /// # Errors
-/// `Memory` where there is not enough, `Storage` where the database fails or holds what no desk
-/// writes.
+/// `Memory` if there is not enough, `Storage` if the database fails or holds what no desk writes.
 pub(crate) fn tallies<S: Alter>(
     conn: &mut Connection<S>,
     alloc: Global,
@@ -67,8 +66,7 @@ fn counts_of(alloc: Global, rows: &[TallyRow]) -> Result<Listed<Tally>, Memory>
 /// when it was opened.
 ///
 /// # Errors
-/// `Memory` where there is not enough, `Storage` where the database fails or holds what no desk
-/// writes.
+/// `Memory` if there is not enough, `Storage` if the database fails or holds what no desk writes.
 pub(crate) fn run<S: Alter>(
     conn: &mut Connection<S>,
     alloc: Global,
@@ -132,7 +130,7 @@ fn bound_at<S: Alter>(
     Ok(bound)
 }
 
-// The record of a run. `Storage` only where the row stands for none.
+// The record of a run. `Storage` only if the row stands for none.
 fn record_of(
     alloc: Global,
     row: &RunRow,
@@ -160,8 +158,7 @@ fn record_of(
 /// is bound at its step.
 ///
 /// # Errors
-/// `Memory` where there is not enough, `Storage` where the database fails or holds what no desk
-/// writes.
+/// `Memory` if there is not enough, `Storage` if the database fails or holds what no desk writes.
 pub(crate) fn open_runs<S: Alter>(
     conn: &mut Connection<S>,
     alloc: Global,

@@ -1,4 +1,4 @@
-//! Services, as the tables tell them.
+//! Services, as the tables give them.
 ghost use Rattle.std.specs.Prelude.{◌≡◌, false, true, Some, Err, option_map, IfOk};
 ghost use Rattle.sqlite.specs.Held.{state};
 ghost use Rattle.canary_release.specs.declared.service.ServiceParts.{ServiceParts};
@@ -28,8 +28,7 @@ use std::alloc::Global;
 /// The service of that name as it is kept, if there is one.
 ///
 /// # Errors
-/// `Memory` where there is not enough, `Storage` where the database fails or holds what no desk
-/// writes.
+/// `Memory` if there is not enough, `Storage` if the database fails or holds what no desk writes.
 pub(crate) fn service<S: Alter>(
     conn: &mut Connection<S>,
     alloc: Global,
@@ -52,7 +51,7 @@ pub(crate) fn service<S: Alter>(
 }
 
 // The service of a row, with its strategy, what it is bound to, and its open runs. `Storage` only
-// where the row stands for none, or for parts that make none.
+// if the row stands for none, or for parts that make none.
 fn service_of(
     row: &ServiceRow,
     strategy: &Strategy,

@@ -19,7 +19,7 @@ impl<S: Alter> TableBook<S> {
     /// The names of all services, in the order of their rows. Nothing changes.
     ///
     /// # Errors
-    /// `Memory` where an allocation was refused, `Storage` where the store failed.
+    /// `Memory` if an allocation was refused, `Storage` if the store failed.
     pub fn service_names(&mut self) -> Result<Listed<Name>, BookFault>
         ensures same { IsSame (state S.Store self.old) (state S.Store self.new) }
         ensures names { IsUsable (state S.Store self.new) → IfOk result (λ names.

@@ -36,10 +36,10 @@ impl<P: ReadingProgress> TableBook<FileStore<ReportingDisk<File, P>>> {
     ///
     /// # Errors
     ///
-    /// `InUse` where another program has the file open; `Memory` where an allocation was refused;
-    /// `Storage` where the file cannot be opened, is no database, or fails; `OtherSchema` where it
-    /// has tables, indexes or views, and not just a desk's, or its table meta lacks the row 1, 2;
-    /// `BrokenRow` where the rows of a desk's tables are not those that a desk leaves, as with a
+    /// `InUse` if another program has the file open; `Memory` if an allocation was refused;
+    /// `Storage` if the file cannot be opened, is no database, or fails; `OtherSchema` if it has
+    /// tables, indexes or views, and not just a desk's, or its table meta lacks the row 1, 2;
+    /// `BrokenRow` if the rows of a desk's tables are not those that a desk leaves, as with a
     /// second row in meta.
     pub fn open<G: JudgingProgress>(
         rt: &HostRuntime,

@@ -1,4 +1,4 @@
-//! Lists of what is kept of a service, as the tables tell them.
+//! Lists of what is kept of a service, as the tables give them.
 ghost use Rattle.std.specs.Prelude.{◌≡◌, ◌≢◌, ◌∷◌, ◌++◌, ℕ, [], false, List, Some, None, Err, map, IfOk, IfSome};
 ghost use Rattle.sqlite.specs.Effect.{Database};
 ghost use Rattle.sqlite.specs.Held.{state};
@@ -27,11 +27,11 @@ use canary_tables_schema::fault::StoreFault;
 use sqlite::{Alter, Connection};
 use std::alloc::Global;
 
-/// The history of a service, oldest line first; none where there is no such service.
+/// The history of a service, oldest line first; none if there is no such service.
 ///
 /// # Errors
-/// `Memory` where an allocation was refused, `Storage` where the database fails or holds what no
-/// desk writes.
+/// `Memory` if an allocation was refused, `Storage` if the database fails or holds what no desk
+/// writes.
 pub(crate) fn history<S: Alter>(
     conn: &mut Connection<S>,
     alloc: Global,
@@ -48,7 +48,7 @@ pub(crate) fn history<S: Alter>(
     lines_of(alloc, rows.as_slice())
 }
 
-// The lines of rows, in their order. `Storage` only where one stands for none.
+// The lines of rows, in their order. `Storage` only if one stands for none.
 fn lines_of(alloc: Global, rows: &[HistoryRow]) -> Result<Listed<Line>, StoreFault>
     ensures found { IfOk result (λ lines. map Some lines ≡ map line_of_row rows.now) }
     ensures storage { result ≡ Err StoreFault.Storage
@@ -73,7 +73,7 @@ fn with_line(lines: Listed<Line>, row: &HistoryRow) -> Result<Listed<Line>, Stor
     }
 }
 
-/// A page of a service's measurements, and how far they are read by it; no mark where it is empty.
+/// A page of a service's measurements, and how far they are read by it; no mark if it is empty.
 #[derive(Drop)]
 pub(crate) struct Page {
     pub recorded: Listed<Recorded>,
@@ -81,13 +81,12 @@ pub(crate) struct Page {
 }
 
 /// A page of a service's measurements, of all its runs in the order in which they were recorded:
-/// those from a place on, the first having place 0, and at most so many; empty where there is no
-/// such service. `noted` is a place in the table up to which just `from` of them stand, if one is
-/// known.
+/// those from a place on, the first having place 0, and at most so many; empty if there is no such
+/// service. `noted` is a place in the table up to which just `from` of them stand, if one is known.
 ///
 /// # Errors
-/// `Memory` where an allocation was refused, `Storage` where the database fails or holds what no
-/// desk writes, and where `from` is 2^63 or more.
+/// `Memory` if an allocation was refused, `Storage` if the database fails or holds what no desk
+/// writes, and if `from` is 2^63 or more.
 pub(crate) fn measurements<S: Alter>(
     conn: &mut Connection<S>,
     alloc: Global,
@@ -127,7 +126,7 @@ fn mark_of(service: &Name, from: u64, rows: &[MeasurementAt]) -> Option<Mark>
     })
 }
 
-// The measurements of rows, in their order. `Storage` only where one stands for none.
+// The measurements of rows, in their order. `Storage` only if one stands for none.
 fn measurements_of(alloc: Global, rows: &[MeasurementAt]) -> Result<Listed<Recorded>, StoreFault>
     ensures found { IfOk result (λ page.
         map Some page ≡ map measurement_of_row (map row_of rows.now)) }
@@ -141,7 +140,7 @@ fn measurements_of(alloc: Global, rows: &[MeasurementAt]) -> Result<Listed<Recor
     Ok(page)
 }
 
-// The measurement of a row. `Storage` only where it stands for none.
+// The measurement of a row. `Storage` only if it stands for none.
 fn measurement_of(alloc: Global, row: &MeasurementRow) -> Result<Recorded, StoreFault>
     ensures found { IfOk result (λ recorded. measurement_of_row row.now ≡ Some recorded) }
     ensures storage { result ≡ Err StoreFault.Storage → measurement_of_row row.now ≡ None }

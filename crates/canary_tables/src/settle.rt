@@ -112,7 +112,7 @@ fn is_bound<S: Alter>(
 /// it changes need not be asked.
 ///
 /// # Errors
-/// `Memory` where an allocation was refused, `Storage` where the store failed; nothing changed.
+/// `Memory` if an allocation was refused, `Storage` if the store failed; nothing changed.
 pub(crate) fn settle<S: Alter>(
     conn: &mut Connection<S>,
     alloc: Global,

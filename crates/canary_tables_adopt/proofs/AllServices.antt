@@ -85,7 +85,7 @@ service_more names i name old between new totals more all below at before same o
 pub all_found : (names : List (List ℕ)) (i : ℕ) (old now : State) (totals : Totals) → ServicesSoFar names i old now totals → length names ≤ i → IsUsable now → (t : Tables) → Stores old t → AreTemplatesJudged t → AreServicesFound names t totals
 all_found names i old now totals so_far all usable t has judged = subst (λ ns. AreServicesFound ns t totals) (take_all i names all) (so_far.found usable t has judged)
 
--- where one is refused, not all are as they are to be
+-- if one is refused, not all are as they are to be
 pub service_refused : (names : List (List ℕ)) (i : ℕ) (name : List ℕ) (old between new : State) → i < length names → name ≡ get_or names i name → IsSame old between → IsSame between new → IsUsable new
     → ((t : Tables) → Stores between t → AreTemplatesJudged t → AreWithin t → ¬ IsServiceUnder t name) → (t : Tables) → Stores old t → AreTemplatesJudged t → AreWithin t → ¬ AllByRecursion (IsServiceUnder t) names
 service_refused names i name old between new below at before same usable refused t has judged within all =

@@ -43,7 +43,7 @@ one_more P xs i x old between new below at before same is =
 pub all_judged : {X : Type 0} (P : Tables → X → Type 0) (xs : List X) (i : ℕ) (old now : State) → EachSoFar P xs i old now → length xs ≤ i → IsUsable now → (t : Tables) → Stores old t → AllByRecursion (P t) xs
 all_judged P xs i old now so_far all usable t has = subst (AllByRecursion (P t)) (take_all i xs all) (so_far.judged usable t has)
 
--- where one is refused, not all are as they are to be
+-- if one is refused, not all are as they are to be
 pub one_refused : {X : Type 0} (P : Tables → X → Type 0) (xs : List X) (i : ℕ) (x : X) (old between new : State) → i < length xs → x ≡ get_or xs i x → IsSame old between → IsSame between new → IsUsable new
     → ((t : Tables) → Stores between t → ¬ (AreWithin t × P t x)) → (t : Tables) → Stores old t → ¬ (AreWithin t × AllByRecursion (P t) xs)
 one_refused P xs i x old between new below at before same usable refused t has all =

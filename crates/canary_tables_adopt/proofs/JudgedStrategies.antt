@@ -1,4 +1,4 @@
--- What is told of a strategy, from the templates that are read.
+-- What is reported of a strategy, from the templates that are read.
 use Rattle.std.proofs.Common.{◌≡◌, ◌+◌, ◌<◌, ◌≤◌, ℕ, zero, suc, List, [], ◌∷◌, filter, take, length, get_or, Bool, true, false, Option, Some, None, refl, sym, ap, ◌∙◌, subst}
 use Rattle.std.specs.Prelude.{Ok, Err, cond, slice_get}
 use Rattle.std.specs.FinMap.{get, insert, empty}

@@ -149,7 +149,7 @@ known_old rows i row old between found more x below at before there stays =
 pub known_done : (rows : List BindingRow) (i : ℕ) (old now : State) (found : Found) → KnownSoFar rows i old now found → length rows ≤ i → IsUsable now → (t : Tables) → Stores old t → get found ≡ known_of t rows
 known_done rows i old now found so_far all usable t has = (so_far.value usable t has).value ∙ ap (known_of t) (take_all i rows all)
 
--- where a row names none, not all do
+-- if a row names none, not all do
 pub row_unbound : (rows : List BindingRow) (i : ℕ) (row : BindingRow) (old between new : State) → i < length rows → row ≡ get_or rows i row → IsSame old between → IsSame between new → IsUsable new → ((t : Tables) → Stores between t → IsTemplateOf row t None)
     → (t : Tables) → Stores old t → IsKnownBy rows t None
 row_unbound rows i row old between new below at before same usable none t has all = none t (stores_then old between t before (same usable).0 has) (one_of_all (IsBinding t) rows i row below at all)
@@ -175,7 +175,7 @@ pub bound_told : (t : Tables) (name : List ℕ) (number : ℕ) (rows : List Bind
     → bound ≡ bound_of (known_in t name number) strategy
 bound_told t name number rows known strategy bound are is to = to ∙ ap (λ (k : Templates). bound_of k strategy) (known_told t name number rows (Some (get known)) are is)
 
--- Where templates are judged, a row that names a revision names an accepted one.
+-- If templates are judged, a row that names a revision names an accepted one.
 
 accepted_row : (t : Tables) → AreTemplatesJudged t → (row : BindingRow) (o : Option RevisionRow) → first_row (filter (is_revision row.template row.revision) t.revisions) ≡ o → is_some (option_and_then revision_of_row o) ≡ true → IsBinding t row
 accepted_row t judged row None there some = absurd (cc)

@@ -53,7 +53,7 @@ module _ (runs : List (List MetricValue)) where
       let same : h.0 ≡ k.0 = one_value (measurement_of_row x) h.0 k.0 h.1 k.1 in
       same_end xs (counted_at h.0 a) b c h.3 (subst (λ y. AreCountedTo runs (counted_at y a) xs c) (sym same) k.3)
 
-  -- where the first rows lead to counts, what is next leads on from these
+  -- if the first rows lead to counts, what is next leads on from these
   pub leads_on : (front next rest : List MeasurementRow) (a b c : List (List Counts)) → AreCountedTo runs a front b → AreCountedTo runs a (front ++ (next ++ rest)) c → (d : List (List Counts)) × AreCountedTo runs b next d
   leads_on front next rest a b c first whole =
       let one = split front (next ++ rest) a c whole in
@@ -183,7 +183,7 @@ pages_more name runs most before after old between new so_far same page =
           one_page_more name runs most t before after (so_far.value mid t has) (page usable t (stores_then old between t so_far.same mid has));
     }
 
--- where all are measured, so is the page that comes next
+-- if all are measured, so is the page that comes next
 pub next_page : (name : List ℕ) (runs : List RunRecord) (most : ℕ) (t : Tables) (before : SoFar) → IsSoFar name runs t before → AreMeasured name runs t → (after : SoFar) × IsPageCounted name runs most before t after
 next_page name runs most t before so_far measured =
     let all : List MeasurementRow = measurements_of name t in

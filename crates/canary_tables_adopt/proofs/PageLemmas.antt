@@ -108,7 +108,7 @@ page_more strategy name so_far more old between new before same told =
       value = λ usable t stores. let midway = (same usable).0 in told usable t (stay old between t before.same midway stores) (before.value midway t stores);
     }
 
--- where there are so many runs, there is each of them
+-- if there are so many runs, there is each of them
 pub each_there : (strategy : CheckedStrategy) (name : List ℕ) (t : Tables) (count after last : ℕ) → last ≤ count → HasSuch (AreRunsOf strategy name count) t → AreThere strategy name after last t
 each_there strategy name t count after last within has number above most =
     let place : ℕ = number - 1 in

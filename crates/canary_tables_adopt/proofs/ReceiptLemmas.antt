@@ -1,4 +1,4 @@
--- Rows whose numbers follow one another, where they come in the order of their numbers.
+-- Rows whose numbers follow one another, if they come in the order of their numbers.
 use Rattle.std.proofs.Common.{◌≡◌, ◌⊎◌, inl, inr, ℕ, zero, suc, ◌<◌, ◌≤◌, ◌==◌, List, [], ◌∷◌, Bool, true, false, true≢false, nat_le, nat_lt, refl, sym, ap, ap₂, ◌∙◌, subst, arith, eqb-true, eq-eqb}
 use Rattle.std.specs.Prelude.{◌&&◌, filter, Result, Ok, Err, OnOk}
 use Rattle.std.specs.Str.{bytes_eq}

@@ -94,7 +94,7 @@ one_there rows i row first old between found more memo x below at before there s
 pub all_known : (rows : List BindingRow) (i : ℕ) (first : Memo) (old now : State) (found : Found) (memo : Memo) → RememberedSoFar rows i first old now found memo → length rows ≤ i → IsUsable now → (t : Tables) → Stores old t → AreRevisions first t → (get found ≡ known_of t rows) × AreRevisions memo t
 all_known rows i first old now found memo so_far all usable t has are = let known = so_far.value usable t has are in (known.0.value ∙ ap (known_of t) (take_all i rows all), known.1)
 
--- where a row names none, not all do
+-- if a row names none, not all do
 pub one_unbound : (t : Tables) (rows : List BindingRow) (i : ℕ) (row : BindingRow) → i < length rows → row ≡ get_or rows i row → IsTemplateOf row t None → IsKnownBy rows t None
 one_unbound t rows i row below at none all = none (one_of_all (IsBinding t) rows i row below at all)
 

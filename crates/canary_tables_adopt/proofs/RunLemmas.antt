@@ -141,7 +141,7 @@ module _ (strategy : CheckedStrategy) (name : List ℕ) (number : ℕ) (t : Tabl
       let there : filter (is_run name number) t.runs ≡ row_of_record name r ∷ [] = subst (λ n. filter (is_run name n) t.runs ≡ row_of_record name r ∷ []) run.0 run.1.one in
       same_row row (row_of_record name r) (sym one ∙ are ∙ there)
 
-  -- so that its step has an analysis, where some run is there
+  -- so that its step has an analysis, if some run is there
   pub bound_there : (rows : List RunRow) (row : RunRow) (r : RunRecord) → rows ≡ filter (is_run name number) t.runs → rows ≡ row ∷ [] → IsRunOf strategy name number t r → IsRunBound name number strategy row.step t r.analysis
   bound_there rows row r are one run = subst (λ (x : RunRow). IsRunBound name number strategy x.step t r.analysis) (sym (its_row rows row r are one run)) (has_bindings r run)
 

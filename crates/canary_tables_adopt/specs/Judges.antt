@@ -1,4 +1,4 @@
--- What judging tables tells: that what is judged is so, or that it is not.
+-- What judging tables reports: that what is judged is so, or that it is not.
 use Rattle.std.specs.Prelude.{Result, OnOk}
 use Rattle.sqlite.specs.State.{State}
 use Rattle.canary_tables_rows.specs.Limits.{AreWithin}
@@ -7,13 +7,13 @@ use Rattle.canary_tables_schema.specs.Stores.{IsUsable, Stores}
 use Rattle.canary_tables_read.specs.declared.fault.ReadFault.{ReadFault}
 use Rattle.canary_tables_read.specs.Breaks.{BreaksUnless}
 
--- where it succeeds, this is so of the tables
+-- if it succeeds, this is so of the tables
 abbrev pub FindsThat : {Q A F : Type 0} → (Tables → Type 0) → (Q → State) → Q → Q → Result A F
     → Type 0
 FindsThat P shows old new result =
     IsUsable (shows new) → (t : Tables) → Stores (shows old) t → OnOk result (P t)
 
--- it tells that the tables are broken only where a program cannot hold a row of theirs, or this is
+-- it reports that the tables are broken only if a program cannot hold a row of theirs, or this is
 -- not so of them
 abbrev pub RefusesUnless : {Q A : Type 0} → (Tables → Type 0) → (Q → State) → Q → Q
     → Result A ReadFault → Type 0

@@ -25,7 +25,7 @@ use Rattle.canary_tables_contents.specs.Recounted.{HasOwnVerdict}
 abbrev pub HasSuch : {A : Type 0} → (Tables → A → Type 0) → Tables → Type 0
 HasSuch {A} such t = (value : A) × such t value
 
--- the value that there is, or it tells that there is none; out of memory at any point, and the
+-- the value that there is, or it reports that there is none; out of memory at any point, and the
 -- store is not asked
 abbrev pub IsTold : {A : Type 0} → Option A → Result A ReadFault → Type 0
 IsTold value (Ok found) = value ≡ Some found
@@ -33,7 +33,7 @@ IsTold value (Err Broken) = value ≡ None
 IsTold value (Err Memory) = Unit {0}
 IsTold value (Err Storage) = ⊥
 
--- what a row that is not read tells of the tables
+-- what a row that is not read shows of the tables
 abbrev pub read_fault : RowFault → ReadFault
 read_fault row_fault.Broken = Broken
 read_fault row_fault.Memory = Memory

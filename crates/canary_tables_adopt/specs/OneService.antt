@@ -23,7 +23,7 @@ use Rattle.canary_tables_adopt.specs.Alone.{IsNamed}
 use Rattle.canary_tables_adopt.specs.OfService.{AreRunsOf, AreMeasurementsOf, IsHistoryOf}
 use Rattle.canary_tables_contents.specs.Recounted.{AreTallied}
 
--- Where templates are judged.
+-- If templates are judged.
 
 -- it finds such a value
 abbrev pub FindsJudged : {A : Type 0} → (Tables → A → Type 0) → State → State → Result A ReadFault
@@ -31,7 +31,7 @@ abbrev pub FindsJudged : {A : Type 0} → (Tables → A → Type 0) → State �
 FindsJudged such old new result =
     IsUsable new → (t : Tables) → Stores old t → AreTemplatesJudged t → IfOk result (such t)
 
--- it tells that the tables are broken only where a program cannot hold a row of theirs, or this is
+-- it reports that the tables are broken only if a program cannot hold a row of theirs, or this is
 -- not so of them
 abbrev pub RefusesJudged : {A : Type 0} → (Tables → Type 0) → State → State → Result A ReadFault
     → Type 0

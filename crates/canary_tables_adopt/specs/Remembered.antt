@@ -15,7 +15,7 @@ use Rattle.canary_tables_contents.specs.Judged.{AreTemplatesJudged}
 use Rattle.canary_tables_read.specs.declared.fault.ReadFault.{ReadFault}
 use Rattle.canary_tables_read.specs.declared.fault.ReadFault.TheVariants.{Broken}
 
--- Where something is so of the tables.
+-- If something is so of the tables.
 
 -- it finds such a value
 abbrev pub FindsWhere : {A F : Type 0} → (Tables → Type 0) → (Tables → A → Type 0) → State → State
@@ -23,7 +23,7 @@ abbrev pub FindsWhere : {A F : Type 0} → (Tables → Type 0) → (Tables → A
 FindsWhere given such old new result =
     IsUsable new → (t : Tables) → Stores old t → given t → IfOk result (such t)
 
--- and templates are judged: it tells that the tables are broken only where a program cannot hold a
+-- and templates are judged: it reports that the tables are broken only if a program cannot hold a
 -- row of theirs, or this is not so of them
 abbrev pub RefusesWhere : {A : Type 0} → (Tables → Type 0) → (Tables → Type 0) → State → State
     → Result A ReadFault → Type 0

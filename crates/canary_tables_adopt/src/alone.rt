@@ -4,7 +4,7 @@ ghost use Rattle.canary_tables_adopt.specs.Alone.{only};
 
 use canary_base::lists::Listed;
 
-/// The row, where it is the only one.
+/// The row, if it is the only one.
 pub(crate) fn only<R: Drop>(rows: Listed<R>) -> Option<R>
     ensures { result ≡ only rows }
 {

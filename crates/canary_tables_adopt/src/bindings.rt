@@ -36,13 +36,12 @@ pub(crate) struct Binding {
     pub rows: u64,
 }
 
-/// The templates to which a run of the service is bound, or its present attempt (0); none where one
-/// of its rows of binding names a revision that is not there, or that is read as no accepted
-/// template.
+/// The templates to which a run of the service is bound, or its present attempt (0); none if one of
+/// its rows of binding names a revision that is not there, or that is read as no accepted template.
 ///
 /// # Errors
-/// `Broken` where the tables hold what no program can, `Memory` where there is not enough,
-/// `Storage` where the database fails.
+/// `Broken` if the tables hold what no program can, `Memory` if there is not enough, `Storage` if
+/// the database fails.
 pub fn bound_templates<Q: Reader>(
     conn: &mut Q,
     alloc: Global,
@@ -83,12 +82,12 @@ fn known_by<Q: Reader>(
     Ok(Some(known))
 }
 
-/// The template of the revision that the row names; none where it names none that is there, or that
-/// is read as an accepted template.
+/// The template of the revision that the row names; none if it names none that is there, or that is
+/// read as an accepted template.
 ///
 /// # Errors
-/// `Broken` where the tables hold what no program can, `Memory` where there is not enough,
-/// `Storage` where the database fails.
+/// `Broken` if the tables hold what no program can, `Memory` if there is not enough, `Storage` if
+/// the database fails.
 pub(crate) fn template_of<Q: Reader>(
     conn: &mut Q,
     alloc: Global,
@@ -105,7 +104,7 @@ pub(crate) fn template_of<Q: Reader>(
     Ok(template_in(alloc, &found)?)
 }
 
-// The template of that row; none where it is read as no accepted template.
+// The template of that row; none if it is read as no accepted template.
 fn template_in(alloc: Global, row: &RevisionRow) -> Result<Option<Template>, Memory>
     ensures { IfOk result (IsReadAs row.now) }
 {
@@ -120,8 +119,8 @@ fn template_in(alloc: Global, row: &RevisionRow) -> Result<Option<Template>, Mem
 /// binding but for the templates of its analyses.
 ///
 /// # Errors
-/// `Broken` where it has others, or the tables hold what no program can; `Memory` where there is
-/// not enough, `Storage` where the database fails.
+/// `Broken` if it has others, or the tables hold what no program can; `Memory` if there is not
+/// enough, `Storage` if the database fails.
 pub(crate) fn attempt<Q: Reader>(
     conn: &mut Q,
     alloc: Global,

@@ -32,8 +32,8 @@ const PAGE: u32 = 256;
 /// there are no more kept rows than these.
 ///
 /// # Errors
-/// `Broken` where that is not so, `Memory` where there is not enough, `Storage` where the database
-/// fails or has more rows than are counted.
+/// `Broken` if that is not so, `Memory` if there is not enough, `Storage` if the database fails or
+/// has more rows than are counted.
 pub(crate) fn validate<Q: Reader, G: JudgingProgress>(
     conn: &mut Q,
     alloc: Global,
@@ -50,7 +50,7 @@ pub(crate) fn validate<Q: Reader, G: JudgingProgress>(
     totals::are_all(settled, kept)
 }
 
-// How many requests of these callers are settled, where each is as it is to be.
+// How many requests of these callers are settled, if each is as it is to be.
 fn judge_each<Q: Reader, G: JudgingProgress>(
     conn: &mut Q,
     alloc: Global,

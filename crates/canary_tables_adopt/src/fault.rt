@@ -5,7 +5,7 @@ ghost use Rattle.canary_tables_adopt.specs.OfService.{read_fault};
 use canary_tables_contents::fault::RowFault;
 use canary_tables_read::fault::ReadFault;
 
-/// What a row that is not read tells of the tables.
+/// What a row that is not read shows of the tables.
 pub(crate) fn read_fault(fault: RowFault) -> ReadFault
     ensures { result ≡ read_fault fault }
 {

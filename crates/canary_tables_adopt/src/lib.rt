@@ -1,8 +1,8 @@
 //! Adopting tables: a desk's tables are judged row by row, by reads, before they are believed.
 //!
-//! Callers may rest on this: `validate` is Ok only where the rows are judged, which by
-//! canary_tables_contents are those of sound contents, and `Broken` only where they are not, or a
-//! program cannot hold one of them, and it changes nothing, where the connection is usable then
+//! Callers may rest on this: `validate` is Ok only if the rows are judged, which by
+//! canary_tables_contents are those of sound contents, and `Broken` only if they are not, or a
+//! program cannot hold one of them, and it changes nothing, if the connection is usable then
 //! (canary_tables_schema). `bound_templates` finds the templates to which a run is bound.
 //! `validate` reports to a `JudgingProgress` how many rows there are, and how many it has judged;
 //! no contract mentions that.

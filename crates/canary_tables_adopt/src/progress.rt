@@ -1,6 +1,6 @@
 //! How far the judging of a desk's tables has come.
 
-/// Is told how far the judging of a desk's tables has come.
+/// Gets reports of how far the judging of a desk's tables has come.
 pub trait JudgingProgress {
     /// So many rows are to be judged.
     fn begin(&mut self, rows: u64);
@@ -9,7 +9,7 @@ pub trait JudgingProgress {
     fn judged(&mut self, rows: u64);
 }
 
-/// Tells nobody.
+/// Reports to nobody.
 #[derive(Clone, Copy)]
 pub struct Untold;
 

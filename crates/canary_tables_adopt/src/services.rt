@@ -18,12 +18,11 @@ use canary_tables_read::lists;
 use canary_tables_read::reader::Reader;
 use std::alloc::Global;
 
-/// That each service is as it is to be, where templates are judged, and that no table has other
-/// rows.
+/// That each service is as it is to be, if templates are judged, and that no table has other rows.
 ///
 /// # Errors
-/// `Broken` where that is not so, `Memory` where there is not enough, `Storage` where the database
-/// fails or has more rows than are counted.
+/// `Broken` if that is not so, `Memory` if there is not enough, `Storage` if the database fails or
+/// has more rows than are counted.
 pub(crate) fn validate<Q: Reader, G: JudgingProgress>(
     conn: &mut Q,
     alloc: Global,

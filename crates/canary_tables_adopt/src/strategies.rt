@@ -30,11 +30,11 @@ use canary_tables_read::services;
 use std::alloc::Global;
 
 /// The strategy of a service that was asked for so, which the newest templates of the tables
-/// accept, where these are judged.
+/// accept, if these are judged.
 ///
 /// # Errors
-/// `Broken` where something refuses the strategy, `Memory` where there is not enough, `Storage`
-/// where the database fails.
+/// `Broken` if something refuses the strategy, `Memory` if there is not enough, `Storage` if the
+/// database fails.
 pub(crate) fn strategy<Q: Reader>(
     conn: &mut Q,
     alloc: Global,

@@ -28,8 +28,7 @@ use std::alloc::Global;
 /// that the revisions of each name are numbered from 1 on, to 1,000,000 at most, with no gap.
 ///
 /// # Errors
-/// `Broken` where that is not so, `Memory` where there is not enough, `Storage` where the database
-/// fails.
+/// `Broken` if that is not so, `Memory` if there is not enough, `Storage` if the database fails.
 pub(crate) fn validate<Q: Reader>(conn: &mut Q, alloc: Global) -> Result<(), ReadFault>
     requires ready { Q.IsReady conn.old }
     ensures reads { Reads Q.IsReady Q.place Q.below Q.shows conn.old conn.new }
@@ -114,8 +113,8 @@ fn judge_number<Q: Reader>(conn: &mut Q, key: &RevisionKey) -> Result<(), ReadFa
 /// The template of a row.
 ///
 /// # Errors
-/// `Broken` where the text is not that of a command that adds a template, or where something
-/// refuses the template; `Memory`.
+/// `Broken` if the text is not that of a command that adds a template, or if something refuses the
+/// template; `Memory`.
 pub(crate) fn read(alloc: Global, row: &RevisionRow) -> Result<Template, ReadFault>
     ensures found { IfOk result (IsAcceptedAs row.now) }
     ensures broken { result ≡ Err Broken

@@ -32,7 +32,7 @@ impl Totals {
         }
     }
 
-    /// These and more. `Storage` where a sum is beyond what is counted.
+    /// These and more. `Storage` if a sum is beyond what is counted.
     pub(crate) fn with(self, more: Totals) -> Result<Totals, ReadFault>
         ensures sum { IfOk result (λ sum. sum ≡ record {
           runs = self.runs + more.runs;
@@ -68,8 +68,8 @@ impl Totals {
     }
 }
 
-/// That so many rows are all that the table has, by its count. `Broken` where they are not,
-/// `Storage` where there are more than can be counted.
+/// That so many rows are all that the table has, by its count. `Broken` if they are not, `Storage`
+/// if there are more than can be counted.
 pub(crate) fn are_all(found: u64, count: u64) -> Result<(), ReadFault>
     ensures all { OnOk result
         ((rows : ℕ) → count ≡ min rows 9223372036854775807 → found ≡ rows) }
@@ -87,7 +87,7 @@ pub(crate) fn are_all(found: u64, count: u64) -> Result<(), ReadFault>
     Ok(())
 }
 
-/// One number more. `Storage` where the sum is beyond what is counted.
+/// One number more. `Storage` if the sum is beyond what is counted.
 pub(crate) fn sum(so_far: u64, more: u64) -> Result<u64, ReadFault>
     ensures sum { IfOk result (λ sum. sum ≡ so_far + more) }
     ensures full { IfErr result (λ fault. (fault ≡ Storage) × (2 ^ 64 ≤ so_far + more)) }

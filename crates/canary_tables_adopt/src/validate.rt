@@ -17,8 +17,8 @@ use std::alloc::Global;
 /// judged, 256 at most at once, and a service's rows all at once.
 ///
 /// # Errors
-/// `Broken` where that is not so, or where a row is none that a program can hold; `Memory` where
-/// there is not enough; `Storage` where the database fails, or has more rows than are counted.
+/// `Broken` if that is not so, or if a row is not one that a program can hold; `Memory` if there is
+/// not enough; `Storage` if the database fails, or has more rows than are counted.
 pub fn validate<Q: Reader, G: JudgingProgress>(
     conn: &mut Q,
     alloc: Global,
@@ -33,7 +33,7 @@ pub fn validate<Q: Reader, G: JudgingProgress>(
     judge_all(conn, alloc, progress)
 }
 
-// How many rows `progress` is told of.
+// How many rows are reported to `progress`.
 fn count_rows<Q: Reader>(conn: &mut Q) -> Result<u64, ReadFault>
     requires ready { Q.IsReady conn.old }
     ensures reads { Reads Q.IsReady Q.place Q.below Q.shows conn.old conn.new }

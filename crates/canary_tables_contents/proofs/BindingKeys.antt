@@ -134,7 +134,7 @@ sum_of_keys t =
     sum_by-append (bindings_at t) (map service_key t.services) (map run_key t.runs)
     ∙ (λ i. sum_mapped service_key (bindings_at t) t.services i + sum_mapped run_key (bindings_at t) t.runs i)
 
--- Where no key is that of a run.
+-- If no key is that of a run.
 
 empty_of : {X : Type 0} (xs : List X) → length xs ≤ 0 → xs ≡ []
 empty_of [] few = refl

@@ -50,7 +50,7 @@ first_row k q x o there true e at none =
     ∙ ap (λ (l : Option (List Receipt)). caller_row q (length (unwrap_or l [] ++ x ∷ [])) ∷ []) (sym none)
 first_row k q x o there false e at none = append-nil _
 
--- the row of a caller, with so many settled, where its name passes
+-- the row of a caller, with so many settled, if its name passes
 abbrev recounted : List ℕ → ℕ → List CallerRow → List CallerRow
 recounted k n rows = change_where (is_caller k) (λ (row : CallerRow). record row { settled = n }) rows
 

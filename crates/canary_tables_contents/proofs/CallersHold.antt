@@ -1,4 +1,4 @@
--- Where callers are judged, their rows are those of contents.
+-- If callers are judged, their rows are those of contents.
 use Rattle.std.proofs.Common.{◌≡◌, ◌⊎◌, inl, inr, ℕ, zero, suc, ◌+◌, ◌-◌, ◌≤◌, ◌<◌, List, [], ◌∷◌, length, Bool, true, false, Some, None, refl, sym, ap, ◌∙◌, subst, arith}
 use Rattle.std.specs.Prelude.{Option, cond, filter, slice_get, unwrap_or}
 use Rattle.std.specs.Ordering.{nat_cmp}

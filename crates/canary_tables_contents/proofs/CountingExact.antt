@@ -1,4 +1,4 @@
--- Measurements are counted exactly where their lists are in order, with room, and judged.
+-- Measurements are counted exactly if their lists are in order, with room, and judged.
 use Rattle.std.proofs.Common.{◌≡◌, ℕ, suc, ◌+◌, ◌≤◌, List, [], ◌∷◌, length, true, false, Some, refl, sym, ap, ◌∙◌, subst, arith}
 use Rattle.std.specs.Prelude.{cond, filter, option_map}
 use Rattle.std.specs.List.{AllByRecursion}

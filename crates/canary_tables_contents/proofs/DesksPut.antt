@@ -24,7 +24,7 @@ use Rattle.canary_tables_contents.proofs.Pushed.{rows_at, pushed}
 use Rattle.canary_tables_contents.proofs.SettledPasts.{HaveSamePasts}
 use Rattle.canary_tables_contents.proofs.DesksRuled.{IsUpdate}
 
--- One row more, where there was none of its name.
+-- One row more, if there was none of its name.
 
 pub row_added : {A R : Type 0} (row : List ℕ → A → R) (k q : List ℕ) (x : A) (o there : Option A) (b : Bool) → bytes_eq q k ≡ b → (b ≡ true → o ≡ there) → there ≡ None
     → row_if (row q) o ++ cond b (row k x ∷ []) [] ≡ row_if (row q) (cond b (Some x) o)
@@ -83,7 +83,7 @@ old_row q (Some x) m s effects some count =
     let same : x ≡ m = cc some in
     λ i. record { name = q; spec = command_text (command.Service (sym same i).made); standing = standing_of s.service (count i) }
 
--- the row of a service stands so, where its name passes
+-- the row of a service stands so, if its name passes
 abbrev pub stood : List ℕ → ServiceColumns → List ServiceRow → List ServiceRow
 stood k standing rows = change_where (is_service k) (λ (row : ServiceRow). record row { standing = standing }) rows
 

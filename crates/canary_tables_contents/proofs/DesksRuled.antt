@@ -1,4 +1,4 @@
--- What a change of the desk tells of its command.
+-- What a change of the desk says of its command.
 use Rattle.std.proofs.Common.{◌≡◌, ℕ, ◌+◌, List, length, true, false, Some, None, refl, sym, ap, ◌∙◌, subst}
 use Rattle.std.specs.Prelude.{Option, option_map, Result, Ok, Err}
 use Rattle.std.specs.FinMap.{get}

@@ -20,7 +20,7 @@ one_part c Successful taken h = record { kinds = omega (arith, h.kinds); trailin
 one_part c Pending taken h = record { kinds = omega (arith, h.kinds); trailing = omega arith }
 one_part c Running taken h = record { kinds = omega (arith, h.kinds); trailing = omega arith }
 
--- from the front, behind what is counted already
+-- from the front, after what is counted already
 all_parts : CountsOneMore → (before ms : List Measurement) → AreParts (counts before) → AreParts (counts (before ++ ms))
 all_parts one before [] h = subst (λ (list : List Measurement). AreParts (counts list)) (sym (append-nil before)) h
 all_parts one before (m ∷ ms) h =

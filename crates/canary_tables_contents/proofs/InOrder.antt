@@ -15,7 +15,7 @@ from_kept : {X : Type 0} (p : X → Bool) (P : X → Type 0) (x : X) (xs : List 
 from_kept p P x xs true is all rest = (λ _. all.0, rest all.1)
 from_kept p P x xs false is all rest = (λ e. let no : true ≡ false = sym e ∙ is in absurd (cc), rest all)
 
--- what holds of all that pass holds of each, where it passes
+-- what holds of all that pass holds of each, if it passes
 pub from_filter : {X : Type 0} (p : X → Bool) (P : X → Type 0) (xs : List X) → AllByRecursion P (filter p xs) → AllByRecursion (λ x. p x ≡ true → P x) xs
 from_filter p P [] all = tt
 from_filter p P (x ∷ xs) all = from_kept p P x xs (p x) refl all (from_filter p P xs)

@@ -70,7 +70,7 @@ at_most_these eq key of rows xs = each_in (λ row. length (filter (λ s. eq (key
 equal_by : (a b : ℕ) → a ≤ b → b ≤ a → a ≡ b
 equal_by a b x y = omega arith
 
--- where each has the key of a row, those of the rows' keys are all
+-- if each has the key of a row, those of the rows' keys are all
 pub all_keyed : {K R S : Type 0} (eq : K → K → Bool) → Tells eq → (key : R → K) (of : S → K) (rows : List R) (xs : List S) → HaveOnce eq key rows
     → ((x : S) → IsIn x xs → filter (λ r. eq (of x) (key r)) rows ≡ [] → ⊥) → sum_by (having eq key of xs) rows ≡ length xs
 all_keyed {K} {R} {S} eq tells key of rows xs once some =

@@ -1,4 +1,4 @@
--- Tables are judged exactly where they are those of sound contents.
+-- Tables are judged exactly if they are those of sound contents.
 use Rattle.canary_tables_rows.specs.Tables.{Tables}
 use Rattle.canary_tables_contents.specs.Soundness.{AreSoundTables}
 use Rattle.canary_tables_contents.specs.Judged.{HoldTemplates, CallersAreJudged, TemplatesAreJudged}

@@ -1,4 +1,4 @@
--- Where templates are those of contents, the rows of binding of a run name revisions of them.
+-- If templates are those of contents, the rows of binding of a run name revisions of them.
 use Rattle.std.proofs.Common.{◌≡◌, ℕ, zero, suc, ◌==◌, List, [], Bool, true, false, Some, None, refl, sym, ap, ◌∙◌}
 use Rattle.std.specs.Prelude.{Option, ◌&&◌, filter, slice_get, option_map, option_and_then}
 use Rattle.std.specs.Str.{bytes_eq}

@@ -124,7 +124,7 @@ in_filter p x [] at passes = at
 in_filter p x (y ∷ ys) (inl same) passes = in_kept p x y ys (p y) refl passes (inl same)
 in_filter p x (y ∷ ys) (inr at) passes = in_kept p x y ys (p y) refl passes (inr (in_filter p x ys at passes))
 
--- a row that is there, where the rows of its name are those of what there is
+-- a row that is there, if the rows of its name are those of what there is
 pub record OwnRow {A R : Type 0} (f : A → R) (o : Option A) (row : R) : Type 0 where
   pub value : A
   pub there : o ≡ Some value

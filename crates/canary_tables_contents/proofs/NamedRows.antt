@@ -25,7 +25,7 @@ naming name key xs row = length (filter (names name key row) xs)
 at_least_these : {R S : Type 0} (name : R → List ℕ) (key : S → List ℕ) (rows : List R) (xs : List S) → HaveAtLeast (names name key) (naming name key xs) xs rows
 at_least_these name key rows xs = each_in (λ row. naming name key xs row ≤ length (filter (names name key row) xs)) rows (λ row at. omega arith)
 
--- where those that name rows are all, none has another name
+-- if those that name rows are all, none has another name
 pub no_other_name : {R S : Type 0} (name : R → List ℕ) (key : S → List ℕ) (rows : List R) (xs : List S) → StandOnce name rows → sum_by (naming name key xs) rows ≡ length xs
     → (q : List ℕ) → filter (λ r. bytes_eq q (name r)) rows ≡ [] → filter (λ x. bytes_eq q (key x)) xs ≡ []
 no_other_name name key rows xs once all q none =
@@ -34,7 +34,7 @@ no_other_name name key rows xs once all q none =
 pub has_named : {R S : Type 0} (name : R → List ℕ) (key : S → List ℕ) (rows : List R) (x : S) → (filter (λ r. bytes_eq (key x) (name r)) rows ≡ [] → ⊥) → HasKey (names name key) rows x
 has_named name key rows x some = has_key bytes_eq names_tell name key rows x some
 
--- and where each has the name of a row, they are all
+-- and if each has the name of a row, they are all
 pub all_named : {R S : Type 0} (name : R → List ℕ) (key : S → List ℕ) (rows : List R) (xs : List S) → StandOnce name rows → ((x : S) → IsIn x xs → filter (λ r. bytes_eq (key x) (name r)) rows ≡ [] → ⊥)
     → sum_by (naming name key xs) rows ≡ length xs
 all_named name key rows xs once named = all_keyed bytes_eq names_tell name key rows xs once named

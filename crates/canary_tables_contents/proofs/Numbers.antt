@@ -50,7 +50,7 @@ numbers_together number rows first n each =
     let same : sum_by (λ (k : ℕ). 1) (count_up first n) ≡ n = ones first n in
     omega arith
 
--- and where there are no more, none has another number
+-- and if there are no more, none has another number
 pub no_other_number : {R : Type 0} (number : R → ℕ) (rows : List R) (first n : ℕ) → ((k : ℕ) → first ≤ k → k < first + n → 1 ≤ length (filter (is_numbered number k) rows)) → length rows ≤ n
     → (q : ℕ) → (q < first) ⊎ (first + n ≤ q) → filter (is_numbered number q) rows ≡ []
 no_other_number number rows first n each few q out =

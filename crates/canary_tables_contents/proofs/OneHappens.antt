@@ -25,7 +25,7 @@ pub map_more : {A B : Type 0} (f : A → B) (xs : List A) (x : A) → map f (xs 
 map_more f [] x = refl
 map_more {B = B} f (y ∷ xs) x = ap (λ (ys : List B). f y ∷ ys) (map_more f xs x)
 
--- a line is told
+-- a line is added
 
 pub told_happens : (name : List ℕ) (line : Line) (t : Tables) (p : Past) → ArePastRows t name p → AreNumbered 1 p.runs → OneHappens name (LineAdded line) t p
 told_happens name line t p are numbered = record {

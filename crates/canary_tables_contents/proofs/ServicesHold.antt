@@ -1,4 +1,4 @@
--- Where services are judged, they and all that is theirs are those of sound contents.
+-- If services are judged, they and all that is theirs are those of sound contents.
 use Rattle.std.proofs.Common.{◌≡◌, inl, inr, ℕ, List, [], Some, None, sym, subst}
 use Rattle.std.specs.Prelude.{filter}
 use Rattle.std.specs.List.{AllByRecursion}

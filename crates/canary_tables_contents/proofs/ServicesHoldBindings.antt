@@ -1,4 +1,4 @@
--- Where services are judged, the rows of binding are those of contents.
+-- If services are judged, the rows of binding are those of contents.
 use Rattle.std.proofs.Common.{◌≡◌, inl, inr, true≢false, ℕ, zero, suc, ◌+◌, ◌≤◌, List, [], ◌∷◌, length, Bool, true, false, Some, None, refl, sym, ap, ◌∙◌, subst, arith}
 use Rattle.std.specs.Prelude.{Option, filter, find, map, option_map, slice_get}
 use Rattle.std.specs.Str.{bytes_eq}

@@ -1,4 +1,4 @@
--- Where services are judged, the rows of their measurements and lines are those of contents.
+-- If services are judged, the rows of their measurements and lines are those of contents.
 use Rattle.std.proofs.Common.{◌≡◌, inl, inr, ℕ, List, Bool, true, refl, sym, ap, ◌∙◌, subst}
 use Rattle.std.specs.Prelude.{filter, map}
 use Rattle.std.specs.List.{AllByRecursion}

@@ -1,4 +1,4 @@
--- Where services are judged, their rows and those of their runs are those of contents.
+-- If services are judged, their rows and those of their runs are those of contents.
 use Rattle.std.proofs.Common.{◌≡◌, ◌⊎◌, inl, inr, ℕ, zero, suc, ◌≤◌, List, [], ◌∷◌, length, Bool, Some, None, refl, sym, ap, ◌∙◌, subst, arith}
 use Rattle.std.specs.Prelude.{Option, filter, map, option_map, slice_get}
 use Rattle.std.specs.Str.{bytes_eq}

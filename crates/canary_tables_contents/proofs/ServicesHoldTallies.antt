@@ -1,4 +1,4 @@
--- Where services are judged, the rows of their tallies are those of contents.
+-- If services are judged, the rows of their tallies are those of contents.
 use Rattle.std.proofs.Common.{◌≡◌, inl, inr, true≢false, ℕ, zero, suc, ◌+◌, ◌≤◌, ◌<◌, ◌==◌, List, [], ◌∷◌, length, Bool, true, false, Some, None, refl, sym, ap, ◌∙◌, subst, arith}
 use Rattle.std.specs.Prelude.{Option, ◌&&◌, cond, filter, map, option_map, slice_get}
 use Rattle.std.specs.Str.{bytes_eq}
@@ -102,7 +102,7 @@ have_tallies t = each_in (λ k. tallies_in t k ≤ length (filter (of_run k) t.t
 no_more : (t : Tables) → AreServicesJudged t → length t.tallies ≤ sum_by (tallies_in t) t.runs
 no_more t judged = let all : sum_by (tallies_in t) t.runs ≡ length t.tallies = judged.tallies in omega arith
 
--- where there is no run, there are no tallies of it
+-- if there is no run, there are no tallies of it
 no_tallies_of : (t : Tables) → AreServicesJudged t → (q : List ℕ) (number : ℕ) → filter (is_run q number) t.runs ≡ [] → filter (is_tally_of q number) t.tallies ≡ []
 no_tallies_of t judged q number none =
     no_strays of_run (tallies_in t) t.runs t.tallies (keys_apart same_run of_run own_run runs_apart t.runs (runs_once t judged)) (have_tallies t) (no_more t judged) (is_tally_of q number)

@@ -1,4 +1,4 @@
--- Rows under a key, where one row is added or those of a key are changed, and maps that change at one name.
+-- Rows under a key, when one row is added or those of a key are changed, and maps that change at one name.
 use Rattle.std.proofs.Common.{◌≡◌, ℕ, List, [], ◌∷◌, map, Bool, true, false, Some, refl, sym, ap, ◌∙◌}
 use Rattle.std.specs.Prelude.{Option, cond, if◌then◌else◌, filter}
 use Rattle.std.specs.Ordering.{nat_cmp}

@@ -9,7 +9,7 @@ use Rattle.std.proofs.lemmas.List.Sums.{sum_by-cons}
 abbrev pub Apart : {R : Type 0} → (R → Bool) → (R → Bool) → Type 0
 Apart {R} p q = (row : R) → p row ≡ true → q row ≡ false
 
--- each of the keys is apart from those behind it
+-- each of the keys is apart from those after it
 abbrev pub AreApart : {R K : Type 0} → (K → R → Bool) → List K → Type 0
 AreApart is [] = Unit {0}
 AreApart is (k ∷ ks) = AllByRecursion (λ j. Apart (is k) (is j)) ks × AreApart is ks
@@ -59,7 +59,7 @@ empty_of : {R : Type 0} (rows : List R) → length rows ≤ 0 → rows ≡ []
 empty_of [] none = refl
 empty_of (row ∷ rows) none = absurd (omega arith)
 
--- where there are no more rows, none has a key apart from these
+-- if there are no more rows, none has a key apart from these
 pub no_strays : {R K : Type 0} (is : K → R → Bool) (n : K → ℕ) (ks : List K) (rows : List R) → AreApart is ks → HaveAtLeast is n rows ks → length rows ≤ sum_by n ks
     → (q : R → Bool) → AllByRecursion (λ k. Apart (is k) q) ks → filter q rows ≡ []
 no_strays is n [] rows apart have all q other = ap (filter q) (empty_of rows all)

@@ -33,7 +33,7 @@ none_keyed : {R K : Type 0} (is : K → R → Bool) (f : R → ℕ) (rows : List
 none_keyed is f [] all = refl
 none_keyed is f (row ∷ rows) all = absurd (all.0)
 
--- where each row has one of the keys, which are apart
+-- if each row has one of the keys, which are apart
 sum_by_keys : {R K : Type 0} (is : K → R → Bool) (f : R → ℕ) (ks : List K) (rows : List R) → AreApart is ks → AllByRecursion (HasKey is ks) rows → sum_by f rows ≡ sum_by (λ k. sum_by f (filter (is k) rows)) ks
 sum_by_keys is f [] rows apart all = none_keyed is f rows all
 sum_by_keys is f (k ∷ ks) rows apart all =
@@ -107,7 +107,7 @@ its_own t n name number h =
     let same : by_run n h.row ≡ n name number = λ i. n (h.service i) (h.numbered i) in
     omega arith
 
--- where these are all of a service
+-- if these are all of a service
 sum_of_service : (t : Tables) (n : List ℕ → ℕ → ℕ) (row : ServiceRow) → IsServiceJudged t row → length (runs_of t row.name) ≡ row.standing.runs → sum_by (by_run n) (runs_of t row.name) ≡ to_run n row.name row.standing.runs
 sum_of_service t n row j just =
     let many : ℕ = row.standing.runs in

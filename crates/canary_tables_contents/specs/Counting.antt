@@ -75,7 +75,7 @@ pub record AreListed (runs : List (List MetricValue)) (xs : List Recorded) : Typ
   pub lists : (run place : ℕ) (metric : MetricValue) → of_metric run place runs ≡ Some metric
       → IsList run place metric (filter (is_of run place) xs)
 
--- the law: measurements are counted one after another exactly where their lists are in order and
+-- the law: measurements are counted one after another exactly if their lists are in order and
 -- judged
 abbrev pub CountingIsExact : Type 0
 CountingIsExact =

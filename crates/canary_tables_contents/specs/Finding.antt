@@ -45,7 +45,7 @@ abbrev pub tallies_told : Option RunRecord → List Counts
 tallies_told None = []
 tallies_told (Some r) = r.tallies
 
--- the tallies of a run; none where there is no such run
+-- the tallies of a run; none if there is no such run
 abbrev pub tallies_of : Contents → List ℕ → ℕ → List Counts
 tallies_of c name number = tallies_told (run_of c name number)
 

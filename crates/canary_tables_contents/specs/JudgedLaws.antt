@@ -42,7 +42,7 @@ NameRevisions t name number =
     AllByRecursion (λ (row : BindingRow). is_some (revision_bound t.revisions row) ≡ true)
     (filter (is_binding_of name number) t.bindings)
 
--- where the present attempt has a row of binding for each of its templates, and no others, each
+-- if the present attempt has a row of binding for each of its templates, and no others, each
 -- names a revision
 abbrev pub AttemptsNameRevisions : Type 0
 AttemptsNameRevisions =
@@ -51,7 +51,7 @@ AttemptsNameRevisions =
     ≡ length (distinct (all_revisions (bound_of (known_in t name 0) strategy)))
     → NameRevisions t name 0
 
--- and so where a run has one for each template of its analysis
+-- and so if a run has one for each template of its analysis
 abbrev pub RunsNameRevisions : Type 0
 RunsNameRevisions =
     (t : Tables) (name : List ℕ) (number : ℕ) (strategy : CheckedStrategy) (step : Option ℕ)
@@ -60,10 +60,10 @@ RunsNameRevisions =
     → length (filter (is_binding_of name number) t.bindings) ≡ length (distinct analysis.revisions)
     → NameRevisions t name number
 
--- where templates are those of contents
+-- if templates are those of contents
 abbrev pub ServicesAreJudged : Type 0
 ServicesAreJudged = (t : Tables) → HoldTemplates t → AreServicesJudged t ↔ HoldServices t
 
--- tables are judged exactly where they are those of sound contents
+-- tables are judged exactly if they are those of sound contents
 abbrev pub JudgingIsExact : Type 0
 JudgingIsExact = (t : Tables) → IsJudged t ↔ AreSoundTables t

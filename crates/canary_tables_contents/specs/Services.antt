@@ -37,7 +37,7 @@ use Rattle.canary_tables_contents.specs.Counting.{none_counted, counted_all, Are
 
 -- By key.
 
--- a run is closed exactly where the verdict of its tallies isn't Running
+-- a run is closed exactly if the verdict of its tallies isn't Running
 abbrev pub HasVerdictBy : List MetricValue → List Counts → Option Closing → Type 0
 HasVerdictBy metrics tallies None = verdict_of_counts false (zip metrics tallies) ≡ Running
 HasVerdictBy metrics tallies (Some x) =

@@ -30,7 +30,7 @@ bindings_under t row =
     length (filter (is_binding_of row.name 0) t.bindings)
     + bindings_to t.bindings row.name row.standing.runs
 
--- the law: where each service is judged, and there are no more runs than theirs, the tallies of all
+-- the law: if each service is judged, and there are no more runs than theirs, the tallies of all
 -- runs are those of the services' runs
 abbrev pub RunsAreSummedByService : Type 0
 RunsAreSummedByService =

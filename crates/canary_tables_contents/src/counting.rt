@@ -20,7 +20,7 @@ use std::alloc::Global;
 /// No measurements of any metric of the runs, which are numbered from 1 on.
 ///
 /// # Errors
-/// `Memory` where an allocation was refused.
+/// `Memory` if an allocation was refused.
 pub fn none_counted(alloc: Global, runs: &[RunRecord]) -> Result<Counts, Memory>
     ensures { IfOk result (λ counts. counts ≡ none_counted (metrics_of_runs runs.now)) }
 {
@@ -39,8 +39,8 @@ fn metric_count(run: &RunRecord) -> u32
     run.analysis.metrics().len() as u32
 }
 
-/// Counts the measurement too, where it may come next: it is the next of a metric of its run, and
-/// of the phase that the metric's conditions give its outcome. Tells whether it may. The runs are
+/// Counts the measurement too, if it may come next: it is the next of a metric of its run, and of
+/// the phase that the metric's conditions give its outcome. Answers whether it may. The runs are
 /// numbered from 1 on, and the metrics of each are those of its own analysis.
 pub fn count_next(runs: &[RunRecord], counts: &mut Counts, next: &Recorded) -> bool
     ensures next { IsTrue result ↔ IsNext (metrics_of_runs runs.now) counts.old next.now }

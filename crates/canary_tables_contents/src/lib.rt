@@ -2,8 +2,8 @@
 //! what is stored of runs is what their measurements come to.
 //!
 //! Callers may rest on these laws (`laws`). Tables with just the rows of some contents are read as
-//! these, if all of them can be read back; tables without rows hold empty contents. Where tables
-//! hold contents, a settled request finds what its statements ask for, and after them they hold the
+//! these, if all of them can be read back; tables without rows hold empty contents. If tables hold
+//! contents, a settled request finds what its statements ask for, and after them they hold the
 //! contents with that request; under each key stands one row at most, and what is sought under it
 //! is read of its rows, and none is left out. `writing` and `reading` turn values into what rows
 //! have, and back; what stands for no value is `Broken`.
@@ -16,7 +16,7 @@
 //!     }
 //!
 //! And on these (`judged_laws`): the tables with just the rows of some sound contents are the sound
-//! ones, and tables are judged exactly where they are sound. Callers, templates and services are
+//! ones, and tables are judged exactly if they are sound. Callers, templates and services are
 //! judged by what stands under each key that their rows name, and by how many rows there are; what
 //! a run is bound to by its own rows of binding; measurements by counting one after another.
 //! Whoever judges tables calls the law `judging`.
@@ -29,9 +29,9 @@
 //!     validate(conn, alloc, progress)?;
 //!
 //! Measurements are counted anew: from `none_counted` on, `count_next` takes a measurement exactly
-//! where it may come next (`IsNext`), and counts it; `are_of` holds exactly where the counts are
-//! the tallies of the runs; `has_own_verdict` holds exactly where `HasOwnVerdict` does. The metrics
-//! of a run are those of its own analysis.
+//! if it may come next (`IsNext`), and counts it; `are_of` holds exactly if the counts are the
+//! tallies of the runs; `has_own_verdict` holds exactly if `HasOwnVerdict` does. The metrics of a
+//! run are those of its own analysis.
 //!
 //! In use (canary_tables_adopt, src/one_service/measured.rt):
 //!

@@ -36,7 +36,7 @@ use std::alloc::Global;
 /// The receipt of a row, whose command's text it keeps.
 ///
 /// # Errors
-/// `Broken` where the text is no command's canonical text, or the status is neither 200 nor 422;
+/// `Broken` if the text is no command's canonical text, or the status is neither 200 nor 422;
 /// `Memory`.
 pub fn receipt(alloc: Global, row: KeptRow) -> Result<Receipt, RowFault>
     ensures { IsRowRead (receipt_of_row row) result }
@@ -91,7 +91,7 @@ fn bound(alloc: Global, spec: &TemplateSpec, revision: u32) -> Result<Template, 
 /// The service that this text makes, as it was asked for.
 ///
 /// # Errors
-/// `Broken` where the text is not that of a command that makes a service; `Memory`.
+/// `Broken` if the text is not that of a command that makes a service; `Memory`.
 pub fn made(alloc: Global, spec: &str) -> Result<ServiceSpec, RowFault>
     ensures { IsRowRead (made_from (canonical_in spec.now)) result }
 {
@@ -104,7 +104,7 @@ pub fn made(alloc: Global, spec: &str) -> Result<ServiceSpec, RowFault>
 /// How the service of that name and strategy stands, which is bound so.
 ///
 /// # Errors
-/// `Broken` where a number is of no state, hold or truth value; `Memory`.
+/// `Broken` if a number is of no state, hold or truth value; `Memory`.
 pub fn service(
     name: Name,
     strategy: &Strategy,
@@ -182,10 +182,10 @@ fn phase_of(number: u32) -> Result<Phase, RowFault>
     }
 }
 
-/// How the run of that number was closed; none where it is open.
+/// How the run of that number was closed; none if it is open.
 ///
 /// # Errors
-/// `Broken` where a number is of no truth value or phase, or an open run has an outcome.
+/// `Broken` if a number is of no truth value or phase, or an open run has an outcome.
 pub fn closing(number: u32, ending: &ClosingColumns) -> Result<Option<Closing>, RowFault>
     ensures { IsRowTold (closing_of number ending.now) result }
 {
@@ -204,7 +204,7 @@ pub fn closing(number: u32, ending: &ClosingColumns) -> Result<Option<Closing>, 
 /// The measurement of a row.
 ///
 /// # Errors
-/// `Broken` where the number is of no phase that is kept, or the text of no outcome; `Memory`.
+/// `Broken` if the number is of no phase that is kept, or the text of no outcome; `Memory`.
 pub fn measurement(alloc: Global, row: &MeasurementRow) -> Result<Recorded, RowFault>
     ensures { IsRowRead (measurement_of_row row.now) result }
 {
@@ -225,7 +225,7 @@ pub fn measurement(alloc: Global, row: &MeasurementRow) -> Result<Recorded, RowF
 /// The line of a row.
 ///
 /// # Errors
-/// `Broken` where the words are of no event.
+/// `Broken` if the words are of no event.
 pub fn line(row: &HistoryRow) -> Result<Line, RowFault>
     ensures { IsRowTold (line_of_row row.now) result }
 {

@@ -10,7 +10,7 @@ use canary_metric::verdict::{is_completed, verdict};
 use canary_once::record::RunRecord;
 use canary_release::effect::Closing;
 
-/// Whether the run is closed, or open, as the verdict of its tallies tells, by the metrics of its
+/// Whether the run is closed, or open, as the verdict of its tallies says, by the metrics of its
 /// own analysis.
 pub fn has_own_verdict(run: &RunRecord) -> bool
     ensures { IsTrue result ↔ HasOwnVerdict run.now }
@@ -18,7 +18,7 @@ pub fn has_own_verdict(run: &RunRecord) -> bool
     has_verdict(run.analysis.metrics(), run.tallies.as_slice(), run.closed)
 }
 
-// Whether a run with these metrics and tallies is closed, or open, as their verdict tells.
+// Whether a run with these metrics and tallies is closed, or open, as their verdict says.
 fn has_verdict(metrics: &[Metric], tallies: &[Tally], closed: Option<Closing>) -> bool
     ensures { IsTrue result ↔ HasVerdictBy metrics.now tallies.now closed }
 {

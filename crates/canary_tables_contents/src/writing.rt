@@ -9,7 +9,7 @@ use canary_release::service::ServiceParts;
 use canary_release::state::ReleaseState;
 use canary_tables_rows::rows::ServiceColumns;
 
-/// How a service stands, as a row tells it.
+/// How a service stands, as a row gives it.
 pub fn standing(parts: &ServiceParts) -> ServiceColumns
     ensures { result ≡ standing_of parts.now.service parts.now.runs.count }
 {

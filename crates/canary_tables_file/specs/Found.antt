@@ -1,6 +1,7 @@
 -- What is found in files that are opened.
 use Rattle.std.specs.Prelude.{◌≡◌, List, true, IsTrue}
-use Rattle.sqlite.specs.Files.{HoldsDatabase, IsEmpty}
+use Rattle.sqlite.specs.Files.{IsEmpty}
+use Rattle.sqlite.specs.Opening.{HoldsIn}
 use Rattle.sqlite_disk.specs.declared.Disk.{Ghosts}
 use Rattle.sqlite_wal.specs.Recovery.{Image, Pages}
 use Rattle.sqlite_wal.specs.Files.{seen_image}
@@ -19,9 +20,9 @@ use Rattle.sqlite_trees.specs.Tree.{Trees}
 abbrev pub HaveNoDatabase : Image → Type 0
 HaveNoDatabase = IsBlankFile 512
 
--- they are a database with nothing in it
+-- they are a database with nothing in it, of pages of 512 bytes
 abbrev pub HoldNothing : Image → Type 0
-HoldNothing image = (db : Trees) × HoldsDatabase image db × IsEmpty db
+HoldNothing image = (db : Trees) × HoldsIn 512 image db × IsEmpty db
 
 module _ {D : Type 0} {g : Ghosts D} where
   -- the store's pages are those that these contents of a log and a database file stand for

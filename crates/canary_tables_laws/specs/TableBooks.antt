@@ -31,7 +31,7 @@ IsIntact s = HasCleanDisk s × IsTrue s.is_open
 abbrev pub rows_say : State → Contents
 rows_say s = contents_of (tables_in s.now)
 
--- the book over a connection is honest exactly where that is live, is in memory exactly where each
+-- the book over a connection is honest exactly if that is live, is in memory exactly if each
 -- connection to such a store is live, and contains what the rows say
 pub record IsOfItsRows {S : Type 0} (g : Ghosts S) (h : Held S) (b : BookState) : Type 0 where
   pub honest : IsIntact (state g h) → b.is_honest
@@ -90,7 +90,7 @@ IsDeskWithMeta db =
 abbrev pub HoldsSoundRows : Database → Type 0
 HoldsSoundRows db = (t : Tables) × (IsHeld db t × (AreWithin t × AreSoundTables t))
 
--- What is left of a connection where a database is refused.
+-- What is left of a connection if a database is refused.
 
 -- the database is as it was: a connection shows that, and of a store alone its trees
 abbrev pub IsAsItWas : {S : Type 0} → Ghosts S → State → Unadopted S → Type 0
@@ -98,7 +98,7 @@ IsAsItWas g old (left.Connection conn) =
     IsIntact (state g conn) → IsIntact old × ((state g conn).now ≡ old.now)
 IsAsItWas g old (left.Store store) = IsLeft old (g.view store)
 
--- no more than a store is left only where memory was refused or the store failed
+-- no more than a store is left only if memory was refused or the store failed
 abbrev pub MayLoseConnection : {S : Type 0} → TableFault → Unadopted S → Type 0
 MayLoseConnection f (left.Connection conn) = Unit {0}
 MayLoseConnection f (left.Store store) = (f ≡ fault.Memory) ⊎ (f ≡ fault.Storage)

@@ -10,8 +10,8 @@ use canary_tables::book::TableBook;
 use canary_tables::laws as table_laws;
 use sqlite::{Alter, MemStore};
 
-/// However a book over tables came about, its store is honest exactly where its connection is open
-/// and its disk did not fail, and it contains what the rows of its tables say.
+/// However a book over tables came about, its store is honest exactly if its connection is open and
+/// its disk did not fail, and it contains what the rows of its tables say.
 pub fn table_books<S: Alter>()
     ensures { AreOfTheirRows S.Store ⟦<TableBook<S> as Book>⟧.state }
 {}
@@ -21,9 +21,8 @@ pub fn memory_tables()
     ensures { AreHonestMemory ⟦<TableBook<MemStore> as Book>⟧.state }
 {}
 
-/// However a book over tables came about, as by `create`, by `adopt` and by each `commit`: where
-/// its connection is open and its disk did not fail, its tables are just the rows of what it
-/// contains.
+/// However a book over tables came about, as by `create`, by `adopt` and by each `commit`: if its
+/// connection is open and its disk did not fail, its tables are just the rows of what it contains.
 pub fn tables<S: Alter>(book: &TableBook<S>)
     ensures { IsIntact (state S.Store book.now)
         → HasItsTables (state S.Store book.now) (⟦<TableBook<S> as Book>⟧.state book.now) }
@@ -32,8 +31,8 @@ pub fn tables<S: Alter>(book: &TableBook<S>)
 }
 
 /// What each fault becomes: memory that is refused stays that, and so does a store that fails. A
-/// row that stands for no value is a broken row where a database is judged, and a failed store
-/// where a book is read.
+/// row that stands for no value is a broken row when a database is judged, and a failed store when
+/// a book is read.
 pub fn faults()
     ensures sqlite { AreSqliteFaults }
     ensures reads { AreReadFaults }

@@ -87,7 +87,7 @@ module _ (lost : Value) (tree : ℕ) (tests shown : List Term) (order : List (Te
       let kept : a.kept ≡ map put_out (filter (passes tests params) (db tree)) = a.distinct ∙ ap (map (output q)) found ∙ map-map (output q) (λ r. params ∷ r ∷ []) _ in
       record { ordered = a.ordered; same = subst (λ xs. IsPermutation xs a.ordered) kept a.same; sorted = a.sorted; shown_are = a.shown }
 
-  -- where the rows rise in the order of the query, the answer is a page of them
+  -- if the rows rise in the order of the query, the answer is a page of them
   pub rising_answer : IsAscending (λ a b. output_cmp q (put_out a) (put_out b) ≡ Less) (filter (passes tests params) (db tree)) → IsOrdered → rows ≡ page q params (map (shows shown params) (filter (passes tests params) (db tree)))
   rising_answer rises a =
       let all = filter (passes tests params) (db tree) in

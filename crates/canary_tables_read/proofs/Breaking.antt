@@ -1,4 +1,4 @@
--- Rows that a program cannot hold, where one of them is shown.
+-- Rows that a program cannot hold, if one of them is shown.
 use Rattle.std.proofs.Common.{◌≡◌, ◌<◌, ℕ, zero, suc, List, [], ◌∷◌, length, map, take, drop, get_or, slice_get, Some, sym, arith, IsPermutation}
 use Rattle.std.specs.List.{AllByRecursion}
 use Rattle.std.proofs.lemmas.List.Elements.{recursion_from_All, All-from_recursion}
@@ -6,7 +6,7 @@ use Rattle.std.proofs.lemmas.List.Sorted.{All-permutation}
 use Rattle.sqlite.specs.Order.{Row}
 use Rattle.canary_tables_read.specs.Finds.{TellsCells}
 
--- what tells rows within limits, where each row that is shown tells one
+-- what gives rows within limits, if each row that is shown gives one
 module _ {X : Type 0} (cells : X → Row) (whole : Row → Row) (Within : X → Type 0) where
   pub one_broken : (rows : List Row) (i : ℕ) (d : Row) → i < length rows → ((x : X) → cells x ≡ whole (get_or rows i d) → Within x → ⊥) → (all : List X) → map cells all ≡ map whole rows → AllByRecursion Within all → ⊥
   one_broken [] i d lt none all same within = absurd (omega arith)
@@ -22,7 +22,7 @@ module _ {X : Type 0} (cells : X → Row) (whole : Row → Row) (Within : X → 
       let here : cells x ≡ whole r = cc in
       none x (rw is at here) within.0
 
--- the rows that are told are not all within limits
+-- the rows that are given are not all within limits
 pub unless_broken : {X : Type 0} (cells : X → Row) (whole : Row → Row) (Within : X → Type 0) (told : List X) (rows : List Row) → TellsCells cells whole told rows → ((all : List X) → map cells all ≡ map whole rows → AllByRecursion Within all → ⊥) → AllByRecursion Within told → ⊥
 unless_broken cells whole Within told rows tells broken within = broken told (sym tells) within
 

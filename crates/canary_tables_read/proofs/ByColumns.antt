@@ -32,7 +32,7 @@ same_number m n e = let some : Some m ≡ Some n = sym (number_back m) ∙ ap nu
 same_whole : (m n : ℕ) → integer m ≡ integer n → m ≡ n
 same_whole m n e = cc
 
--- counts are told by the columns behind the first two
+-- counts are given by the columns after the first two
 pub counts_same : (row : Row) (c d : Counts) (first second : Value) → row ≡ first ∷ second ∷ counts_cells c → column row 2 ≡ integer d.counted → column row 3 ≡ integer d.failed → column row 4 ≡ integer d.inconclusive → column row 5 ≡ integer d.errors
     → column row 6 ≡ integer d.consecutive → column row 7 ≡ integer d.passes → column row 8 ≡ whole_or_null d.last → c ≡ d
 counts_same row c d first second is counted failed inconclusive errors consecutive passes last =

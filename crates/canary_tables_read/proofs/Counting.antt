@@ -102,7 +102,7 @@ counts_found text tree counts cells xs old new params rows at schema stores h =
     let long : length (old.now.trees (tree at)) ≡ length xs = sym (mapped_length (drop 1) (old.now.trees (tree at))) ∙ ap length stores ∙ mapped_length cells xs in
     count_answer Null (tree at) old.now.trees params rows ((reads_as text params old new (schema_at at) schema _ asks.is asks.plain asks.unlisted rows h).answer Null) ∙ ap (λ n. (count n ∷ []) ∷ []) long
 
--- the first of the rows tells how many
+-- the first of the rows says how many
 pub count_found : {X : Type 0} (text : List ℕ) (tree : Layout → ℕ) → Counts text tree → (cells : X → Row) (xs : List X) (old new : State) (params : Row) (rows : List Row) (n : ℕ) (at : Layout) → old.now.schema ≡ schema_at at → cells_of (old.now.trees (tree at)) ≡ map cells xs
     → Shown text params old new rows → column (slice_index_or rows 0 []) 0 ≡ integer n → n ≡ min (length xs) 9223372036854775807
 count_found text tree counts cells xs old new params rows n at schema stores h told =

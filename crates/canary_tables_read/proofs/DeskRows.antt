@@ -1,4 +1,4 @@
--- The tables of a desk, whose rows are those of tables where no number is negative.
+-- The tables of a desk, whose rows are those of tables if no number is negative.
 use Rattle.std.proofs.Common.{◌≡◌, ◌&&◌, ◌++◌, ℕ, suc, List, [], ◌∷◌, length, drop, false, true, codes, refl, sym, ap, subst, ◌∙◌, arith}
 use Rattle.std.specs.List.{AllByRecursion}
 use Rattle.sqlite.specs.declared.types.Value.TheVariants.{Null}

@@ -106,7 +106,7 @@ same_templates xs ys e = same_rows template_cells template_back template_again x
 pub same_tallies : (xs ys : List FirstTally) → map first_tally_cells xs ≡ map first_tally_cells ys → xs ≡ ys
 same_tallies xs ys e = same_rows first_tally_cells tally_back tally_again xs ys e
 
--- one of the rows that are shown is none that a program can hold
+-- one of the rows that are shown is not one that a program can hold
 pub one_unheld : {X : Type 0} (cells : X → Row) (Within : X → Type 0) (rows : List Row) (i : ℕ) (d : Row) → i < length rows → ((x : X) → cells x ≡ get_or rows i d → Within x → ⊥) → (all : List X) → map cells all ≡ rows → AllByRecursion Within all → ⊥
 one_unheld cells Within [] i d lt none all same within = absurd (omega arith)
 one_unheld cells Within (row ∷ rows) i d lt none [] same within = absurd (cc)

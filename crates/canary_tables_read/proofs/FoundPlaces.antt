@@ -221,11 +221,11 @@ after_rows old new t service place most params rows has given h =
     ∙ ap (map placed_cells) (sym (filter_both (λ (p : MeasurementAt). int_lt place p.place) (λ p. is_measurement_of service p.row) (placed_in old.now))) in
     ap (map whole_row) are ∙ taken whole_row most all ∙ ap (take most) told ∙ sym (taken placed_cells most above_it)
 
--- what is read of the rows that are shown is what they tell
+-- what is read of the rows that are shown is what they give
 pub read_so : (whole_row : Row → Row) (rows : List Row) (told found : List MeasurementAt) → TellsCells placed_cells whole_row told rows → map placed_cells found ≡ map whole_row rows → found ≡ told
 read_so whole_row rows told found tells read = told_all placed_cells placed_back (λ p. refl) whole_row rows told found tells read
 
--- those of the service are within limits where all measurements are
+-- those of the service are within limits if all measurements are
 pub within_for : (Within : MeasurementRow → Type 0) (db : Database) (t : Tables) (service : List ℕ) → IsHeld db t → AllByRecursion Within t.measurements → AllByRecursion (λ (p : MeasurementAt). Within p.row) (placed_for service db)
 within_for Within db t service has within =
     all-filter (λ (p : MeasurementAt). Within p.row) (λ p. is_measurement_of service p.row) (placed_in db) (all_unmap Within (λ (p : MeasurementAt). p.row) (placed_in db) (subst (AllByRecursion Within) (sym (holds_placed db t has).typed_are) within))

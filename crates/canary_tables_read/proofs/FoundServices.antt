@@ -101,7 +101,7 @@ twice : (b : Bool) → not (not b) ≡ b
 twice true = refl
 twice false = refl
 
--- a row is shown where one passes the test
+-- a row is shown if one passes the test
 some_shown : {X : Type 0} (whole : Row → Row) (told : X → Row) (test : X → Bool) (xs : List X) (rows : List Row) → map whole rows ≡ map told (filter test xs) → not (length rows == 0) ≡ list_any test xs
 some_shown whole told test xs rows found = ap (λ n. not (n == 0)) (same_length whole told rows (filter test xs) found) ∙ ap not (none_counted test xs) ∙ twice _
 
@@ -115,7 +115,7 @@ tells_bound service = record {
   shown = λ id x h. refl;
 }
 
--- a row is shown where the attempt is bound
+-- a row is shown if the attempt is bound
 pub has_bindings_found : (old new : State) (t : Tables) (service : List ℕ) (params : Row) (rows : List Row) → Stores old t → params ≡ Words service ∷ [] → Shown has_bindings_text params old new rows
     → not (length rows == 0) ≡ list_any (is_binding_of service 0) t.bindings
 has_bindings_found old new t service params rows has given h =

@@ -19,7 +19,7 @@ module _ {X : Type 0} (p q : X → Bool) where
   filter_both [] = refl
   filter_both (x ∷ xs) = both_step (q x) (p x) x (filter q xs) (filter (λ y. q y && p y) xs) (filter_both xs) refl
 
--- Where fewer than were asked for pass a test, and none that passes comes behind one that does not, these are all.
+-- If fewer than were asked for pass a test, and none that passes comes after one that does not, these are all.
 module _ {X : Type 0} (p : X → Bool) where
   abbrev PassFirst : List X → Type 0
   PassFirst = IsAscending (λ x y. p y ≡ true → p x ≡ true)

@@ -11,7 +11,7 @@ use Rattle.canary_tables_read.specs.declared.lists.RevisionKey.{RevisionKey}
 use Rattle.canary_tables_read.specs.Keys.{key_of}
 use Rattle.canary_tables_read.specs.Readable.{name_in, number_in, caller_with, key_with}
 
--- where one is none, they are not all there
+-- if one is none, they are not all there
 pub one_missing : {A B : Type 0} (f : A → Option B) (rows : List A) (i : ℕ) (d : A) (all : List B) → i < length rows → f (get_or rows i d) ≡ None → map f rows ≡ map Some all → ⊥
 one_missing f [] i d all lt none same = omega arith
 one_missing f (row ∷ rows) i d [] lt none same = cc

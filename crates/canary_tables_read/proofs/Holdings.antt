@@ -35,7 +35,7 @@ abbrev pub columns_of : List Holding → List Column
 columns_of [] = []
 columns_of (k ∷ ks) = column_of k ∷ columns_of ks
 
--- The values of a row, where a number may be negative.
+-- The values of a row, if a number may be negative.
 abbrev pub Raw : List Holding → Type 0
 Raw [] = Unit {0}
 Raw (text name ∷ ks) = List ℕ × Raw ks
@@ -52,7 +52,7 @@ raw_cells (text name ∷ ks) r = Words r.0 ∷ raw_cells ks r.1
 raw_cells (number name ∷ ks) r = Int r.0 ∷ raw_cells ks r.1
 raw_cells (number_or_none name ∷ ks) r = int_or_null r.0 ∷ raw_cells ks r.1
 
--- And where none is.
+-- And if none is.
 abbrev pub FromFirstRow : List Holding → Type 0
 FromFirstRow [] = Unit {0}
 FromFirstRow (text name ∷ ks) = List ℕ × FromFirstRow ks
@@ -159,7 +159,7 @@ maybe_whole : (o : Option ℤ) → is_negative (int_or_null o) ≡ false → (n 
 maybe_whole None h = (None, refl)
 maybe_whole (Some z) h = let n = number_whole z h in (Some n.0, n.1)
 
--- where no number is negative, all are whole
+-- if no number is negative, all are whole
 pub all_whole : (ks : List Holding) (r : Raw ks) (at : ℕ) (row : Row) → StandFrom at row (raw_cells ks r) → has_negative row (numbers_at at ks) ≡ false → (v : FromFirstRow ks) × (raw_cells ks r ≡ told_cells ks v)
 all_whole [] r at row h e = (tt, refl)
 all_whole (text name ∷ ks) r at row h e =

@@ -180,7 +180,7 @@ module _ (n : ℕ) where
   tests_by_row : (row : Row) → meta_shown row ≡ integer 1 ∷ integer n ∷ [] → passes (is_row n) [] row ≡ true
   tests_by_row row e = both_true _ _ (value_equal (column row 0) 1 (ap (λ (r : Row). column r 0) e)) (value_equal (column row 2) n (ap (λ (r : Row). column r 1) e))
 
-  -- it is there where some row passes
+  -- it is there if some row passes
   is_there : (rows : List Row) → AllByRecursion HasNumbers rows → (AllByRecursion (λ row. passes (is_row n) [] row ≡ false) rows → ⊥) → HasMetaRow n rows
   is_there [] numbers some = absurd (some tt)
   is_there (row ∷ rows) numbers some = by_test (is_there rows numbers.1) (passes (is_row n) [] row) refl
@@ -195,7 +195,7 @@ module _ (n : ℕ) where
   not_there (row ∷ rows) none (zero, lt, e) = absurd (let p = tests_by_row row e in let q = none.0 in cc)
   not_there (row ∷ rows) none (suc k, lt, e) = not_there rows none.1 (k, omega (arith, lt), e)
 
-  -- no other is there where none passes
+  -- no other is there if none passes
   alone : (rows : List Row) → IsNumbered rows → AllByRecursion HasNumbers rows → AllByRecursion (λ row. passes is_other [] row ≡ false) rows → HasMetaRow n rows → map meta_shown rows ≡ (integer 1 ∷ integer n ∷ []) ∷ []
   alone [] rising numbers none (k, lt, e) = absurd (omega (arith, lt))
   alone (row ∷ []) rising numbers none (zero, lt, e) = ap (λ r. r ∷ []) e

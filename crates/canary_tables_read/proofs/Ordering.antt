@@ -40,7 +40,7 @@ at_most m n h = grind (arith, ints, nat_tests)
 pub not_above : (m n : ℕ) → is_gt (value_cmp (number m) (number n)) ≡ false → m ≤ n
 not_above m n h = at_most m n (rw (value_cmp-Int (pos m) (pos n)) at h)
 
--- where each key is at most those behind it, none falls
+-- if each key is at most those after it, none falls
 at_least : {X : Type 0} (key : X → ℕ) (m : ℕ) (xs : List X) → AllByRecursion (λ y. m ≤ key y) xs → (j : ℕ) (d : X) → j < length xs → m ≤ key (slice_index_or xs j d)
 at_least key m [] h j d lt = absurd (omega arith)
 at_least key m (x ∷ xs) h zero d lt = h.0

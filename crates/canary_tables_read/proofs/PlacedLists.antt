@@ -6,7 +6,7 @@ use Rattle.sqlite.specs.Tree.{IsAscending}
 use Rattle.sqlite_keyed.proofs.ListLemmas.{filter_none, all_weaker}
 
 module _ {X : Type 0} (place : X → ℤ) where
-  -- each place is below those behind it
+  -- each place is below those after it
   abbrev pub Rise : List X → Type 0
   Rise = IsAscending (λ x y. int_lt (place x) (place y) ≡ true)
 
@@ -46,7 +46,7 @@ module _ {X : Type 0} (place : X → ℤ) where
       let none = all_weaker _ (λ y. int_le (place y) at ≡ false) (λ y k. beyond at (place x) (place y) h k) xs rest in
       rw (h, either at (place x) false h, none_up_to at xs none) (ap (λ (ys : List X). x ∷ ys) (all_above at xs none))
 
-  -- those above a place come behind those up to it
+  -- those above a place come after those up to it
   pub above_are : (at : ℤ) (xs : List X) → Rise xs → above at xs ≡ drop (length (up_to at xs)) xs
   above_are at [] up = refl
   above_are at (x ∷ xs) up = cut_step at (int_le (place x) at) x xs refl up.0 (above_are at xs up.1)

@@ -88,7 +88,7 @@ shown_unchanged sql params old new rows query h =
 usable_before : (old new : State) (P : _) → Survives old new P → (IsTrue new.is_open → IsTrue old.is_open) → IsUsable new → IsUsable old
 usable_before old new P kept was u = record { clean = omega (arith, kept.clean, u.clean); is_open = was u.is_open }
 
--- what was committed stays, also where a failure undid the transaction
+-- what was committed stays, also if a failure undid the transaction
 committed_stays : (old new : State) → (h : IsUnchanged old new ⊎ IsRolledBack old new) → IsTrue new.is_open → new.committed ≡ old.committed
 committed_stays old new (inl h) live = h.0.committed_is
 committed_stays old new (inr h) live = (h.undone live).1

@@ -1,4 +1,4 @@
--- Texts that show a row where one passes the tests.
+-- Texts that show a row if one passes the tests.
 use Rattle.std.proofs.Common.{◌≡◌, ◌==◌, ℕ, suc, pos, List, [], ◌∷◌, length, map, filter, take, if◌then◌else◌, Bool, true, false, refl, sym, ap, ◌∙◌, arith}
 use Rattle.std.specs.List.{AllByRecursion}
 use Rattle.std.proofs.lemmas.List.Sorted.{length_permutation}
@@ -31,7 +31,7 @@ or_below test (at ∷ places) = or_below (op2 Or test (below at)) places
 abbrev pub only_one : Term
 only_one = lit (Int (pos 1))
 
--- under a schema a text asks for 1 where a row of the tree passes the tests
+-- under a schema a text asks for 1 if a row of the tree passes the tests
 pub record SeeksIn (schema : Schema) (text : List ℕ) (tree : ℕ) (tests : List Term) : Type 0 where
   pub names : List (List ℕ)
   pub is : command_of (understood schema text) ≡ Select (record { lets = []; body = query_of tree tests (only_one ∷ []) [] only_one from_start }) names
@@ -78,14 +78,14 @@ module _ (text : List ℕ) (tree : ℕ) (tests : List Term) (old new : State) (r
   as_many : (s : IsSought) → length (filter (passes tests []) (old.now.trees tree)) ≡ length s.ordered
   as_many s = sym (mapped_length (put_out Null tree tests (only_one ∷ []) [] only_one from_start old.now.trees [] rows) (filter (passes tests []) (old.now.trees tree))) ∙ sym (length_permutation _ s.ordered s.same)
 
--- where no row is shown, none passes
+-- if no row is shown, none passes
 pub none_passes : (text : List ℕ) (tree : ℕ) (tests : List Term) (old new : State) (schema : Schema) → old.now.schema ≡ schema → SeeksIn schema text tree tests → Shown text [] old new [] → AllByRecursion (λ row. passes tests [] row ≡ false) (old.now.trees tree)
 none_passes text tree tests old new schema is asks h =
     let s = sought text tree tests old new [] schema is asks h in
     let cut : [] ≡ take 1 (map (λ (o : Output). o.1) s.ordered) = s.shown_are in
     none_kept (passes tests []) (old.now.trees tree) (as_many text tree tests old new [] s ∙ empty_by (λ (o : Output). o.1) s.ordered cut)
 
--- where a row is shown, one passes
+-- if a row is shown, one passes
 pub one_passes : (text : List ℕ) (tree : ℕ) (tests : List Term) (old new : State) (row : Row) (rows : List Row) (schema : Schema) → old.now.schema ≡ schema → SeeksIn schema text tree tests → Shown text [] old new (row ∷ rows)
     → AllByRecursion (λ row. passes tests [] row ≡ false) (old.now.trees tree) → ⊥
 one_passes text tree tests old new row rows schema is asks h none =
@@ -93,7 +93,7 @@ one_passes text tree tests old new row rows schema is asks h none =
     let cut : row ∷ rows ≡ take 1 (map (λ (o : Output). o.1) s.ordered) = s.shown_are in
     full_by (λ (o : Output). o.1) row rows s.ordered cut (sym (as_many text tree tests old new (row ∷ rows) s) ∙ ap length (filter_none (passes tests []) (old.now.trees tree) none))
 
--- where rows are shown, there is a first
+-- if rows are shown, there is a first
 pub some_row : (text : List ℕ) (old new : State) (rows : List Row) → (length rows == 0) ≡ false → Shown text [] old new rows → (row : Row) × (rest : List Row) × Shown text [] old new (row ∷ rest)
 some_row text old new [] e h = absurd (cc)
 some_row text old new (row ∷ rest) e h = (row, rest, h)

@@ -1,4 +1,4 @@
--- What one read after another tells of a database that stays as it is.
+-- What one read after another says of a database that stays as it is.
 use Rattle.std.proofs.Common.{◌≡◌, Result, sym, subst, ◌∙◌}
 use Rattle.std.specs.Result.{OnOk}
 use Rattle.std.proofs.lemmas.Result.{IfOk-weaker}
@@ -20,7 +20,7 @@ same_both old mid new first second usable = let s = second usable in let f = fir
 abbrev AssuresBetween : {A : Type 0} → (Layout → Database → Type 0) → State → State → Result A ReadFault → Type 0
 AssuresBetween Holds old new result = IsUsable new → (at : Layout) → old.now.schema ≡ schema_at at → OnOk result (Holds at old.now)
 
--- what is told after a read is told from before it
+-- what is reported after a read is reported from before it
 module _ {A : Type 0} (Holds : Layout → Database → Type 0) (old mid new : State) (r : Result A ReadFault) (first : IsSame old mid) (second : IsSame mid new) where
   pub assures_before : AssuresBetween Holds mid new r → AssuresBetween Holds old new r
   assures_before h usable at schema =

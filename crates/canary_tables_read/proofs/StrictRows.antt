@@ -48,7 +48,7 @@ NoKey key at = (n : ℕ) → at ≤ n → is_key key n ≡ false
 later_key : (key : Option ℕ) (at : ℕ) → NoKey key at → NoKey key (at + 1)
 later_key key at h n le = h n (omega (arith, le))
 
--- the cells stand behind the rowid from this column on
+-- the cells stand after the rowid from this column on
 abbrev pub Behind : ℕ → Row → Row → Type 0
 Behind at row cells = (i k : ℕ) → k ≡ i + at + 1 → column row k ≡ column cells i
 

@@ -1,4 +1,4 @@
--- When the rows of a tree are those of a table: exactly where no number is negative.
+-- When the rows of a tree are those of a table: exactly if no number is negative.
 use Rattle.std.proofs.Common.{◌≡◌, ◌+◌, ◌≤◌, ◌<◌, ◌++◌, ◌==◌, ℕ, zero, suc, List, [], ◌∷◌, length, map, drop, true, false, Some, None, refl, sym, ap, ap₂, ◌∙◌, arith}
 use Rattle.std.specs.List.{AllByRecursion}
 use Rattle.std.proofs.lemmas.Bool.Decides.{nat_tests}
@@ -13,7 +13,7 @@ use Rattle.canary_tables_read.proofs.Holdings.{Holding, columns_of, Raw, raw_cel
 use Rattle.canary_tables_read.proofs.StrictRows.{Behind, raw_of, as_long, EndsFilled}
 use Rattle.canary_tables_read.proofs.Tests.{and_first}
 
--- the row has such values behind its rowid and what stands in front
+-- the row has such values after its rowid and what stands in front
 abbrev pub AreRaw : Row → List Holding → Row → Type 0
 AreRaw front ks row = (r : Raw ks) × (drop 1 row ≡ front ++ raw_cells ks r)
 

@@ -3,7 +3,7 @@ use Rattle.std.proofs.Common.{◌≡◌, ℕ, zero, suc, List, [], ◌∷◌, ma
 use Rattle.sqlite.specs.declared.types.Value.{Value}
 use Rattle.sqlite.specs.Order.{Row}
 
--- The tests of a query are those of the typed rows, and what it shows of a row that passes them tells its cells.
+-- The tests of a query are those of the typed rows, and what it shows of a row that passes them gives its cells.
 pub record Tells {X Y : Type 0} (cells : X → Row) (test : X → Bool) (told : X → Y) (whole : Row → Y) (passes : Row → Bool) (shows : Row → Row) : Type 0 where
   pub filled : (x : X) → (v : Value) × (vs : Row) × (cells x ≡ v ∷ vs)
   pub tests : (id : Value) (x : X) → passes (id ∷ cells x) ≡ test x
@@ -30,7 +30,7 @@ module _ {X Y : Type 0} (cells : X → Row) (test : X → Bool) (told : X → Y)
       let it = one row x here in
       step row x (passes row) (test x) it.0 it.1 (filter passes rows) (filter test all) (typed rows all later)
 
--- The cells of a row tell it.
+-- The cells of a row determine it.
 module _ {X : Type 0} (cells : X → Row) (known : Row → Option X) (back : (x : X) → known (cells x) ≡ Some x) where
   pub same_row : (x y : X) → cells x ≡ cells y → x ≡ y
   same_row x y e = let s : Some x ≡ Some y = sym (back x) ∙ ap known e ∙ back y in cc
@@ -44,7 +44,7 @@ module _ {X : Type 0} (cells : X → Row) (known : Row → Option X) (back : (x 
       let later : map cells xs ≡ map cells ys = cc in
       ap₂ (λ first others. first ∷ others) (same_row x y here) (same_rows xs ys later)
 
-  -- what is read of the rows that are shown is what they tell
+  -- what is read of the rows that are shown is what they give
   pub told_all : (whole : Row → Row) (rows : List Row) (xs found : List X) → map whole rows ≡ map cells xs → map cells found ≡ map whole rows → found ≡ xs
   told_all whole rows xs found told read = same_rows found xs (read ∙ told)
 

@@ -1,4 +1,4 @@
--- When a read tells that a row is none that a program can hold.
+-- When a read reports that a row is not one that a program can hold.
 use Rattle.std.specs.Prelude.{◌≡◌, ℕ, Result, Err}
 use Rattle.std.specs.List.{AllByRecursion}
 use Rattle.sqlite.specs.State.{State}
@@ -10,17 +10,17 @@ use Rattle.canary_tables_schema.specs.Stores.{IsUsable, Stores}
 use Rattle.canary_tables_read.specs.declared.fault.ReadFault.{ReadFault}
 use Rattle.canary_tables_read.specs.declared.fault.ReadFault.TheVariants.{Broken}
 
--- only where the tables are not within these limits
+-- only if the tables are not within these limits
 abbrev pub BreaksUnless : {Q A : Type 0} → (Tables → Type 0) → (Q → State) → Q → Q
     → Result A ReadFault → Type 0
 BreaksUnless Within shows old new result =
     IsUsable (shows new) → (t : Tables) → Stores (shows old) t → result ≡ Err Broken → ¬ Within t
 
--- only where none that is so fits
+-- only if none that is so fits
 abbrev pub BreaksIfNone : {A X : Type 0} → Result A ReadFault → (X → Type 0) → (X → Type 0) → Type 0
 BreaksIfNone {X = X} result Is Fits = result ≡ Err Broken → (x : X) → Is x → ¬ Fits x
 
--- only where none that the column is fits
+-- only if none that the column is fits
 abbrev pub BreaksAt : {A X : Type 0} → Result A ReadFault → Row → ℕ → (X → Value) → (X → Type 0)
     → Type 0
 BreaksAt result row at cell Fits = BreaksIfNone result (λ x. column row at ≡ cell x) Fits

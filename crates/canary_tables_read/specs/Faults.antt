@@ -12,12 +12,12 @@ abbrev pub read_fault : StoreFault → ReadFault
 read_fault store.Memory = read.Memory
 read_fault store.Storage = read.Storage
 
--- where rows are known to be a desk's, a broken row is a fault of the store
+-- if rows are known to be a desk's, a broken row is a fault of the store
 abbrev pub store_fault : ReadFault → StoreFault
 store_fault read.Memory = store.Memory
 store_fault fault = store.Storage
 
--- a column that is not read, where memory was not refused, holds what no desk writes
+-- a column that is not read, if memory was not refused, holds what no desk writes
 abbrev pub column_fault : Error → ReadFault
 column_fault (SqliteFailure OutOfMemory) = read.Memory
 column_fault error = read.Broken

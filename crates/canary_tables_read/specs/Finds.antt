@@ -27,6 +27,6 @@ Counts told shows old new = Gives (λ t. min (told t) 9223372036854775807) shows
 abbrev pub first : {A : Type 0} → List A → Option A
 first xs = slice_get xs 0
 
--- each row that a query shows tells the cells of one of these
+-- each row that a query shows gives the cells of one of these
 abbrev pub TellsCells : {X : Type 0} → (X → Row) → (Row → Row) → List X → List Row → Type 0
 TellsCells cells whole all rows = map whole rows ≡ map cells all

@@ -25,7 +25,7 @@ first_tally_cells r =
     Words r.service ∷ integer r.run ∷ integer r.metric ∷ integer r.counted ∷ integer r.failed
     ∷ integer r.inconclusive ∷ integer r.errors ∷ integer r.consecutive ∷ whole_or_null r.last ∷ []
 
--- what a row of the tree shows, behind its rowid: NULL for a column that it lacks
+-- what a row of the tree shows, after its rowid: NULL for a column that it lacks
 
 abbrev pub template_shown : Row → Row
 template_shown row = column row 1 ∷ column row 2 ∷ []
@@ -60,7 +60,7 @@ abbrev pub FindsOnly : {Q A F : Type 0} → (Database → A → Type 0) → (Q �
 FindsOnly {A = A} such shows old new result = IsUsable (shows new) → IsFirst (shows old).now
     → (all : A) → such (shows old).now all → IfOk result (λ found. found ≡ all)
 
--- something is broken only where not all of those are within these limits
+-- something is broken only if not all of those are within these limits
 abbrev pub BreaksFirst : {Q A X : Type 0} → (Database → List X → Type 0) → (X → Type 0)
     → (Q → State) → Q → Q → Result A ReadFault → Type 0
 BreaksFirst {X = X} are Within shows old new result = IsUsable (shows new)

@@ -14,7 +14,7 @@ use Rattle.canary_tables_read.specs.declared.meta.MetaRow.TheVariants.{Alone, Wi
 abbrev pub HasMetaRow : ℕ → List Row → Type 0
 HasMetaRow schema rows = Contains (map meta_shown rows) (integer 1 ∷ integer schema ∷ [])
 
--- how it stands there, where IsAlone says that meta has just this row
+-- how it stands there; IsAlone says that meta has just this row
 abbrev pub Stands : ℕ → Type 0 → List Row → MetaRow → Type 0
 Stands schema IsAlone rows Alone = IsAlone
 Stands schema IsAlone rows WithOthers = HasMetaRow schema rows × ¬ IsAlone

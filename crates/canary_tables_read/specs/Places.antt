@@ -52,7 +52,7 @@ pub record IsPlacedPage (db : Database) (t : Tables) (service : List ℕ) (from 
 abbrev pub placed_from : List ℕ → ℕ → ℕ → Database → List MeasurementAt
 placed_from service from most db = take most (drop from (placed_for service db))
 
--- so many of those behind a place
+-- so many of those after a place
 abbrev pub placed_after : List ℕ → ℤ → ℕ → Database → List MeasurementAt
 placed_after service place most db =
     take most (filter (λ p. int_lt place p.place) (placed_for service db))

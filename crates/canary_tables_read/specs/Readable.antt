@@ -1,4 +1,4 @@
--- What a program holds of a row that a query shows: none where a value is none that it can hold.
+-- What a program holds of a row that a query shows: none if a value is not one that it can hold.
 use Rattle.std.specs.Prelude.{◌^◌, ◌==◌, ℕ, pos, List, length, Option, Some, None, if◌then◌else◌, nat_lt}
 use Rattle.sqlite_value.specs.declared.value.Value.{Value}
 use Rattle.sqlite_value.specs.declared.value.Value.TheVariants.{Int, Text as Words}

@@ -30,7 +30,7 @@ pub record Reads {Q : Type 0} (IsReady : Q → Type 0) (place_of : Q → ℕ) (b
   pub kept : IsKept (below old) (below new)
   pub same : IsSame (shows old) (shows new)
 
--- the text failed there, by an error that is told as this fault
+-- the text failed there, by an error that is reported as this fault
 abbrev pub FailsAs : List ℕ → Row → State → State → StoreFault → Type 0
 FailsAs text params old new fault =
     (error : Error) × (FailsToQuery text params old new error × (fault ≡ fault_of error))

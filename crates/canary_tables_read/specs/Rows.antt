@@ -8,17 +8,17 @@ use Rattle.canary_tables_read.specs.declared.fault.ReadFault.{ReadFault}
 use Rattle.canary_tables_read.specs.declared.fault.ReadFault.TheVariants.{Broken}
 use Rattle.canary_tables_read.specs.Meta.{IsShown}
 
--- it succeeds only where the query shows no row
+-- it succeeds only if the query shows no row
 abbrev pub ShowsNone : {Q A F : Type 0} → List ℕ → (Q → State) → Q → Q → Result A F → Type 0
 ShowsNone text shows old new result =
     IsUsable (shows new) → OnOk result (Shown text [] (shows old) (shows new) [])
 
--- and finds something broken only where it shows one
+-- and finds something broken only if it shows one
 abbrev pub ShowsSome : {Q A : Type 0} → List ℕ → (Q → State) → Q → Q → Result A ReadFault → Type 0
 ShowsSome text shows old new result = IsUsable (shows new) → result ≡ Err Broken
     → (row : Row) × (rows : List Row) × Shown text [] (shows old) (shows new) (row ∷ rows)
 
--- it tells whether the query shows a row
+-- it answers whether the query shows a row
 abbrev pub ShowsAny : {Q F : Type 0} → List ℕ → (Q → State) → Q → Q → Result Bool F → Type 0
 ShowsAny text shows old new result =
     IsUsable (shows new) → IfOk result (IsShown text (shows old) (shows new))

@@ -23,7 +23,7 @@ is_run_of service row = bytes_eq service row.service
 abbrev pub is_open : RunRow → Bool
 is_open row = is_none row.ending.closed
 
--- the first of the runs, so many, in an order in which no open run comes behind a closed one
+-- the first of the runs, so many, in an order in which no open run comes after a closed one
 pub record IsFront (most : ℕ) (all found : List RunRow) : Type 0 where
   pub ordered : List RunRow
   pub same : IsPermutation all ordered

@@ -58,31 +58,31 @@ pub record HasLateRows (at : Layout) (db : Database) : Type 0 where
   pub bindings : HasBindings at db
   pub tallies : HasTallies at db
 
--- where no cell is missing in tallies
+-- if no cell is missing in tallies
 abbrev pub HasTalliesIfWhole : Layout → Database → Type 0
 HasTalliesIfWhole at db = HasWholeTallies db → HasTallies at db
 
 abbrev pub HasLateRowsIfWhole : Layout → Database → Type 0
 HasLateRowsIfWhole at db = HasWholeTallies db → HasLateRows at db
 
--- it tells of a database of a desk's schema that this holds
+-- it reports of a database of a desk's schema that this holds
 abbrev pub Assures : {Q A : Type 0} → (Layout → Database → Type 0) → (Q → State) → Q → Q
     → Result A ReadFault → Type 0
 Assures Holds shows old new result = IsUsable (shows new) → (at : Layout)
     → (shows old).now.schema ≡ schema_at at → OnOk result (Holds at (shows old).now)
 
--- and that something is broken only where it does not
+-- and that something is broken only if it does not
 abbrev pub Denies : {Q A : Type 0} → (Layout → Database → Type 0) → (Q → State) → Q → Q
     → Result A ReadFault → Type 0
 Denies Holds shows old new result = IsUsable (shows new) → (at : Layout)
     → (shows old).now.schema ≡ schema_at at → result ≡ Err Broken → ¬ Holds at (shows old).now
 
--- it tells of a desk's database that all its rows are those of a desk's tables
+-- it reports of a desk's database that all its rows are those of a desk's tables
 abbrev pub AssuresAll : {Q A : Type 0} → (Q → State) → Q → Q → Result A ReadFault → Type 0
 AssuresAll shows old new result = IsUsable (shows new) → IsFormed (shows old).now
     → HasWholeTallies (shows old).now → OnOk result (HasRows (shows old).now)
 
--- and that they are broken only where they are not
+-- and that they are broken only if they are not
 abbrev pub DeniesAll : {Q A : Type 0} → (Q → State) → Q → Q → Result A ReadFault → Type 0
 DeniesAll shows old new result = IsUsable (shows new) → IsFormed (shows old).now
     → result ≡ Err Broken → ¬ HasRows (shows old).now

@@ -76,9 +76,9 @@ fn place_at(row: &Row, at: usize) -> Result<i64, ReadFault>
 /// The measurements of the service's runs with their places, in their order: from that one on,
 /// counted from 0, at most so many. `place` is a place up to which just `from` of them stand, if
 /// one is known; if fewer rows are likely to stand between that place and the page's end than the
-/// index would go over, the page is read from there. `Memory` where there is not enough, `Storage`
-/// where the database fails, and where `from` is 2^63 or more, `Broken` where a measurement of
-/// these is none that a program can hold.
+/// index would go over, the page is read from there. `Memory` if there is not enough, `Storage` if
+/// the database fails, and if `from` is 2^63 or more and no place is used, `Broken` if one of these
+/// measurements is not one that a program can hold.
 pub fn measurements<Q: Reader>(
     conn: &mut Q,
     alloc: Global,
@@ -99,7 +99,7 @@ pub fn measurements<Q: Reader>(
 }
 
 /// The place of the last of a page: up to it stand as many of the service's measurements as up to
-/// the page's end. None where the page is empty.
+/// the page's end. None if the page is empty.
 pub fn last_place(page: &[MeasurementAt]) -> Option<i64>
     ensures { MarksEnd page.now result }
 {

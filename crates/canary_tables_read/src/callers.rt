@@ -17,8 +17,8 @@ use canary_tables_schema::fault::StoreFault;
 use sqlite::{Row, params};
 use std::alloc::Global;
 
-/// How many requests of the caller are settled, if it is known. `Memory` where there is not enough,
-/// `Storage` where the database fails, `Broken` where the caller's row is none that a program can
+/// How many requests of the caller are settled, if it is known. `Memory` if there is not enough,
+/// `Storage` if the database fails, `Broken` if the caller's row is not one that a program can
 /// hold.
 pub fn settled<Q: Reader>(conn: &mut Q, caller: &Name) -> Result<Option<u32>, ReadFault>
     requires ready { Q.IsReady conn.old }
@@ -31,8 +31,8 @@ pub fn settled<Q: Reader>(conn: &mut Q, caller: &Name) -> Result<Option<u32>, Re
     Ok(found.map(|row| row.settled))
 }
 
-/// The rows of the caller, of which a desk writes one at most. `Memory` where there is not enough,
-/// `Storage` where the database fails, `Broken` where one is none that a program can hold.
+/// The rows of the caller, of which a desk writes one at most. `Memory` if there is not enough,
+/// `Storage` if the database fails, `Broken` if a program cannot hold one of them.
 pub fn caller_rows<Q: Reader>(
     conn: &mut Q,
     alloc: Global,
@@ -47,7 +47,7 @@ pub fn caller_rows<Q: Reader>(
     from_row::all(alloc, name, rows.as_slice())
 }
 
-// What is shown of the caller's rows, behind its name.
+// What is shown of the caller's rows, after its name.
 fn caller_shown<Q: Reader>(conn: &mut Q, name: &Name) -> Result<Vec<Row>, StoreFault>
     requires ready { Q.IsReady conn.old }
     ensures reads { Reads Q.IsReady Q.place Q.below Q.shows conn.old conn.new }
@@ -60,9 +60,8 @@ fn caller_shown<Q: Reader>(conn: &mut Q, name: &Name) -> Result<Vec<Row>, StoreF
     )
 }
 
-/// What is kept of the caller's request of that number, if it is settled. `Memory` where there is
-/// not enough, `Storage` where the database fails, `Broken` where the row is none that a program
-/// can hold.
+/// What is kept of the caller's request of that number, if it is settled. `Memory` if there is not
+/// enough, `Storage` if the database fails, `Broken` if the row is not one that a program can hold.
 pub fn kept<Q: Reader>(
     conn: &mut Q,
     caller: &Name,
@@ -77,7 +76,7 @@ pub fn kept<Q: Reader>(
     from_row::first(caller, rows.as_slice())
 }
 
-// What is shown of the request's rows, behind the caller.
+// What is shown of the request's rows, after the caller.
 fn kept_shown<Q: Reader>(conn: &mut Q, caller: &Name, number: u32) -> Result<Vec<Row>, StoreFault>
     requires ready { Q.IsReady conn.old }
     ensures reads { Reads Q.IsReady Q.place Q.below Q.shows conn.old conn.new }

@@ -13,8 +13,7 @@ use crate::fault::ReadFault;
 use crate::reader::Reader;
 
 /// That the rows of a formed database are those of tables: each number is one from 0 on. `Memory`
-/// where there is not enough, `Storage` where the database fails, `Broken` where a number is
-/// negative.
+/// if there is not enough, `Storage` if the database fails, `Broken` if a number is negative.
 pub fn check_types<Q: Reader>(conn: &mut Q) -> Result<(), ReadFault>
     requires ready { Q.IsReady conn.old }
     ensures reads { Reads Q.IsReady Q.place Q.below Q.shows conn.old conn.new }

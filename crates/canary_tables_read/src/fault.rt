@@ -1,8 +1,8 @@
-//! Why a read told nothing.
+//! Why a read answered nothing.
 use canary_base::error::Memory;
 use canary_tables_schema::fault::StoreFault;
 
-/// Why a read told nothing.
+/// Why a read answered nothing.
 #[derive(Clone, Copy, Debug, PartialEq, Eq)]
 pub enum ReadFault {
     /// An allocation was refused.
@@ -47,7 +47,7 @@ impl From<ReadFault> for StoreFault {
 
     ghost from_gives = { λ fault made. made ≡ store_fault fault };
 
-    // The same as a fault of the store, where `Broken` becomes `Storage`.
+    // The same as a fault of the store: `Broken` becomes `Storage`.
     fn from(fault: ReadFault) -> StoreFault {
         match fault {
             ReadFault::Memory => StoreFault::Memory,

@@ -47,8 +47,8 @@ pub(crate) trait FromFirstRow: Drop {
     /// That a program can hold it.
     ghost Within: { Self → Type 0 };
 
-    /// The row with these columns. `Memory` where there is not enough, `Broken` where a program can
-    /// hold no such row.
+    /// The row with these columns. `Memory` if there is not enough, `Broken` if a program can hold
+    /// no such row.
     fn read(row: &Row) -> Result<Self, ReadFault>
         ensures found { IfOk result (λ read. cells read ≡ row.now) }
         ensures broken { BreaksIfNone result (λ read. cells read ≡ row.now) Within }
@@ -96,8 +96,8 @@ impl FromFirstRow for FirstTally {
     }
 }
 
-// All rows, in their order. `Memory` where there is not enough, `Broken` where a program cannot
-// hold one of them.
+// All rows, in their order. `Memory` if there is not enough, `Broken` if a program cannot hold one
+// of them.
 fn all<R: FromFirstRow>(alloc: Global, rows: &[Row]) -> Result<Listed<R>, ReadFault>
     ensures found { IfOk result (λ all. map R.cells all ≡ rows.now) }
     ensures broken { BreaksIfNone result (λ all. map R.cells all ≡ rows.now)
@@ -112,8 +112,8 @@ fn all<R: FromFirstRow>(alloc: Global, rows: &[Row]) -> Result<Listed<R>, ReadFa
 }
 
 /// The templates of a database of the first schema, in the order in which they were added. `Memory`
-/// where there is not enough, `Storage` where the database fails, `Broken` where a template is none
-/// that a program can hold.
+/// if there is not enough, `Storage` if the database fails, `Broken` if a template is not one that
+/// a program can hold.
 pub fn templates<Q: Reader>(conn: &mut Q, alloc: Global) -> Result<Listed<TemplateRow>, ReadFault>
     requires ready { Q.IsReady conn.old }
     ensures reads { Reads Q.IsReady Q.place Q.below Q.shows conn.old conn.new }
@@ -126,8 +126,8 @@ pub fn templates<Q: Reader>(conn: &mut Q, alloc: Global) -> Result<Listed<Templa
 }
 
 /// The tallies of a database of the first schema, in the order in which they were added. `Memory`
-/// where there is not enough, `Storage` where the database fails, `Broken` where a tally is none
-/// that a program can hold.
+/// if there is not enough, `Storage` if the database fails, `Broken` if a tally is not one that a
+/// program can hold.
 pub fn tallies<Q: Reader>(conn: &mut Q, alloc: Global) -> Result<Listed<FirstTally>, ReadFault>
     requires ready { Q.IsReady conn.old }
     ensures reads { Reads Q.IsReady Q.place Q.below Q.shows conn.old conn.new }

@@ -33,8 +33,8 @@ pub(crate) trait FromRow: Drop {
     /// That a program can hold it.
     ghost Within: { Self → Type 0 };
 
-    /// The row with that name and these columns. `Memory` where there is not enough, `Broken` where
-    /// a program can hold no such row.
+    /// The row with that name and these columns. `Memory` if there is not enough, `Broken` if a
+    /// program can hold no such row.
     fn read(name: &Name, row: &Row) -> Result<Self, ReadFault>
         ensures found { IfOk result (λ read. cells read ≡ whole name.now row.now) }
         ensures broken { BreaksIfNone result (λ read. cells read ≡ whole name.now row.now) Within }
@@ -134,7 +134,7 @@ impl FromRow for ServiceRow {
     }
 }
 
-// How the service stands, behind its text.
+// How the service stands, after its text.
 fn standing(row: &Row) -> Result<ServiceColumns, ReadFault>
     requires { length row.now ≡ 10 }
     ensures found { IfOk result (λ s. row.now ≡ column row.now 0 ∷ standing_cells s) }
@@ -232,7 +232,7 @@ impl FromRow for TallyRow {
     }
 }
 
-// The counts, behind the run and the metric.
+// The counts, after the run and the metric.
 fn counts(row: &Row) -> Result<Tally, ReadFault>
     requires { length row.now ≡ 9 }
     ensures found { IfOk result (λ c. row.now
@@ -313,8 +313,8 @@ impl FromRow for HistoryRow {
     }
 }
 
-/// The first of the rows, if there is one. `Memory` where there is not enough, `Broken` where a
-/// program cannot hold it.
+/// The first of the rows, if there is one. `Memory` if there is not enough, `Broken` if a program
+/// cannot hold it.
 pub(crate) fn first<R: FromRow>(name: &Name, rows: &[Row]) -> Result<Option<R>, ReadFault>
     ensures found { IfOk result (λ found. option_map R.cells found
         ≡ option_map (R.whole name.now) (slice_get rows.now 0)) }
@@ -328,8 +328,8 @@ pub(crate) fn first<R: FromRow>(name: &Name, rows: &[Row]) -> Result<Option<R>, 
     }
 }
 
-/// All rows, in their order. `Memory` where there is not enough, `Broken` where a program cannot
-/// hold one of them.
+/// All rows, in their order. `Memory` if there is not enough, `Broken` if a program cannot hold one
+/// of them.
 pub(crate) fn all<R: FromRow>(
     alloc: Global,
     name: &Name,

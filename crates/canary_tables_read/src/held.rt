@@ -1,4 +1,4 @@
-//! Rows that a query shows, where all that a program holds of them stands in their columns.
+//! Rows that a query shows, with all that a program holds of them in their columns.
 ghost use Rattle.std.specs.Prelude.{◌≡◌, ◌≢◌, ◌<◌, List, Option, Some, Err, IfOk, length, map};
 ghost use Rattle.sqlite.specs.Order.{Row as Cells, column};
 ghost use Rattle.canary_tables_read.specs.Readable.{name_in, number_in};
@@ -12,7 +12,7 @@ use sqlite::Row;
 use sqlite::types::ValueRef;
 use std::alloc::Global;
 
-/// What is held of a row, where a program can hold its values.
+/// What is held of a row, if a program can hold its values.
 pub(crate) trait Held: Drop {
     /// It, by the columns.
     ghost held: { Cells → Option Self };
@@ -91,8 +91,8 @@ fn number_at(row: &Row, at: usize) -> Option<u32>
     }
 }
 
-/// What is held of all rows, in their order. `Memory` where there is not enough, `Broken` where a
-/// program cannot hold one of them.
+/// What is held of all rows, in their order. `Memory` if there is not enough, `Broken` if a program
+/// cannot hold one of them.
 pub(crate) fn all<R: Held>(alloc: Global, rows: &[Row]) -> Result<Listed<R>, ReadFault>
     ensures found { IfOk result (λ all. map Some all ≡ map R.held rows.now) }
     ensures broken { result ≡ Err ReadFault.Broken

@@ -14,8 +14,8 @@ use canary_tables_rows::rows::HistoryRow;
 use sqlite::params;
 use std::alloc::Global;
 
-/// The lines of the service's history, in their order. `Memory` where there is not enough,
-/// `Storage` where the database fails, `Broken` where a line is none that a program can hold.
+/// The lines of the service's history, in their order. `Memory` if there is not enough, `Storage`
+/// if the database fails, `Broken` if a line is not one that a program can hold.
 pub fn history<Q: Reader>(
     conn: &mut Q,
     alloc: Global,
@@ -44,9 +44,9 @@ pub(crate) fn offset_of(from: u64) -> Result<i64, ReadFault>
     }
 }
 
-/// The lines of the service's history, in their order: from that one on, counted from 0, at most
-/// so many. `Memory` where there is not enough, `Storage` where the database fails, and where
-/// `from` is 2^63 or more, `Broken` where a line of these is none that a program can hold.
+/// The lines of the service's history, in their order: from that one on, counted from 0, at most so
+/// many. `Memory` if there is not enough, `Storage` if the database fails, and if `from` is 2^63 or
+/// more, `Broken` if a line of these is not one that a program can hold.
 pub fn lines<Q: Reader>(
     conn: &mut Q,
     alloc: Global,

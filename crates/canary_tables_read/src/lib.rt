@@ -1,10 +1,10 @@
 //! Reading the desk's tables: each query answers just what its rows say.
 //!
 //! Callers may rest on this: a read answers exactly the rows that it asks for, in order, and at
-//! most as many as it is told; it changes nothing and leaves no transaction open; all where the
-//! connection is usable then (canary_tables_schema). `Broken` is answered only where some row of
-//! the table is none that a program can hold. `check_types` is Ok only where all rows are those of
-//! tables, if its tallies are whole, and `Broken` only where they are not.
+//! most as many as it is asked for; it changes nothing and leaves no transaction open; all if the
+//! connection is usable then (canary_tables_schema). `Broken` is answered only if some row of the
+//! table is not one that a program can hold. `check_types` is Ok only if all rows are those of
+//! tables, if its tallies are whole, and `Broken` only if they are not.
 //!
 //! In use (canary_tables, src/load.rt):
 //!

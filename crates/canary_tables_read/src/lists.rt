@@ -30,8 +30,8 @@ pub struct RevisionKey {
     pub revision: u32,
 }
 
-/// All callers, in the order in which they were added. `Memory` where there is not enough,
-/// `Storage` where the database fails, `Broken` where a caller is none that a program can hold.
+/// All callers, in the order in which they were added. `Memory` if there is not enough, `Storage`
+/// if the database fails, `Broken` if a caller is not one that a program can hold.
 pub fn callers<Q: Reader>(conn: &mut Q, alloc: Global) -> Result<Listed<CallerRow>, ReadFault>
     requires ready { Q.IsReady conn.old }
     ensures reads { Reads Q.IsReady Q.place Q.below Q.shows conn.old conn.new }
@@ -42,8 +42,8 @@ pub fn callers<Q: Reader>(conn: &mut Q, alloc: Global) -> Result<Listed<CallerRo
     held::all(alloc, rows.as_slice())
 }
 
-/// The keys of all revisions, in the order in which they were added. `Memory` where there is not
-/// enough, `Storage` where the database fails, `Broken` where a revision is none that a program can
+/// The keys of all revisions, in the order in which they were added. `Memory` if there is not
+/// enough, `Storage` if the database fails, `Broken` if a revision is not one that a program can
 /// hold.
 pub fn revision_keys<Q: Reader>(
     conn: &mut Q,
@@ -58,8 +58,8 @@ pub fn revision_keys<Q: Reader>(
     held::all(alloc, rows.as_slice())
 }
 
-/// The names of all services, in the order in which they were added. `Memory` where there is not
-/// enough, `Storage` where the database fails, `Broken` where a service is none that a program can
+/// The names of all services, in the order in which they were added. `Memory` if there is not
+/// enough, `Storage` if the database fails, `Broken` if a service is not one that a program can
 /// hold.
 pub fn service_names<Q: Reader>(conn: &mut Q, alloc: Global) -> Result<Listed<Name>, ReadFault>
     requires ready { Q.IsReady conn.old }
@@ -71,8 +71,8 @@ pub fn service_names<Q: Reader>(conn: &mut Q, alloc: Global) -> Result<Listed<Na
     held::all(alloc, rows.as_slice())
 }
 
-/// How many settled requests there are, of which SQLite counts 2^63 - 1 at most. `Memory` where
-/// there is not enough, `Storage` where the database fails.
+/// How many settled requests there are, of which SQLite counts 2^63 - 1 at most. `Memory` if there
+/// is not enough, `Storage` if the database fails.
 pub fn kept_count<Q: Reader>(conn: &mut Q) -> Result<u64, ReadFault>
     requires ready { Q.IsReady conn.old }
     ensures reads { Reads Q.IsReady Q.place Q.below Q.shows conn.old conn.new }
@@ -82,8 +82,8 @@ pub fn kept_count<Q: Reader>(conn: &mut Q) -> Result<u64, ReadFault>
     count_of(conn, "SELECT count(*) FROM kept")
 }
 
-/// How many runs there are, of which SQLite counts 2^63 - 1 at most. `Memory` where there is
-/// not enough, `Storage` where the database fails.
+/// How many runs there are, of which SQLite counts 2^63 - 1 at most. `Memory` if there is not
+/// enough, `Storage` if the database fails.
 pub fn run_count<Q: Reader>(conn: &mut Q) -> Result<u64, ReadFault>
     requires ready { Q.IsReady conn.old }
     ensures reads { Reads Q.IsReady Q.place Q.below Q.shows conn.old conn.new }
@@ -94,7 +94,7 @@ pub fn run_count<Q: Reader>(conn: &mut Q) -> Result<u64, ReadFault>
 }
 
 /// How many rows bind runs and attempts to revisions, of which SQLite counts 2^63 - 1 at most.
-/// `Memory` where there is not enough, `Storage` where the database fails.
+/// `Memory` if there is not enough, `Storage` if the database fails.
 pub fn binding_count<Q: Reader>(conn: &mut Q) -> Result<u64, ReadFault>
     requires ready { Q.IsReady conn.old }
     ensures reads { Reads Q.IsReady Q.place Q.below Q.shows conn.old conn.new }
@@ -104,8 +104,8 @@ pub fn binding_count<Q: Reader>(conn: &mut Q) -> Result<u64, ReadFault>
     count_of(conn, "SELECT count(*) FROM binding")
 }
 
-/// How many tallies there are, of which SQLite counts 2^63 - 1 at most. `Memory` where there is
-/// not enough, `Storage` where the database fails.
+/// How many tallies there are, of which SQLite counts 2^63 - 1 at most. `Memory` if there is not
+/// enough, `Storage` if the database fails.
 pub fn tally_count<Q: Reader>(conn: &mut Q) -> Result<u64, ReadFault>
     requires ready { Q.IsReady conn.old }
     ensures reads { Reads Q.IsReady Q.place Q.below Q.shows conn.old conn.new }
@@ -115,8 +115,8 @@ pub fn tally_count<Q: Reader>(conn: &mut Q) -> Result<u64, ReadFault>
     count_of(conn, "SELECT count(*) FROM tally")
 }
 
-/// How many measurements there are, of which SQLite counts 2^63 - 1 at most. `Memory` where there
-/// is not enough, `Storage` where the database fails.
+/// How many measurements there are, of which SQLite counts 2^63 - 1 at most. `Memory` if there is
+/// not enough, `Storage` if the database fails.
 pub fn measurement_count<Q: Reader>(conn: &mut Q) -> Result<u64, ReadFault>
     requires ready { Q.IsReady conn.old }
     ensures reads { Reads Q.IsReady Q.place Q.below Q.shows conn.old conn.new }
@@ -126,8 +126,8 @@ pub fn measurement_count<Q: Reader>(conn: &mut Q) -> Result<u64, ReadFault>
     count_of(conn, "SELECT count(*) FROM measurement")
 }
 
-/// How many lines of histories there are, of which SQLite counts 2^63 - 1 at most. `Memory` where
-/// there is not enough, `Storage` where the database fails.
+/// How many lines of histories there are, of which SQLite counts 2^63 - 1 at most. `Memory` if
+/// there is not enough, `Storage` if the database fails.
 pub fn history_count<Q: Reader>(conn: &mut Q) -> Result<u64, ReadFault>
     requires ready { Q.IsReady conn.old }
     ensures reads { Reads Q.IsReady Q.place Q.below Q.shows conn.old conn.new }

@@ -23,7 +23,7 @@ pub enum MetaRow {
 }
 
 /// How the row of a desk's schema, which is 1, 2, stands in `meta` of a desk's database. `Memory`
-/// where there is not enough, `Storage` where the database fails; never `Broken`.
+/// if there is not enough, `Storage` if the database fails; never `Broken`.
 pub fn desk_row<Q: Reader>(conn: &mut Q) -> Result<MetaRow, ReadFault>
     requires ready { Q.IsReady conn.old }
     ensures reads { Reads Q.IsReady Q.place Q.below Q.shows conn.old conn.new }
@@ -41,7 +41,7 @@ pub fn desk_row<Q: Reader>(conn: &mut Q) -> Result<MetaRow, ReadFault>
 }
 
 /// How the row of the first schema, which is 1, 1, stands in `meta` of a database of that schema.
-/// `Memory` where there is not enough, `Storage` where the database fails; never `Broken`.
+/// `Memory` if there is not enough, `Storage` if the database fails; never `Broken`.
 pub fn first_row<Q: Reader>(conn: &mut Q) -> Result<MetaRow, ReadFault>
     requires ready { Q.IsReady conn.old }
     ensures reads { Reads Q.IsReady Q.place Q.below Q.shows conn.old conn.new }

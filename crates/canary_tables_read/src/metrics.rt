@@ -14,8 +14,8 @@ use sqlite::params;
 use std::alloc::Global;
 
 /// All measurements of a metric of that run of the service, by the metric's place in the run, in
-/// their order. `Memory` where there is not enough, `Storage` where the database fails, `Broken`
-/// where one is none that a program can hold.
+/// their order. `Memory` if there is not enough, `Storage` if the database fails, `Broken` if a
+/// program cannot hold one of them.
 pub fn measurements<Q: Reader>(
     conn: &mut Q,
     alloc: Global,

@@ -18,8 +18,8 @@ use sqlite::params;
 use std::alloc::Global;
 
 /// What is kept of the caller's requests whose numbers are above `after` and at most `last`, by
-/// their numbers. `Memory` where there is not enough, `Storage` where the database fails, `Broken`
-/// where a row is none that a program can hold.
+/// their numbers. `Memory` if there is not enough, `Storage` if the database fails, `Broken` if a
+/// row is not one that a program can hold.
 pub fn kept<Q: Reader>(
     conn: &mut Q,
     alloc: Global,
@@ -42,8 +42,8 @@ pub fn kept<Q: Reader>(
 }
 
 /// The runs of the service whose numbers are above `after` and at most `last`, in the order in
-/// which they were added. `Memory` where there is not enough, `Storage` where the database fails,
-/// `Broken` where a row is none that a program can hold.
+/// which they were added. `Memory` if there is not enough, `Storage` if the database fails,
+/// `Broken` if a row is not one that a program can hold.
 pub fn runs<Q: Reader>(
     conn: &mut Q,
     alloc: Global,
@@ -65,9 +65,8 @@ pub fn runs<Q: Reader>(
 }
 
 /// The revisions of templates to which those runs of the service are bound whose numbers are above
-/// `after` and at most `last`, in the order in which they were added. `Memory` where there is not
-/// enough, `Storage` where the database fails, `Broken` where a row is none that a program can
-/// hold.
+/// `after` and at most `last`, in the order in which they were added. `Memory` if there is not
+/// enough, `Storage` if the database fails, `Broken` if a row is not one that a program can hold.
 pub fn bindings<Q: Reader>(
     conn: &mut Q,
     alloc: Global,
@@ -89,8 +88,8 @@ pub fn bindings<Q: Reader>(
 }
 
 /// The counts of the metrics of those runs of the service whose numbers are above `after` and at
-/// most `last`, in the order in which they were added. `Memory` where there is not enough,
-/// `Storage` where the database fails, `Broken` where a row is none that a program can hold.
+/// most `last`, in the order in which they were added. `Memory` if there is not enough, `Storage`
+/// if the database fails, `Broken` if a row is not one that a program can hold.
 pub fn tallies<Q: Reader>(
     conn: &mut Q,
     alloc: Global,

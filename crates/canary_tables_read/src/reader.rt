@@ -31,8 +31,8 @@ pub trait Reader {
     /// All rows of the answer to a text that only reads.
     ///
     /// # Errors
-    /// `Memory` where an allocation was refused, `Storage` where the store failed otherwise. Either
-    /// ends a transaction.
+    /// `Memory` if an allocation was refused, `Storage` if the store failed otherwise. Either ends
+    /// a transaction.
     fn ask(&mut self, text: &str, params: &[ValueRef<'_>]) -> Result<Vec<Row>, StoreFault>
         requires ready { IsReady self.old }
         requires query { IsQuery text.now }

@@ -16,9 +16,8 @@ use canary_tables_rows::rows::{RunRow, TallyRow};
 use sqlite::params;
 use std::alloc::Global;
 
-/// The run of the service under that number, if there is one. `Memory` where there is not enough,
-/// `Storage` where the database fails, `Broken` where the run's row is none that a program can
-/// hold.
+/// The run of the service under that number, if there is one. `Memory` if there is not enough,
+/// `Storage` if the database fails, `Broken` if the run's row is not one that a program can hold.
 pub fn run<Q: Reader>(
     conn: &mut Q,
     service: &Name,
@@ -37,8 +36,8 @@ pub fn run<Q: Reader>(
     from_row::first(service, rows.as_slice())
 }
 
-/// The open runs of the service, by their numbers. `Memory` where there is not enough, `Storage`
-/// where the database fails, `Broken` where a run that is read is none that a program can hold.
+/// The open runs of the service, by their numbers. `Memory` if there is not enough, `Storage` if
+/// the database fails, `Broken` if a run that is read is not one that a program can hold.
 pub fn open_runs<Q: Reader>(
     conn: &mut Q,
     alloc: Global,
@@ -118,8 +117,8 @@ fn by_number(runs: Listed<RunRow>) -> Result<Listed<RunRow>, Memory>
     Ok(Listed::of(rows))
 }
 
-/// The counts of a run's metrics, by the places of the metrics. `Memory` where there is not enough,
-/// `Storage` where the database fails, `Broken` where a row is none that a program can hold.
+/// The counts of a run's metrics, by the places of the metrics. `Memory` if there is not enough,
+/// `Storage` if the database fails, `Broken` if a row is not one that a program can hold.
 pub fn tallies<Q: Reader>(
     conn: &mut Q,
     alloc: Global,

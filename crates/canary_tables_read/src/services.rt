@@ -21,8 +21,8 @@ use sqlite::{Row, params};
 use std::alloc::Global;
 
 /// The newest revision of the template of that name, which is the one with the greatest number, if
-/// there is one. `Memory` where there is not enough, `Storage` where the database fails, `Broken`
-/// where the revision's row is none that a program can hold.
+/// there is one. `Memory` if there is not enough, `Storage` if the database fails, `Broken` if the
+/// revision's row is not one that a program can hold.
 pub fn newest<Q: Reader>(conn: &mut Q, name: &Name) -> Result<Option<RevisionRow>, ReadFault>
     requires ready { Q.IsReady conn.old }
     ensures reads { Reads Q.IsReady Q.place Q.below Q.shows conn.old conn.new }
@@ -36,9 +36,9 @@ pub fn newest<Q: Reader>(conn: &mut Q, name: &Name) -> Result<Option<RevisionRow
     from_row::first(name, rows.as_slice())
 }
 
-/// The revision of the template of that name under that number, if there is one. `Memory` where
-/// there is not enough, `Storage` where the database fails, `Broken` where the revision's row is
-/// none that a program can hold.
+/// The revision of the template of that name under that number, if there is one. `Memory` if there
+/// is not enough, `Storage` if the database fails, `Broken` if the revision's row is not one that a
+/// program can hold.
 pub fn revision<Q: Reader>(
     conn: &mut Q,
     name: &Name,
@@ -53,9 +53,8 @@ pub fn revision<Q: Reader>(
     from_row::first(name, rows.as_slice())
 }
 
-/// The rows of that revision of the template, of which a desk writes one at most. `Memory` where
-/// there is not enough, `Storage` where the database fails, `Broken` where one is none that a
-/// program can hold.
+/// The rows of that revision of the template, of which a desk writes one at most. `Memory` if there
+/// is not enough, `Storage` if the database fails, `Broken` if a program cannot hold one of them.
 pub fn revision_rows<Q: Reader>(
     conn: &mut Q,
     alloc: Global,
@@ -71,7 +70,7 @@ pub fn revision_rows<Q: Reader>(
     from_row::all(alloc, name, rows.as_slice())
 }
 
-// What is shown of the revision's rows, behind the template's name.
+// What is shown of the revision's rows, after the template's name.
 fn revision_shown<Q: Reader>(conn: &mut Q, name: &Name, number: u32) -> Result<Vec<Row>, StoreFault>
     requires ready { Q.IsReady conn.old }
     ensures reads { Reads Q.IsReady Q.place Q.below Q.shows conn.old conn.new }
@@ -84,8 +83,8 @@ fn revision_shown<Q: Reader>(conn: &mut Q, name: &Name, number: u32) -> Result<V
     )
 }
 
-/// The service of that name, if there is one. `Memory` where there is not enough, `Storage` where
-/// the database fails, `Broken` where the service's row is none that a program can hold.
+/// The service of that name, if there is one. `Memory` if there is not enough, `Storage` if the
+/// database fails, `Broken` if the service's row is not one that a program can hold.
 pub fn service<Q: Reader>(conn: &mut Q, name: &Name) -> Result<Option<ServiceRow>, ReadFault>
     requires ready { Q.IsReady conn.old }
     ensures reads { Reads Q.IsReady Q.place Q.below Q.shows conn.old conn.new }
@@ -96,8 +95,8 @@ pub fn service<Q: Reader>(conn: &mut Q, name: &Name) -> Result<Option<ServiceRow
     from_row::first(name, rows.as_slice())
 }
 
-/// The rows of the service, of which a desk writes one at most. `Memory` where there is not enough,
-/// `Storage` where the database fails, `Broken` where one is none that a program can hold.
+/// The rows of the service, of which a desk writes one at most. `Memory` if there is not enough,
+/// `Storage` if the database fails, `Broken` if a program cannot hold one of them.
 pub fn service_rows<Q: Reader>(
     conn: &mut Q,
     alloc: Global,
@@ -112,7 +111,7 @@ pub fn service_rows<Q: Reader>(
     from_row::all(alloc, name, rows.as_slice())
 }
 
-// What is shown of the service's rows, behind its name.
+// What is shown of the service's rows, after its name.
 fn service_shown<Q: Reader>(conn: &mut Q, name: &Name) -> Result<Vec<Row>, StoreFault>
     requires ready { Q.IsReady conn.old }
     ensures reads { Reads Q.IsReady Q.place Q.below Q.shows conn.old conn.new }
@@ -127,8 +126,8 @@ fn service_shown<Q: Reader>(conn: &mut Q, name: &Name) -> Result<Vec<Row>, Store
 }
 
 /// The revisions of templates to which that run of the service is bound, in the order in which they
-/// were added; those of its present attempt under run 0. `Memory` where there is not enough,
-/// `Storage` where the database fails, `Broken` where a row is none that a program can hold.
+/// were added; those of its present attempt under run 0. `Memory` if there is not enough, `Storage`
+/// if the database fails, `Broken` if a row is not one that a program can hold.
 pub fn bindings<Q: Reader>(
     conn: &mut Q,
     alloc: Global,
@@ -148,8 +147,8 @@ pub fn bindings<Q: Reader>(
     from_row::all(alloc, service, rows.as_slice())
 }
 
-/// Whether the service's present attempt is bound to a revision of any template. `Memory` where
-/// there is not enough, `Storage` where the database fails; never `Broken`.
+/// Whether the service's present attempt is bound to a revision of any template. `Memory` if there
+/// is not enough, `Storage` if the database fails; never `Broken`.
 pub fn has_bindings<Q: Reader>(conn: &mut Q, service: &Name) -> Result<bool, ReadFault>
     requires ready { Q.IsReady conn.old }
     ensures reads { Reads Q.IsReady Q.place Q.below Q.shows conn.old conn.new }

@@ -15,7 +15,7 @@ use Rattle.canary_tables_rows.specs.declared.rows.MeasurementRow.{MeasurementRow
 use Rattle.canary_tables_rows.specs.declared.rows.HistoryRow.{HistoryRow}
 use Rattle.canary_tables_rows.specs.Tables.{Tables, is_caller, is_service, is_binding, is_run, is_tally}
 
--- INSERT: one row more, behind the others
+-- INSERT: one row more, after the others
 
 abbrev pub with_caller : CallerRow → Tables → Tables
 with_caller row t = record t { callers = t.callers ++ row ∷ [] }

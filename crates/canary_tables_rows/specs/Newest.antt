@@ -9,7 +9,7 @@ pub record IsGreatest (rows : List RevisionRow) (row : RevisionRow) : Type 0 whe
   pub stands : slice_get rows place ≡ Some row
   pub greatest : AllByRecursion (λ (x : RevisionRow). x.revision ≤ row.revision) rows
 
--- the row of the newest of these revisions; none where there are none
+-- the row of the newest of these revisions; none if there are none
 abbrev pub IsNewest : List RevisionRow → Option RevisionRow → Type 0
 IsNewest rows None = rows ≡ []
 IsNewest rows (Some row) = IsGreatest rows row

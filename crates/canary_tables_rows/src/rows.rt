@@ -40,8 +40,8 @@ pub struct BindingRow {
 }
 
 /// How a service stands. The state is 0 in progress, 1 aborted, 2 done; the hold is 0 none, 1 of
-/// the step, 2 of the background, 3 both; the background is 1 where its run was opened in the
-/// present attempt, else 0.
+/// the step, 2 of the background, 3 both; the background is 1 if its run was opened in the present
+/// attempt, else 0.
 #[derive(Clone, Copy)]
 pub struct ServiceColumns {
     pub stable: Label,

@@ -30,7 +30,7 @@ use Rattle.sqlite_rules.specs.declared.action.Deed.{Deed}
 use Rattle.canary_tables_schema.specs.Adds.{AddsRow, numbered_row}
 use Rattle.canary_tables_schema.proofs.Went.{went, same_value}
 
--- where no row goes, no key acts
+-- if no row goes, no key acts
 and_false : (b : Bool) → (b && false) ≡ false
 and_false true = refl
 and_false false = refl

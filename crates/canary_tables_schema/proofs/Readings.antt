@@ -56,7 +56,7 @@ rows_read at db t h =
       history = history i;
     }
 
--- the numbers of the trees tell the layout, as far as rows are read
+-- the numbers of the trees give the layout, as far as rows are read
 layout_read : (at : Layout) (trees : Trees) → rows_in (layout_of (schema_at at)) trees ≡ rows_in at trees
 layout_read made trees = refl
 layout_read moved trees = refl

@@ -28,7 +28,7 @@ abbrev pub whole_or_null : Option ℕ → Value
 whole_or_null None = Null
 whole_or_null (Some n) = integer n
 
--- The cells of a row, behind its rowid.
+-- The cells of a row, after its rowid.
 
 abbrev pub caller_cells : CallerRow → Row
 caller_cells r = Words r.name ∷ integer r.settled ∷ []

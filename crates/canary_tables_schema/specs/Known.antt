@@ -1,4 +1,4 @@
--- The columns of a table and the indexes, as their layouts tell them.
+-- The columns of a table and the indexes, as their layouts give them.
 use Rattle.std.specs.Prelude.{List, [], ℕ, map, Option, Bool, false}
 use Rattle.sqlite_schema.specs.declared.schema.Index.{Index}
 use Rattle.sqlite.specs.Table.{Table}

@@ -19,7 +19,7 @@ use Rattle.canary_tables_schema.specs.Layout.{made}
 use Rattle.canary_tables_schema.specs.Schema.{sequence, schema_at}
 use Rattle.canary_tables_schema.specs.Stores.{IsReady}
 
--- with the table, and the table of counts where it is the first that counts
+-- with the table, and the table of counts if it is the first that counts
 abbrev pub made_with : Schema → Table → Schema
 made_with schema table =
     if lacks_sequence (created schema table) then created (created schema table) sequence

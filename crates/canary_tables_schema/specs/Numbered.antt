@@ -6,7 +6,7 @@ use Rattle.canary_tables_schema.specs.Formed.{IsRising}
 use Rattle.canary_tables_schema.specs.Stores.{IsUsable}
 
 -- the connection was usable before, and shows the same database, whose rows stand in the order of
--- their rowids where it is a desk's
+-- their rowids if it is a desk's
 pub record IsOpenedAnew (old new : State) : Type 0 where
   pub was : IsUsable old
   pub same : new.now ≡ old.now

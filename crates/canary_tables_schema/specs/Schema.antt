@@ -221,7 +221,7 @@ index_at name tree table columns is_unique =
       is_unique = is_unique;
     }
 
--- that of a key, which stands behind its table
+-- that of a key, which stands after its table
 abbrev pub key_index : List ℕ → ℕ → List ℕ → Index
 key_index name table columns = index_at name (table + 1) table columns true
 

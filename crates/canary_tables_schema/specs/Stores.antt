@@ -12,7 +12,7 @@ use Rattle.canary_tables_schema.specs.Layout.{Layout, desk_trees, service_at, ru
 use Rattle.canary_tables_schema.specs.Schema.{schema_at}
 use Rattle.canary_tables_schema.specs.Cells.{cells_of, meta_rows, caller_cells, kept_cells, revision_cells, binding_cells, service_cells, run_cells, tally_cells, measurement_cells, history_cells}
 
--- the connection tells what its tables are: nothing wrong was read, and the disk did not fail
+-- the connection shows what its tables are: nothing wrong was read, and the disk did not fail
 pub record IsUsable (s : State) : Type 0 where
   pub clean : HasCleanDisk s
   pub is_open : IsTrue s.is_open
@@ -62,7 +62,7 @@ abbrev pub Wrote : {A E : Type 0} → (Tables → Tables) → State → State �
 Wrote change old new result =
     HasCleanDisk new → (t : Tables) → IsReady old t → OnOk result (IsReady new (change t))
 
--- it changes the rows so, where they are as it asks
+-- it changes the rows so, if they are as it asks
 abbrev pub WroteIf : {A E : Type 0} → (Tables → Type 0) → (Tables → Tables) → State → State
     → Result A E → Type 0
 WroteIf asks change old new result =

@@ -1,4 +1,4 @@
-//! Columns and indexes, as a table's layout tells them.
+//! Columns and indexes, as a table's layout gives them.
 ghost use Rattle.std.specs.Prelude.{◌≡◌, ◌↔◌, IsTrue};
 ghost use Rattle.canary_tables_schema.specs.Known.{column_at, column_of, columns_of};
 ghost use Rattle.canary_tables_schema.specs.Schema.{index_at};
@@ -27,7 +27,7 @@ pub(crate) enum ColumnLayout<'a> {
 /// An index of the desk, by its name, the tree of its table, and its columns.
 #[derive(Clone, Copy)]
 pub(crate) enum IndexLayout<'a> {
-    /// No two rows are alike in these columns. Its tree stands behind that of the table.
+    /// No two rows are alike in these columns. Its tree stands after that of the table.
     Key(&'a [u8], u32, &'a [usize]),
     /// Any rows may be. Its own tree comes first, then the table's.
     Order(&'a [u8], u64, u32, &'a [usize]),

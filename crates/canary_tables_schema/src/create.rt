@@ -178,11 +178,11 @@ fn create_desk<S: Alter>(conn: &mut Connection<S>) -> Result<(), Error>
 }
 
 /// Makes an empty database a desk's, in one transaction: the ten tables, with no row but that of
-/// meta, and the three indexes. Where it fails, the database stays as it was.
+/// meta, and the three indexes. If it fails, the database stays as it was.
 ///
 /// # Errors
 ///
-/// `Memory` where an allocation was refused, `Storage` where a statement failed otherwise, as where
+/// `Memory` if an allocation was refused, `Storage` if a statement failed otherwise, for example if
 /// the disk did. Of a database that is not empty it is only said that an error leaves it so.
 pub fn create<S: Alter>(conn: &mut Connection<S>) -> Result<(), StoreFault>
     requires autocommit { conn.old.in_transaction ≡ false }

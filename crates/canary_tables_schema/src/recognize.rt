@@ -40,7 +40,7 @@ fn are_key_indexes(indexes: &[Index], numbers: &Numbers) -> bool
     )
 }
 
-// The three that are made behind the tables.
+// The three that are made after the tables.
 fn are_added_indexes(indexes: &[Index], numbers: &Numbers) -> bool
     ensures { IsTrue result ↔ indexes.now ≡ added_indexes numbers.now }
 {

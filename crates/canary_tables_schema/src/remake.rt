@@ -124,8 +124,8 @@ fn index<S: Alter>(tx: &mut Transaction<'_, S>) -> Result<usize, Error>
 
 /// Makes a desk's tables and indexes, in the layout `moved`, of those of the first schema: the
 /// tables of templates and of tallies make way for those of revisions, of bindings and of tallies,
-/// which are empty. All other tables keep their rows, `meta` too. An error is the database's, as
-/// where the disk fails.
+/// which are empty. All other tables keep their rows, `meta` too. An error is the database's, for
+/// example if the disk fails.
 pub fn remake<S: Alter>(tx: &mut Transaction<'_, S>) -> Result<usize, Error>
     ensures writes { Writes tx.old.conn.ghost_name tx.new.conn.ghost_name
         (state S.Store tx.old.conn.now) (state S.Store tx.new.conn.now) result }

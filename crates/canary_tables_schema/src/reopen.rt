@@ -51,13 +51,13 @@ fn open_read<S: Alter + Drop>(
 
 /// Takes the store out of the connection and opens it again, which reads each row once more. The
 /// database is the same, and the rows of its tables are now known to stand in the order of their
-/// rowids. Beside the connection it tells whether each row of tally, if the database is a
-/// desk's, has a value for each column: one that was written before a column was added has not, and
-/// no query shows it.
+/// rowids. Beside the connection it reports whether each row of tally, if the database is a desk's,
+/// has a value for each column: one that was written before a column was added has not, and no
+/// query shows it.
 ///
 /// # Errors
 ///
-/// `Memory` where an allocation was refused, `Storage` where the store failed otherwise, as where
+/// `Memory` if an allocation was refused, `Storage` if the store failed otherwise, for example if
 /// the disk did, or it was shut. The store is handed back, with the database as it was.
 pub fn reopen<S: Alter + Drop>(
     alloc: Global,
@@ -97,12 +97,12 @@ fn listed_tally<S: Alter>(alloc: Global, store: &S) -> Result<Option<u32>, Store
 
 /// Opens a connection over a store that was just opened, if it lists the tables of a desk: each row
 /// is read once. The database is the store's, and the rows of its tables are known to stand in the
-/// order of their rowids. Beside the connection it tells what `reopen` tells. `None`, if other
+/// order of their rowids. Beside the connection it reports what `reopen` reports. `None`, if other
 /// tables are listed, and the store is let go then.
 ///
 /// # Errors
 ///
-/// `Memory` where an allocation was refused, `Storage` where the store failed otherwise, as where
+/// `Memory` if an allocation was refused, `Storage` if the store failed otherwise, for example if
 /// the disk did, or the rows do not obey the schema. The store is let go.
 pub fn open_desk<S: Alter + Drop>(
     alloc: Global,

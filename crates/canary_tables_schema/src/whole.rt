@@ -38,7 +38,7 @@ fn read_tallies<S: Store>(store: &mut S, tally: u32, row: &mut Row) -> Result<bo
 }
 
 // Whether each row of tally, which has this tree, has all its cells, which a query does not show.
-// Where the store fails, it goes back to what was committed.
+// If the store fails, it goes back to what was committed.
 pub(crate) fn has_whole_tallies<S: Store>(
     alloc: Global,
     store: &mut S,

@@ -43,7 +43,7 @@ not_false : (a : Bool) → not a ≡ true → a ≡ false
 not_false false e = refl
 not_false true e = absurd cc
 
--- where no key refers to the counters, the count changes their tree alone
+-- if no key refers to the counters, the count changes their tree alone
 module _ (task : Task) (counters : Table) (is : sequence task.schema ≡ Some counters) (counted : task.table.is_counted ≡ true)
     (quiet : (olds news : List Row) → works task.schema task.keys 0 counters.tree olds news ≡ []) where
   counter_is : (db : Trees) (counter : Option Row) → Counter task db (Ok counter) → counter ≡ counter_in db task.table counters

@@ -7,7 +7,7 @@ use Rattle.sqlite_disk.specs.Disk.{MoreFaults}
 use Rattle.canary_tables_rows.specs.Tables.{Tables}
 use Rattle.canary_tables_schema.specs.Stores.{IsReady, StaysCommitted, SurvivesCut}
 
--- what holds where a call succeeds holds where it did
+-- what holds if a call succeeds holds if it did
 pub on_ok : {A E : Type 0} (r : Result A E) (a : A) (P : Type 0) → r ≡ Ok a → OnOk r P → P
 on_ok r a P is h = subst (λ x. OnOk x P) is h
 

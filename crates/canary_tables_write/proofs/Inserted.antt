@@ -72,7 +72,7 @@ counted_spares at tree old new schema is given =
     let h = subst (λ (s : Schema). AllByRecursion (λ t. t.tree ≢ tree → t.tree ≢ sequence_at at → new t.tree ≡ old t.tree) s.tables) is given in
     but_counts tree (sequence_at at) old new (desk_trees at) (all_apart (sequence_at at) (desk_trees at) (sequence_apart at)) (h.0, (h.1.0, (h.1.1.0, (h.1.1.1.0, (h.1.1.1.1.0, (h.1.1.1.1.1.0, (h.1.1.1.1.1.1.1.0, (h.1.1.1.1.1.1.1.1.0, (h.1.1.1.1.1.1.1.1.1.0, (h.1.1.1.1.1.1.1.1.1.1.0, tt))))))))))
 
--- where places are counted
+-- if places are counted
 
 abbrev counters : Layout → Table
 counters at = record sequence { tree = sequence_at at }

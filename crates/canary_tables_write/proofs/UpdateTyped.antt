@@ -1,4 +1,4 @@
--- Where the rows of a tree have the cells of typed rows, a change of the one row that passes a test is one of the typed rows.
+-- If the rows of a tree have the cells of typed rows, a change of the one row that passes a test is one of the typed rows.
 use Rattle.std.proofs.Common.{◌≡◌, ℤ, List, [], ◌∷◌, map, filter, drop, Bool, true, false, cond, if◌then◌else◌, IsTrue, refl, sym, ap, ap₂, subst, ◌∙◌}
 use Rattle.std.specs.List.{AllByRecursion}
 use Rattle.sqlite.specs.declared.types.Value.{Value}

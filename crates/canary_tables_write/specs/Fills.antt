@@ -1,4 +1,4 @@
--- What is written where the first schema's rows become a desk's.
+-- What is written when the first schema's rows become a desk's.
 use Rattle.std.specs.Prelude.{◌≡◌, ◌++◌, ℕ, List, [], ◌∷◌, map, IsTrue, Result, OnOk}
 use Rattle.sqlite.specs.Order.{Row, column}
 use Rattle.sqlite.specs.State.{State, HasCleanDisk}
@@ -14,7 +14,7 @@ use Rattle.canary_tables_schema.specs.Remakes.{AreKept}
 use Rattle.canary_tables_schema.specs.Schema.{schema_at}
 use Rattle.canary_tables_schema.specs.Stores.{IsReady}
 
--- INSERT: these rows more, behind the others
+-- INSERT: these rows more, after the others
 
 abbrev pub with_revisions : List RevisionRow → Tables → Tables
 with_revisions rows t = record t { revisions = t.revisions ++ rows }

@@ -42,7 +42,7 @@ fn bind<S: Alter>(
 /// A run of the service is bound to these revisions, each by a row of its own.
 ///
 /// # Errors
-/// `Memory` where an allocation was refused, `Storage` where the store failed.
+/// `Memory` if an allocation was refused, `Storage` if the store failed.
 pub(crate) fn bind_all<S: Alter>(
     tx: &mut Transaction<'_, S>,
     service: &Name,
@@ -125,7 +125,7 @@ fn revisions_of(alloc: Global, bound: &Bound) -> Result<Listed<Revision>, Memory
 /// A command that begins an attempt binds it, as the service then stands; another one does nothing.
 ///
 /// # Errors
-/// `Memory` where an allocation was refused, `Storage` where the store failed.
+/// `Memory` if an allocation was refused, `Storage` if the store failed.
 pub(crate) fn put_bindings<S: Alter>(
     tx: &mut Transaction<'_, S>,
     alloc: Global,

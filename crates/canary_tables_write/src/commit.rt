@@ -190,7 +190,7 @@ fn keep<S: Alter>(
 /// says, if the command begins an attempt, whether the one before it is bound.
 ///
 /// # Errors
-/// `Memory` where an allocation was refused, `Storage` where the store failed; nothing changed.
+/// `Memory` if an allocation was refused, `Storage` if the store failed; nothing changed.
 pub fn commit<S: Alter>(
     conn: &mut Connection<S>,
     alloc: Global,

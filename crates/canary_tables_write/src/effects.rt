@@ -211,7 +211,7 @@ fn apply_effect<S: Alter>(
 /// All of it happens, in order.
 ///
 /// # Errors
-/// `Memory` where an allocation was refused, `Storage` where the store failed.
+/// `Memory` if an allocation was refused, `Storage` if the store failed.
 pub(crate) fn apply_effects<S: Alter>(
     tx: &mut Transaction<'_, S>,
     alloc: Global,

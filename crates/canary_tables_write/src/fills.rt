@@ -1,5 +1,5 @@
-//! What is written where the first schema's rows become a desk's: rows that are given whole, each
-//! behind the others, and the number of the schema. After an error nothing is said of the tables in
+//! What is written when the first schema's rows become a desk's: rows that are given whole, each
+//! after the others, and the number of the schema. After an error nothing is said of the tables in
 //! the transaction, and what was committed stays.
 ghost use Rattle.std.specs.Prelude.{◌≡◌, false, IsTrue, OnOk, pos, option_map};
 ghost use Rattle.sqlite.specs.Held.{state};
@@ -15,7 +15,7 @@ use canary_tables_rows::rows::{BindingRow, RevisionRow, TallyRow};
 use sqlite::{Alter, Error, Transaction, params};
 
 /// Makes the one row of `meta`, whose id is 1, that of a desk, which is 1, 2. An error is the
-/// database's, as where memory is refused, or that a failure has ended the transaction.
+/// database's, for example if memory is refused, or that a failure has ended the transaction.
 pub fn set_schema<S: Alter>(tx: &mut Transaction<'_, S>) -> Result<usize, Error>
     ensures writes { Writes tx.old.conn.ghost_name tx.new.conn.ghost_name
         (state S.Store tx.old.conn.now) (state S.Store tx.new.conn.now) result }
@@ -28,7 +28,8 @@ pub fn set_schema<S: Alter>(tx: &mut Transaction<'_, S>) -> Result<usize, Error>
     tx.execute("UPDATE meta SET schema = 2", &[])
 }
 
-/// Inserts these revisions, in order. An error is the database's, as where one is there already.
+/// Inserts these revisions, in order. An error is the database's, for example if one is there
+/// already.
 pub fn insert_revisions<S: Alter>(
     tx: &mut Transaction<'_, S>,
     rows: &[RevisionRow],
@@ -58,8 +59,8 @@ fn revision_row<S: Alter>(tx: &mut Transaction<'_, S>, row: &RevisionRow) -> Res
     insert_revision(tx, &row.name, row.revision, row.spec.as_str())
 }
 
-/// Inserts these rows of bindings, in order. An error is the database's, as where one of the runs
-/// is bound to a revision of that template already, or its service is not there.
+/// Inserts these rows of bindings, in order. An error is the database's, for example if one of the
+/// runs is bound to a revision of that template already, or its service is not there.
 pub fn insert_bindings<S: Alter>(
     tx: &mut Transaction<'_, S>,
     rows: &[BindingRow],
@@ -89,8 +90,8 @@ fn binding_row<S: Alter>(tx: &mut Transaction<'_, S>, row: &BindingRow) -> Resul
     insert_binding(tx, &row.service, row.run, &row.template, row.revision)
 }
 
-/// Inserts these tallies, with their counts, in order. An error is the database's, as where one is
-/// there already.
+/// Inserts these tallies, with their counts, in order. An error is the database's, for example if
+/// one is there already.
 pub fn insert_counts<S: Alter>(tx: &mut Transaction<'_, S>, rows: &[TallyRow]) -> Result<(), Error>
     ensures writes { Writes tx.old.conn.ghost_name tx.new.conn.ghost_name
         (state S.Store tx.old.conn.now) (state S.Store tx.new.conn.now) result }

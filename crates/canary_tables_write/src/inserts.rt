@@ -1,4 +1,4 @@
-//! INSERT: one row more in a table, behind the others. After an error nothing is said of the tables
+//! INSERT: one row more in a table, after the others. After an error nothing is said of the tables
 //! in the transaction, and what was committed stays.
 ghost use Rattle.std.specs.Prelude.{◌≡◌, [], None};
 ghost use Rattle.sqlite.specs.Held.{state};
@@ -23,7 +23,7 @@ use canary_base::names::Name;
 use canary_tables_rows::rows::{MeasurementRow, ServiceColumns};
 use sqlite::{Alter, Error, Transaction, params};
 
-/// Inserts a caller whose first request is settled. An error is the database's, as where the
+/// Inserts a caller whose first request is settled. An error is the database's, for example if the
 /// caller is there already.
 pub fn insert_caller<S: Alter>(tx: &mut Transaction<'_, S>, name: &Name) -> Result<usize, Error>
     ensures writes { Writes tx.old.conn.ghost_name tx.new.conn.ghost_name
@@ -37,8 +37,8 @@ pub fn insert_caller<S: Alter>(tx: &mut Transaction<'_, S>, name: &Name) -> Resu
     )
 }
 
-/// Inserts a settled request: the canonical text of its command, and the status and the body of
-/// its reply. An error is the database's, as where the caller has a request of that number.
+/// Inserts a settled request: the canonical text of its command, and the status and the body of its
+/// reply. An error is the database's, for example if the caller has a request of that number.
 pub fn insert_kept<S: Alter>(
     tx: &mut Transaction<'_, S>,
     caller: &Name,
@@ -66,7 +66,8 @@ pub fn insert_kept<S: Alter>(
 }
 
 /// Inserts a revision of a template, by its number, from 1, and the canonical text of the command
-/// that added it. An error is the database's, as where the template has a revision of that number.
+/// that added it. An error is the database's, for example if the template has a revision of that
+/// number.
 pub fn insert_revision<S: Alter>(
     tx: &mut Transaction<'_, S>,
     name: &Name,
@@ -92,7 +93,7 @@ pub fn insert_revision<S: Alter>(
 }
 
 /// Inserts a service, by the canonical text of the command that made it, and how it stands. An
-/// error is the database's, as where the service is there already.
+/// error is the database's, for example if the service is there already.
 pub fn insert_service<S: Alter>(
     tx: &mut Transaction<'_, S>,
     name: &Name,
@@ -129,8 +130,8 @@ pub fn insert_service<S: Alter>(
 }
 
 /// Inserts which revision of a template a run of a service is bound to; run 0 stands for the
-/// service's present attempt. An error is the database's, as where the run is bound to one of that
-/// template already, or the service is not there.
+/// service's present attempt. An error is the database's, for example if the run is bound to one of
+/// that template already, or the service is not there.
 pub fn insert_binding<S: Alter>(
     tx: &mut Transaction<'_, S>,
     service: &Name,
@@ -157,8 +158,8 @@ pub fn insert_binding<S: Alter>(
     )
 }
 
-/// Inserts a run that is open: of the analysis at a step, or of the background where that is none.
-/// An error is the database's, as where the service has a run of that number.
+/// Inserts a run that is open: of the analysis at a step, or of the background if there is no step.
+/// An error is the database's, for example if the service has a run of that number.
 pub fn insert_run<S: Alter>(
     tx: &mut Transaction<'_, S>,
     service: &Name,
@@ -186,7 +187,7 @@ pub fn insert_run<S: Alter>(
 }
 
 /// Inserts the tally of no measurements for a metric of a run, by the metric's place in the run,
-/// from 0. An error is the database's, as where the tally is there already.
+/// from 0. An error is the database's, for example if the tally is there already.
 pub fn insert_tally<S: Alter>(
     tx: &mut Transaction<'_, S>,
     service: &Name,
@@ -212,7 +213,7 @@ pub fn insert_tally<S: Alter>(
 }
 
 /// Inserts tallies of no measurements for so many metrics of a run, the first in place 0. An error
-/// is the database's, as where one of the tallies is there already.
+/// is the database's, for example if one of the tallies is there already.
 pub fn insert_tallies<S: Alter>(
     tx: &mut Transaction<'_, S>,
     service: &Name,
@@ -230,7 +231,8 @@ pub fn insert_tallies<S: Alter>(
     Ok(())
 }
 
-/// Inserts a measurement. An error is the database's, as where its metric has one of that number.
+/// Inserts a measurement. An error is the database's, for example if its metric has one of that
+/// number.
 pub fn insert_measurement<S: Alter>(
     tx: &mut Transaction<'_, S>,
     row: &MeasurementRow,
@@ -255,7 +257,8 @@ pub fn insert_measurement<S: Alter>(
     )
 }
 
-/// Inserts a line of a service's history. An error is the database's, as where memory is refused.
+/// Inserts a line of a service's history. An error is the database's, for example if memory is
+/// refused.
 pub fn insert_line<S: Alter>(
     tx: &mut Transaction<'_, S>,
     service: &Name,

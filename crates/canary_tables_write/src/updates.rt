@@ -1,5 +1,5 @@
-//! UPDATE: the one row of a key is changed, where it is there. After an error nothing is said of
-//! the tables in the transaction, and what was committed stays.
+//! UPDATE: the one row of a key is changed, if it is there. After an error nothing is said of the
+//! tables in the transaction, and what was committed stays.
 ghost use Rattle.std.specs.Prelude.{◌≡◌, Some};
 ghost use Rattle.sqlite.specs.Held.{state};
 ghost use Rattle.canary_tables_rows.specs.Changes.{HasCaller, HasService, HasBinding, HasRun, HasTally};
@@ -14,8 +14,8 @@ use canary_condition::outcome::Phase;
 use canary_tables_rows::rows::ServiceColumns;
 use sqlite::{Alter, Error, Transaction, params};
 
-/// Sets how many requests of a caller are settled. An error is the database's, as where memory is
-/// refused.
+/// Sets how many requests of a caller are settled. An error is the database's, for example if
+/// memory is refused.
 pub fn update_caller<S: Alter>(
     tx: &mut Transaction<'_, S>,
     name: &Name,
@@ -32,8 +32,8 @@ pub fn update_caller<S: Alter>(
     )
 }
 
-/// Sets how a service stands; the command that made it stays. An error is the database's, as where
-/// memory is refused.
+/// Sets how a service stands; the command that made it stays. An error is the database's, for
+/// example if memory is refused.
 pub fn update_service<S: Alter>(
     tx: &mut Transaction<'_, S>,
     name: &Name,
@@ -63,7 +63,7 @@ pub fn update_service<S: Alter>(
 }
 
 /// Sets which revision of a template a run of a service is bound to; run 0 stands for the service's
-/// present attempt. An error is the database's, as where memory is refused.
+/// present attempt. An error is the database's, for example if memory is refused.
 pub fn update_binding<S: Alter>(
     tx: &mut Transaction<'_, S>,
     service: &Name,
@@ -84,7 +84,7 @@ pub fn update_binding<S: Alter>(
 }
 
 /// Closes a run of a service: at a moment, from outside (1, else 0), and at the verdict with this
-/// number. An error is the database's, as where memory is refused.
+/// number. An error is the database's, for example if memory is refused.
 pub fn close_run<S: Alter>(
     tx: &mut Transaction<'_, S>,
     service: &Name,
@@ -108,7 +108,7 @@ pub fn close_run<S: Alter>(
 }
 
 /// Counts one more measurement of a metric in a run, of that phase and taken at that moment. An
-/// error is the database's, as where memory is refused.
+/// error is the database's, for example if memory is refused.
 pub fn count_measurement<S: Alter>(
     tx: &mut Transaction<'_, S>,
     service: &Name,

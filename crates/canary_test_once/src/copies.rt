@@ -29,7 +29,7 @@ struct Desk {
     service: Service,
 }
 
-/// None where memory was refused.
+/// None if memory was refused.
 fn desk_of(alloc: Global, book: &mut MemoryBook) -> Option<Desk> {
     let templates = book.templates(&[name("t")?]).ok()?.copy(alloc).ok()?;
     let service = book.service(&name("web")?).ok()??;
@@ -52,7 +52,7 @@ const REPLY: &str = concat!(
     r#""verdict":"Running","weight":10}"#
 );
 
-/// What the report comes to; none where memory was refused.
+/// What the report comes to; none if memory was refused.
 fn decided(alloc: Global, desk: &Desk) -> Option<Decision> {
     let at = moment("60")?;
     let asked = command(alloc, FAILED)?;
@@ -67,7 +67,7 @@ fn failed(alloc: Global) -> Option<CanonicalCommand> {
     CanonicalCommand::of(alloc, &command(alloc, FAILED)?).ok()
 }
 
-/// The report as it is settled; none where memory was refused.
+/// The report as it is settled; none if memory was refused.
 fn settlement(alloc: Global, decision: Decision) -> Option<Settlement> {
     let caller = name("ops")?;
     let number = Number::new(1)?;

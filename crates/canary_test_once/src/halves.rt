@@ -53,7 +53,7 @@ fn are_tallies() -> Option<bool> {
     Some(are_none && recount(&list) == counts)
 }
 
-// None where memory was refused.
+// None if memory was refused.
 fn is_handed_on(alloc: Global) -> Option<bool> {
     let text = Text::of(String::from_str(alloc, "web").ok()?);
     Some(text.into_string().as_str() == "web")

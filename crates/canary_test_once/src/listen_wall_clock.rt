@@ -26,7 +26,7 @@ impl time::Clock for Machine {
     }
 }
 
-// What the machine's clock reads, `-` if it fails, and the moment that is told then.
+// What the machine's clock reads, `-` if it fails, and the moment that is given then.
 const MOMENTS: &str = "\
     - 0
 1767225600 1767225600

@@ -1,6 +1,6 @@
 //! The book in memory: what stories leave, with moments that fall, which no program gives it; pages
 //! of measurements, which no request or query asks for; and what it answers. Each test holds as
-//! well where any one allocation is refused.
+//! well if any one allocation is refused.
 
 use crate::rows::{B, event, is_right, moment, name};
 use crate::sending::{answer, has_status, parts, send_story, settled};
@@ -57,7 +57,7 @@ fn word(state: ReleaseState) -> &'static str {
     }
 }
 
-/// Whether the service web is left so; none where memory was refused.
+/// Whether the service web is left so; none if memory was refused.
 fn is_left(book: &mut MemoryBook, told: &str) -> Option<bool> {
     let (state, after) = told.split_once(' ')?;
     let at = moment(after)?;
@@ -139,7 +139,7 @@ const ABORTED: &str = r#"200 ops 5 0 {"abort":{"service":"web"}}"#;
 
 const NOT_ABORTED: &str = r#"422 ops 5 0 {"abort":{"service":"web"}}"#;
 
-/// Whether a row is answered by the function for its kind; none where memory was refused.
+/// Whether a row is answered by the function for its kind; none if memory was refused.
 fn is_answered(alloc: Global, book: &mut MemoryBook, row: &str) -> Option<bool> {
     let (status, asked) = parts(row)?;
     let answer = match event(alloc, asked)? {
@@ -149,7 +149,7 @@ fn is_answered(alloc: Global, book: &mut MemoryBook, row: &str) -> Option<bool> 
     has_status(&answer, status)
 }
 
-/// Whether a row's answer among others has its status, and so has its copy; none where memory was
+/// Whether a row's answer among others has its status, and so has its copy; none if memory was
 /// refused.
 fn is_copied(alloc: Global, book: &mut MemoryBook, row: &str) -> Option<bool> {
     let (status, asked) = parts(row)?;
@@ -161,14 +161,14 @@ fn is_copy(answer: &Answer, copy: &Answer, status: u16) -> Option<bool> {
     Some(has_status(answer, status)? && copy.status() == status && copy.body() == answer.body())
 }
 
-/// Whether the receipt of the start has a copy; none where memory was refused.
+/// Whether the receipt of the start has a copy; none if memory was refused.
 fn has_receipt(alloc: Global, book: &mut MemoryBook) -> Option<bool> {
     let kept = book.receipt(&name("ops")?, Number::new(3)?).ok()??;
     let copy = kept.copy(alloc).ok()?;
     Some(copy.command.is_same(&kept.command) && copy.reply.status.code() == 200)
 }
 
-/// Whether the first run has a copy; none where memory was refused.
+/// Whether the first run has a copy; none if memory was refused.
 fn has_record(alloc: Global, book: &mut MemoryBook) -> Option<bool> {
     let run = book.run(&name("web")?, Number::new(1)?).ok()??;
     let copy = run.copy(alloc).ok()?;
@@ -196,7 +196,7 @@ fn of_book(alloc: Global, book: &mut MemoryBook, call: u32) -> Option<bool> {
     }
 }
 
-/// The run and the ordinal of a measurement; zeros where there is none.
+/// The run and the ordinal of a measurement; zeros if there is none.
 fn place(measured: Option<&Recorded>) -> (u32, u32) {
     match measured {
         Some(measured) => (measured.run, measured.ordinal),
@@ -204,7 +204,7 @@ fn place(measured: Option<&Recorded>) -> (u32, u32) {
     }
 }
 
-/// How many measurements a page has, and which are its first and its last; none where memory was
+/// How many measurements a page has, and which are its first and its last; none if memory was
 /// refused.
 fn page(book: &mut MemoryBook, from: u64, most: u32) -> Option<(usize, (u32, u32), (u32, u32))> {
     let page = book.measurements(&name("web")?, from, most).ok()?;

@@ -26,7 +26,7 @@ pub(crate) fn refused(is_memory: bool) -> Option<bool> {
     if is_memory { None } else { Some(false) }
 }
 
-/// What stands before the first of that mark, and what behind it: nothing where there is none.
+/// What stands before the first of that mark, and what after it: nothing if there is none.
 pub(crate) fn cut(text: &str, mark: char) -> (&str, &str) {
     text.split_once(mark).unwrap_or((text, ""))
 }
@@ -41,7 +41,7 @@ pub(crate) fn name(text: &str) -> Option<Name> {
     Name::read(text.as_bytes())
 }
 
-/// The command with that canonical text; none where it is none's, or memory was refused.
+/// The command with that canonical text; none if it is no command's, or memory was refused.
 pub(crate) fn command(alloc: Global, text: &str) -> Option<Command> {
     from_canonical(alloc, text).ok()
 }
@@ -77,7 +77,7 @@ fn queried(asked: &str) -> Option<Event> {
     Some(Event::Query { moment, query })
 }
 
-/// What a row sends; none where it sends nothing, or memory was refused.
+/// What a row sends; none if it sends nothing, or memory was refused.
 pub(crate) fn event(alloc: Global, asked: &str) -> Option<Event> {
     match asked.strip_prefix("? ") {
         Some(asked) => queried(asked),
@@ -89,7 +89,7 @@ fn is_printed<T: Display>(alloc: Global, value: &T, words: &str) -> Result<bool,
     Ok(format!(in alloc; "{value}")?.as_str() == words)
 }
 
-/// Whether the value is printed so; it is printed again where memory was refused.
+/// Whether the value is printed so; it is printed again if memory was refused.
 pub(crate) fn says<T: Display>(alloc: Global, value: &T, words: &str) -> Result<bool, Memory> {
     match is_printed(alloc, value, words) {
         Ok(is_so) => Ok(is_so),

@@ -1,5 +1,5 @@
 //! Requests and queries in rows, sent to a book. What was answered 503 changed nothing, and is sent
-//! again. The bodies of answers are told by the program (tests/stories).
+//! again. The program shows the bodies of answers (tests/stories).
 //!
 //! A row is the status of its answer, and what is sent (rows.rt).
 
@@ -17,7 +17,7 @@ pub(crate) fn parts(row: &str) -> Option<(u16, &str)> {
     Some((status.parse().ok()?, asked))
 }
 
-/// Whether an answer has this status; none where it is 503 for memory.
+/// Whether an answer has this status; none if it is 503 for memory.
 pub(crate) fn has_status(answer: &Answer, status: u16) -> Option<bool> {
     match answer {
         Answer::Replied(reply) => Some(reply.status.code() == status),
@@ -25,7 +25,7 @@ pub(crate) fn has_status(answer: &Answer, status: u16) -> Option<bool> {
     }
 }
 
-/// The answer to a copy of what is asked, or none where memory was refused before it.
+/// The answer to a copy of what is asked, or none if memory was refused before it.
 pub(crate) fn answer(alloc: Global, book: &mut MemoryBook, asked: &str) -> Option<Answer> {
     let event = event(alloc, asked)?.copy(alloc).ok()?;
     run(alloc, book, &[event]).ok()?.pop()
@@ -36,7 +36,7 @@ pub(crate) fn settled(book: &mut MemoryBook) -> Option<u32> {
     book.settled(&name("ops")?).ok()
 }
 
-/// Whether the answer to a row has its status; none where memory was refused.
+/// Whether the answer to a row has its status; none if memory was refused.
 fn is_answered(alloc: Global, book: &mut MemoryBook, row: &str) -> Option<bool> {
     let (status, asked) = parts(row)?;
     has_status(&answer(alloc, book, asked)?, status)

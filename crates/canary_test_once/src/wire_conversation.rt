@@ -75,7 +75,7 @@ impl Read for Incoming<'_> {
     }
 }
 
-// Takes so many bytes a write, with a pause after each where these are few.
+// Takes so many bytes a write, with a pause after each if these are few.
 #[derive(Drop)]
 struct Outgoing {
     bytes: Vec<u8>,
@@ -251,7 +251,7 @@ fn is_answered(alloc: Global, size: usize, out: usize, most: usize) -> Result<bo
     Ok(is_bounded && desk.writer.bytes.as_slice() == REPLIES.as_bytes())
 }
 
-// Asked again where a reply may say that memory was refused.
+// Asked again if a reply may say that memory was refused.
 #[test]
 fn answers_in_any_pieces(rt: HostRuntime) -> Result<(), Fail> {
     let alloc = rt.alloc();
@@ -283,7 +283,7 @@ fn is_written(
     Ok(desk.writer.writes == writes && ran.turns <= turns)
 }
 
-// Whether 260 messages at once go out by one write a turn, where it takes 64 a turn.
+// Whether 260 messages at once go out by one write a turn, if it takes 64 a turn.
 fn is_written_by_turns(alloc: Global, stream: &str) -> Result<bool, Memory> {
     is_written(alloc, stream, FAR, 5, 8)
 }
@@ -343,7 +343,7 @@ fn queries_wait(rt: HostRuntime) -> Result<(), Fail> {
 // A query, and the begin of one that is a history, or seems to be one.
 const BEFORE_HISTORY: &str = "GET /services/web HTTP/1.1\r\n\r\n\r\nGET ";
 
-// What stands behind its target.
+// What stands after its target.
 const AFTER_HISTORY: &str = " HTTP/1.1\r\n\r\n";
 
 // Targets, each with how many of two replies come while no history is answered.
@@ -433,7 +433,7 @@ fn check_new(rt: &impl Abort, alloc: Global, desk: &mut Desk) -> Result<(), Fail
     Ok(())
 }
 
-// Each request has a reply, and is settled where that accepts it, wherever memory is refused.
+// Each request has a reply, and is settled if that accepts it, wherever memory is refused.
 #[test]
 fn settles_nothing_unanswered(rt: HostRuntime) -> Result<(), Fail> {
     let alloc = rt.alloc();
@@ -449,7 +449,7 @@ fn is_at(alloc: Global, stream: &str, stage: ConversationState) -> Result<bool, 
     Ok(before == ConversationState::Open && desk.talk.stage() == stage)
 }
 
-// Asked again where memory was refused.
+// Asked again if memory was refused.
 #[test]
 fn stages_of_conversations(rt: HostRuntime) -> Result<(), Fail> {
     let alloc = rt.alloc();

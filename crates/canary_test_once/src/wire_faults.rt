@@ -26,7 +26,7 @@ const STREAM: &str = concat!(
     r#"{"promote":{"service":"web"}}"#
 );
 
-// What answers it where the store fails at first.
+// What answers it if the store fails at first.
 const REPLIES: &str = concat!(
     "HTTP/1.1 503 Service Unavailable\r\nContent-Type: application/json\r\n",
     "Content-Length: 18\r\n\r\n",
@@ -114,7 +114,7 @@ fn serve_failing(alloc: Global, written: &mut Vec<u8>, fails: u32) -> Result<End
     serve(alloc, &mut stream, written, &mut now, &mut book)
 }
 
-// Whether the failure was told of once, and the request was settled as it came again.
+// Whether the failure was reported once, and the request was settled as it came again.
 fn went_on(ended: Result<Ended, ServeFault>, written: &[u8]) -> Result<bool, Memory> {
     let tells_of_memory = written
         .windows(9)

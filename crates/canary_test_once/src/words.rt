@@ -1,4 +1,4 @@
-//! What is printed of faults, and of names where a program is looked into.
+//! What is printed of faults, and of names if a program is looked into.
 use crate::rows::says;
 use canary_base::error::Memory;
 use canary_base::names::{Label, Name};
@@ -48,7 +48,7 @@ fn is_said(alloc: Global, value: usize, words: &str) -> Result<bool, Memory> {
     }
 }
 
-// Whether names show as texts in quotes; none where memory was refused.
+// Whether names show as texts in quotes; none if memory was refused.
 fn are_shown(alloc: Global) -> Option<bool> {
     let name = Name::read("web-2".as_bytes())?;
     let label = Label::read("V1.2".as_bytes())?;

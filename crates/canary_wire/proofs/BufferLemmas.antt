@@ -1,4 +1,4 @@
--- A part of a buffer, and what is written behind it.
+-- A part of a buffer, and what is written after it.
 use Rattle.std.proofs.Common.{◌≡◌, ℕ, ◌+◌, ◌-◌, ◌≤◌, List, [], ◌++◌, take, drop, length, refl, sym, ap, ◌∙◌, arith}
 use Rattle.std.specs.Prelude.{slice_range}
 use Rattle.std.proofs.lemmas.List.{append-nil, append_assoc, length-take, length-take-le, length-drop, drop-take, drop-drop, drop-append-le, take-append-drop}
@@ -10,7 +10,7 @@ slice_drop xs s e n h =
     let split : e - s ≡ n + (e - (s + n)) = omega arith in
     sym (ap (λ k. drop n (take k (drop s xs))) split ∙ drop-take n (e - (s + n)) (drop s xs) ∙ ap (take (e - (s + n))) (drop-drop n s xs))
 
--- a slice, and what was written behind it
+-- a slice, and what was written after it
 pub slice_filled : (xs got rest : List ℕ) (s e n : ℕ) → s ≤ e → e ≤ length xs → length got ≡ n
     → slice_range (take e xs ++ (got ++ rest)) s (e + n) ≡ slice_range xs s e ++ got
 slice_filled xs got rest s e n se ex nb =

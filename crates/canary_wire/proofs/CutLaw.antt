@@ -20,7 +20,7 @@ fronts a b x y l e = (
 body_len : (m n : ℕ) → Body m ≡ Body n → m ≡ n
 body_len m n e = cc
 
--- the head of a message, and what is behind it
+-- the head of a message, and what is after it
 head_of : (m : Message) (bytes x : List ℕ) → IsMessage m → bytes ≡ message_bytes m ++ x → HasHead bytes m.head (m.body ++ x)
 head_of m bytes x is e = (is.head, e ∙ append_assoc (print_request m.head) m.body x)
 
@@ -55,7 +55,7 @@ rejected_none bytes x r bare m (framed h after why has f) is e =
 abbrev pub Stops : List ℕ → Type 0
 Stops rest = (m : Message) (x : List ℕ) → KeepsOpen m → rest ≡ message_bytes m ++ x → ⊥
 
--- the list of messages after which the stream goes on, and what stands behind them
+-- the list of messages after which the stream goes on, and what stands after them
 same_front : (ms ns : List Message) (r q : List ℕ) → flat_map message_bytes ms ++ r ≡ flat_map message_bytes ns ++ q
     → AllByRecursion KeepsOpen ms → AllByRecursion KeepsOpen ns → Stops r → Stops q → (ms ≡ ns) × (r ≡ q)
 same_front [] [] r q same a b u v = (refl, same)

@@ -1,4 +1,4 @@
--- How a stream ends is one thing too, but that one which ends inside a target or behind the 64th header line may also be rejected.
+-- How a stream ends is one thing too, but that one which ends inside a target or after the 64th header line may also be rejected.
 use Rattle.std.proofs.Common.{◌≡◌, ℕ, ◌⊎◌, inl, inr, Bool, true, false, List, [], ◌∷◌, ◌++◌, refl, sym, ap, ◌∙◌, subst, arith}
 use Rattle.std.specs.Prelude.{◌&&◌, ◌==◌, if◌then◌else◌}
 use Rattle.std.specs.List.{list_all}

@@ -163,7 +163,7 @@ module _ {K : Type 0} where
       let back : length (b ∷ c) - 1 ≡ length c = omega arith in
       seek-cons _ b (c ++ q) ∙ rw (step-byte b rs small, step-param rs, step-catch_all rs, ps, seek-empty 0 (c ++ q), or_else-none, back, seek-drop (length c) tail (c ++ q), drop-append_seam c q) refl
 
-  -- a parameter with a slash behind it, and these rows going on there
+  -- a parameter with a slash after it, and these rows going on there
   pub seek-param : (rs tail : RowsOf K) (b : ℕ) (c q : List ℕ) → b < 256 → list_any is_slash (b ∷ c) ≡ false
       → taken rs (b ∷ (c ++ 47 ∷ q)) (b ∷ (c ++ 47 ∷ [])) ≡ (length (b ∷ c), tail)
       → seek 0 (under_param rs) (b ∷ (c ++ 47 ∷ q)) ≡ seek 0 tail (47 ∷ q)
@@ -241,7 +241,7 @@ finds_service b c small h =
     seek-lits (codes "/services/") the_rows (b ∷ c) refl
     ∙ seek-last at_service b c small h (longest-none b c (codes "history") (codes "runs/" ++ param_token ∷ []) history_row.1 run_row.1 service_row.1 h)
 
--- the name of a service, and this behind it
+-- the name of a service, and this after it
 finds_behind : (b : ℕ) (c q : List ℕ) → b < 256 → list_any is_slash (b ∷ c) ≡ false → first the_rows (codes "/services/" ++ ((b ∷ c) ++ 47 ∷ q)) ≡ seek 0 behind_service (47 ∷ q)
 unfolding the_rows
 finds_behind b c q small h =
@@ -293,7 +293,7 @@ finds (run (b ∷ c) (x ∷ n)) bytes p =
 found : (path : List ℕ) (t : Target) → AreBytes path → IsSplit path t → first the_rows path ≡ Some (row_of t)
 found path t bytes s = ap (first the_rows) s.whole ∙ finds t (subst AreBytes s.whole bytes) s.parts
 
--- where the router finds nothing there is no route
+-- if the router finds nothing there is no route
 pub none_found : (path : List ℕ) → AreBytes path → first the_rows path ≡ None → HasNoRoute path
 none_found path bytes nothing t p = none-some (row_of t) (sym nothing ∙ found path t bytes p.split)
 
@@ -307,7 +307,7 @@ value_is (service name) = refl
 value_is (history name) = refl
 value_is (run name number) = refl
 
--- where it finds a route, a path that is split as that route says, or not at all, is so split or has none
+-- if it finds a route, a path that is split as that route says, or not at all, is so split or has none
 pub some_found : {P : Type 0} (path : List ℕ) (r : RouteOf Route) (seen : P → Target) (split : Option P) → AreBytes path → IsUtf8 path → first the_rows path ≡ Some r
     → MatchOption split ((t : Target) → r.value ≡ route_to t → ¬ (IsSplit path t)) (λ parts. IsSplit path (seen parts))
     → MatchOption split (HasNoRoute path) (λ parts. IsPathOf path (seen parts))
@@ -316,11 +316,11 @@ some_found path r seen (Some parts) bytes text is s = record { text = text; spli
 
 -- ---- splitting
 
--- what is behind a front is one text
+-- what is after a front is one text
 pub one_behind : (path front a b : List ℕ) → path ≡ front ++ a → path ≡ front ++ b → a ≡ b
 one_behind path front a b e f = sym (drop-append_seam front a) ∙ ap (drop (length front)) (sym e ∙ f) ∙ drop-append_seam front b
 
--- what stands before the first slash, where a part does
+-- what stands before the first slash, if a part does
 before_slash : (c q : List ℕ) → list_any is_slash c ≡ false → EndsPart q → before_first is_slash (c ++ q) ≡ c
 before_slash [] [] h ends = refl
 before_slash [] (b ∷ q) h ends = rw ends refl
@@ -335,12 +335,12 @@ ends_by : (b : ℕ) (l : List ℕ) (v : Bool) → (b == 47) ≡ v → EndsPart (
 ends_by b l true e more = (let same : b ≡ 47 = grind (arith, nat_tests) in rw e same)
 ends_by b l false e more = rw (e, one-add) more
 
--- behind it stands nothing, or the slash
+-- after it stands nothing, or the slash
 ends_behind : (l : List ℕ) → EndsPart (behind_slash l)
 ends_behind [] = tt
 ends_behind (b ∷ l) = ends_by b l (b == 47) refl (ends_behind l)
 
--- (here `front` is a front, `rest` what stands behind it, `upto` what stands before the first slash of that, and `part` and `after` the two halves)
+-- (here `front` is a front, `rest` what stands after it, `upto` what stands before the first slash of that, and `part` and `after` the two halves)
 module _ (path front rest upto part after : List ℕ) (whole : path ≡ front ++ rest) (is : upto ≡ before_first is_slash rest) (first_is : part ≡ take (length upto) rest) (then_is : after ≡ drop (length upto) rest) where
   part_as : part ≡ take (length (before_first is_slash rest)) rest
   part_as = first_is ∙ ap (λ t. take (length t) rest) is

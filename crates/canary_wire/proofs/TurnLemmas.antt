@@ -1,4 +1,4 @@
--- Turns of a conversation, and what it waits for behind them.
+-- Turns of a conversation, and what it waits for after them.
 use Rattle.std.proofs.Common.{◌≡◌, ℕ, Bool, true, false, List, [], ◌++◌, length, refl, sym, ap, ◌∙◌, subst}
 use Rattle.std.proofs.lemmas.List.{append-nil}
 use Rattle.std.specs.Prelude.{if◌then◌else◌}
@@ -56,7 +56,7 @@ module _ (r r1 w w1 w2 : Known) (p q : DeskState) (a b c d : Talk) (first : Send
 
 -- ---- what it waits for
 
--- behind a read of nothing
+-- after a read of nothing
 pub still_listens : (held new got unsent : List ℕ) (s : ConversationState) → IsListening (talk held unsent s) → new ≡ held ++ got → got ≡ [] → IsListening (talk new unsent s)
 still_listens held new got unsent s l e none =
     let same : held ≡ new = sym (e ∙ ap (λ t. held ++ t) none ∙ append-nil held) in

@@ -76,7 +76,7 @@ IsListening t = (t.stage ≡ Open) × (t.unsent ≡ []) × IsUnfinished t.held
 abbrev pub IsOver : Talk → Type 0
 IsOver t = t.stage ≢ Open
 
--- why a conversation ended whose input ended with these bytes behind the last message
+-- why a conversation ended whose input ended with these bytes after the last message
 abbrev pub end_cause : List ℕ → Cause
 end_cause rest = if list_all is_newline rest then cause.EndOfInput else cause.Truncated
 
@@ -100,13 +100,13 @@ Awaits r t (wants.Close cause) = IsCause r t cause
 
 -- ---- the steps of a turn
 
--- what was read is behind what was read before
+-- what was read is after what was read before
 pub record Receives (r new_r : Known) (old new : Talk) : Type 0 where
   pub got : List ℕ
   pub read : Consumes r new_r got
   pub order : KeepsOrder old new got [] []
 
--- what was written is behind what was written before
+-- what was written is after what was written before
 pub record Sends (w new_w : Known) (old new : Talk) : Type 0 where
   pub put : List ℕ
   pub written : Appends w new_w put
@@ -124,7 +124,7 @@ abbrev pub Replies : Known → Known → DeskState → DeskState → Talk → Ta
 Replies w new_w p q old new =
     (mid : Talk) × AnswersMore p q old mid × Sends w new_w mid new
 
--- where a conversation stands behind a step
+-- where a conversation stands after a step
 abbrev pub StandsAt : Talk → StepResult → Type 0
 StandsAt t Answered = t.stage ≡ Open
 StandsAt t Waits = (t.stage ≡ Open) × IsUnfinished t.held

@@ -37,7 +37,7 @@ pub record KeepsOpen (m : Message) : Type 0 where
   pub is : IsMessage m
   pub stays : closes m.head ≡ false
 
--- ---- what stands first where no message does
+-- ---- what stands first if no message does
 
 -- the bytes begin with this head, within the limits
 abbrev pub HasHead : List ℕ → RequestHead → List ℕ → Type 0
@@ -104,11 +104,11 @@ pub data IsCut (bytes : List ℕ) : List Message → Ending → Type 0 where
       → Begins bytes ms rest → IsRejected rest r bare
       → IsCut bytes ms (rejecting r bare)
 
--- bytes that end inside the target of a request or behind the 64th header line
+-- bytes that end inside the target of a request or after the 64th header line
 abbrev pub IsInDoubt : List ℕ → Type 0
 IsInDoubt rest = EndsInTarget rest ⊎ RequestExceeds 64 rest
 
--- two ends of one stream behind these messages are the same, but where what is left is in doubt, it
+-- two ends of one stream after these messages are the same, but if what is left is in doubt, it
 -- may be cut off or rejected
 abbrev pub SameEnding : List ℕ → List Message → Ending → Ending → Type 0
 SameEnding bytes ms e f =

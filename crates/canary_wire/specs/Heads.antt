@@ -33,7 +33,7 @@ framing_one v coded =
     else (if coded then Rejected Length
     else (if nat_lt 65536 (digits_value 10 v) then Rejected TooLong else Body (digits_value 10 v)))
 
--- how long the body is, by all of them, where it is coded or not, for a method that needs a length
+-- how long the body is, by all of them, whether coded or not, for a method that needs a length
 -- or not
 abbrev pub framing : Bool → List (List ℕ) → Bool → Framing
 framing needs [] coded = if coded || needs then Rejected Length else Body 0

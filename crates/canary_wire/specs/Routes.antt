@@ -146,7 +146,7 @@ abbrev pub EndsPart : List ℕ → Type 0
 EndsPart [] = Unit {0}
 EndsPart (b ∷ rest) = b ≡ 47
 
--- behind this front stands this part, and behind that the rest
+-- after this front stands this part, and after that the rest
 pub record StandsBehind (path front part rest : List ℕ) : Type 0 where
   pub whole : path ≡ front ++ (part ++ rest)
   pub part_is : IsPart part

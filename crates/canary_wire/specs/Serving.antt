@@ -17,7 +17,7 @@ use Rattle.canary_base.specs.Writes.{Known}
 use Rattle.canary_once.specs.Messages.{messages_of, DeskState, AnsweredInOrder, HandledAll}
 use Rattle.canary_wire.specs.Dispositions.{HttpExchange, IsExchange, reply_bytes}
 
--- how a stream ends whose input ends with these bytes behind the last message
+-- how a stream ends whose input ends with these bytes after the last message
 abbrev pub end_of : List ℕ → Ended
 end_of rest = if list_all is_newline rest then EndOfInput else Truncated
 
@@ -77,7 +77,7 @@ pub record IsProperPrefix (text front : List ℕ) : Type 0 where
   pub parts : text ≡ front ++ back
   pub short : 0 < length back
 
--- these exchanges were held, and in the midst of the last one's reply, or of the rejection's behind
+-- these exchanges were held, and in the midst of the last one's reply, or of the rejection's after
 -- it, the writer failed
 pub data IsCutShort (bytes text : List ℕ) : List HttpExchange → Type 0 where
   in_reply : (xs : List HttpExchange) (last : HttpExchange) (rest front : List ℕ)

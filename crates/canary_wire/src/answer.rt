@@ -25,7 +25,7 @@ use std::alloc::Global;
 use std::io::Write;
 
 // Answers the message that stands first in these bytes: the clock is asked once, the register is
-// asked where the message is a request or a query, and then the reply is written.
+// asked if the message is a request or a query, and then the reply is written.
 pub(crate) fn answer<W: Write, C: Clock, B: Book>(
     alloc: Global,
     router: &Router<Route>,
@@ -73,7 +73,7 @@ fn handle<B: Book>(
     }
 }
 
-// The same where the message is a request.
+// The same if the message is a request.
 fn handle_request<B: Book>(
     alloc: Global,
     address: Address,
@@ -103,7 +103,7 @@ fn handle_request<B: Book>(
     }
 }
 
-// The same where the message is a query, whose body says nothing.
+// The same if the message is a query, whose body says nothing.
 fn handle_query<B: Book>(alloc: Global, query: &Query, moment: Moment, book: &mut B) -> Response
     ensures { (method target body : List ℕ) → IsAsked method target (Ok (Wanted.Query query.now))
         → (h : HttpDisposition) × (result ≡ response_of h)

@@ -69,7 +69,7 @@ impl Buffer {
         self.end = 0;
     }
 
-    // Reads more bytes behind those that it holds, and says how many: none only at the end of the
+    // Reads more bytes after those that it holds, and says how many: none only at the end of the
     // input. It holds nothing then that can be answered: what is whole is answered before more is
     // waited for. On a fault nothing was read.
     pub(crate) fn fill<R: Read>(&mut self, reader: &mut R) -> Result<usize, ReadFault>
@@ -85,7 +85,7 @@ impl Buffer {
         self.read_behind(reader)
     }
 
-    // The same where there is room behind the bytes that it holds.
+    // The same if there is room after the bytes that it holds.
     fn read_behind<R: Read>(&mut self, reader: &mut R) -> Result<usize, ReadFault>
         requires unfinished { IsUnfinished (bytes_held self.old) }
         requires room { self.old.end < 81920 }
@@ -105,7 +105,7 @@ impl Buffer {
         }
     }
 
-    // Makes room behind the bytes that it holds.
+    // Makes room after the bytes that it holds.
     fn compact(&mut self)
         requires { length (bytes_held self.old) < 81920 }
         ensures kept { bytes_held self.new ≡ bytes_held self.old }

@@ -1,5 +1,5 @@
-//! A conversation with one client, turn by turn: where `serve` waits for its reader and its
-//! writer, a turn never does, so many clients can be served at once.
+//! A conversation with one client, turn by turn: `serve` waits for its reader and its writer, but a
+//! turn never does, so many clients can be served at once.
 ghost use Rattle.std.specs.Prelude.{◌≡◌, ◌≢◌, None, [], length, IfOk, IfSome};
 ghost use Rattle.canary_base.specs.Writes.{Known};
 ghost use Rattle.canary_once.specs.Messages.{desk_state};
@@ -51,7 +51,7 @@ impl Routes {
     /// The routes.
     ///
     /// # Errors
-    /// `Memory` where an allocation was refused.
+    /// `Memory` if an allocation was refused.
     pub fn new(alloc: Global) -> Result<Routes, Memory> {
         match routes(alloc) {
             Ok(router) => Ok(Routes { router }),
@@ -71,7 +71,7 @@ pub enum ConversationState {
     Broken,
 }
 
-/// What a conversation waits for behind a turn.
+/// What a conversation waits for after a turn.
 #[derive(Clone, Copy, Debug, PartialEq, Eq)]
 pub enum Wants {
     /// For bytes of the client: it is open, nothing is owed, and no whole message is held.
@@ -92,7 +92,7 @@ pub enum Wants {
 /// Why a conversation ended before a last reply.
 #[derive(Clone, Copy, Debug, PartialEq, Eq)]
 pub enum Cause {
-    /// The client ended its sending side, and nothing but line ends stood behind its last message.
+    /// The client ended its sending side, and nothing but line ends stood after its last message.
     /// Everything was answered and written: this is no fault.
     EndOfInput,
     /// The client ended its sending side in the midst of a message. All before it was answered and
@@ -128,7 +128,7 @@ impl Conversation {
     /// reply.
     ///
     /// # Errors
-    /// `Memory` where there was none for the buffer of 81,920 bytes, or for a first reply.
+    /// `Memory` if there was none for the buffer of 81,920 bytes, or for a first reply.
     pub fn new(alloc: Global, max_unsent: usize) -> Result<Conversation, Memory>
         ensures { IfOk result (λ conversation. talk_of conversation ≡ begun) }
     {
@@ -177,7 +177,7 @@ impl Conversation {
         asks_for_history(bytes) && is_whole(bytes)
     }
 
-    /// How many messages were answered, the last not counted where it ended the conversation.
+    /// How many messages were answered, the last not counted if it ended the conversation.
     pub fn answered(&self) -> u64 {
         self.answered
     }
@@ -208,13 +208,13 @@ impl Conversation {
     /// While `pace` answers no queries, a query that stands first is left where it is, and so is
     /// what is held after it. While it answers no histories, so is the whole query of one.
     ///
-    /// For each message the clock is asked once, the register is asked where the message is a
-    /// request or a query, and its reply is owed. Where there is no memory for one more reply to a
-    /// request, what is owed is written first. A client that ends its sending side still gets its
-    /// replies: the end is read only where nothing is owed.
+    /// For each message the clock is asked once, the register is asked if the message is a request
+    /// or a query, and its reply is owed. If there is no memory for one more reply to a request,
+    /// what is owed is written first. A client that ends its sending side still gets its replies:
+    /// the end is read only if nothing is owed.
     ///
-    /// After `Rest` or `Nothing` no further turn is needed. A turn after `Rest`, or where there was
-    /// no memory for a reply, reads, writes and asks nothing.
+    /// After `Rest` or `Nothing` no further turn is needed. A turn after `Rest`, or if there was no
+    /// memory for a reply, reads, writes and asks nothing.
     pub fn turn<R: Read, W: Write, C: Clock, B: Book, P: Pace>(
         &mut self,
         alloc: Global,
@@ -249,7 +249,7 @@ impl Conversation {
         Wants::Read
     }
 
-    // Writes what is owed, once: none where nothing is owed then.
+    // Writes what is owed, once: none if nothing is owed then.
     fn write_unsent<W: Write>(&mut self, writer: &mut W) -> Option<Wants>
         ensures sends { Sends (W.contents writer.old) (W.contents writer.new)
             (talk_of self.old) (talk_of self.new) }
@@ -265,7 +265,7 @@ impl Conversation {
         None
     }
 
-    // Reads once: none where more came.
+    // Reads once: none if more came.
     fn read_more<R: Read>(&mut self, reader: &mut R) -> Option<Wants>
         requires { IsListening (talk_of self.old) }
         ensures receives { Receives (R.remaining reader.old) (R.remaining reader.new)
@@ -280,7 +280,7 @@ impl Conversation {
         }
     }
 
-    // Answers what is held, and writes that: none where more bytes are needed.
+    // Answers what is held, and writes that: none if more bytes are needed.
     fn reply<W: Write, C: Clock, B: Book, P: Pace>(
         &mut self,
         alloc: Global,
@@ -311,7 +311,7 @@ impl Conversation {
         }
     }
 
-    // Answers what is held: `Answered` where there may be more to answer.
+    // Answers what is held: `Answered` if there may be more to answer.
     fn answer_all<C: Clock, B: Book, P: Pace>(
         &mut self,
         alloc: Global,
@@ -382,7 +382,7 @@ impl Conversation {
             || (!pace.answers_histories() && self.begins_with_history())
     }
 
-    // The same, where it is open and has room.
+    // The same, if it is open and has room.
     fn answer_first<C: Clock, B: Book>(
         &mut self,
         alloc: Global,
@@ -428,8 +428,8 @@ fn is_query(bytes: &[u8]) -> bool {
     behind_get(bytes).is_some()
 }
 
-// What stands behind the method of a query, if these bytes begin with one, after the empty lines
-// that may stand before a message.
+// What follows the method of a query, if these bytes begin with one, after the empty lines that may
+// stand before a message.
 fn behind_get(bytes: &[u8]) -> Option<&[u8]> {
     let begin = bytes
         .iter()
@@ -460,7 +460,7 @@ fn is_whole(bytes: &[u8]) -> bool {
     }
 }
 
-// Why a conversation ended whose input ended with these bytes behind the last message.
+// Why a conversation ended whose input ended with these bytes after the last message.
 fn end_cause(rest: &[u8]) -> Cause
     ensures { result ≡ end_cause rest.now }
 {

@@ -51,7 +51,7 @@ pub(crate) fn first_message(bytes: &[u8]) -> FirstMessage
     }
 }
 
-// What stands first where a whole head does.
+// What stands first if a whole head does.
 fn first_with_head(bytes: &[u8], headers: &[HeaderSpan], head: RequestSpans) -> FirstMessage
     requires within { IsRequestWithin bytes.now headers.now head }
     requires of { IsRequestOf bytes.now headers.now head }

@@ -114,7 +114,7 @@ impl FramingFields {
         !matches!(self, FramingFields::Zero)
     }
 
-    // How long the body is, where these are the values of `Content-Length`.
+    // How long the body is, if these are the values of `Content-Length`.
     fn frame(self, buf: &[u8], needs: bool, coded: bool) -> Framing
         requires { IsShown buf.now self }
         ensures is { (values : List (List ℕ))

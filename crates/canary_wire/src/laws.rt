@@ -9,8 +9,8 @@ use canary_once::book::Book;
 use canary_once::clock::Clock;
 use canary_once::laws::running_on;
 
-/// A stream has one list of messages and one end, but that where the input ends inside the target
-/// of a request or behind the 64th header line, it may be cut off or rejected.
+/// A stream has one list of messages and one end, but if the input ends inside the target of a
+/// request or after the 64th header line, it may be cut off or rejected.
 pub fn one_cut()
     ensures messages { (bytes : List ℕ) (ms ns : List Message) (e f : Ending)
         → IsCut bytes ms e → IsCut bytes ns f → ms ≡ ns }

@@ -2,9 +2,9 @@
 //!
 //! Callers may rest on this: over any reader, writer, clock and book `serve` cuts the bytes that it
 //! reads into messages, in one way only, and writes their replies in order: each is a rejection
-//! that the rules fix, a 503, or, where the store is honest, the register's answer at the clock's
-//! next moment. Of a `Conversation` with one client all its turns say the same, whatever other
-//! clients are answered between them.
+//! that the rules fix, a 503, or, if the store is honest, the register's answer at the clock's next
+//! moment. Of a `Conversation` with one client all its turns say the same, whatever other clients
+//! are answered between them.
 //!
 //! In use (canary_cli, src/perform.rt):
 //!

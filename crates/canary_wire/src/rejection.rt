@@ -17,7 +17,7 @@ pub(crate) enum Allowed {
 pub(crate) enum Rejection {
     // No head of a request, or a `Content-Length` twice or that is no number.
     Malformed,
-    // A body whose length is not told by a `Content-Length` alone.
+    // A body whose length is not given by a `Content-Length` alone.
     Length,
     // A body that is longer than the limit.
     TooLong,
@@ -27,7 +27,7 @@ pub(crate) enum Rejection {
     Method(Allowed),
     // A caller or a service that is no name.
     BadName,
-    // A number that is none of a request or of a run.
+    // A number that is not one of a request or of a run.
     BadNumber,
     // A command that asks for what the desk does not do.
     Unsupported,

@@ -12,7 +12,7 @@ use canary_once::event::Answer;
 use http::StatusCode;
 use std::io::Write;
 
-// Room for the head of any reply, and behind it for most bodies.
+// Room for the head of any reply, and after it for most bodies.
 const ROOM: usize = 512;
 
 // What the reply to a message says.
@@ -60,9 +60,9 @@ impl Response {
     }
 }
 
-// Writes the reply that says this: its head alone where that is asked, and with `Connection: close`
-// where the stream ends after it. It takes no memory. What went out before a fault are the first
-// bytes of the reply.
+// Writes the reply that says this: its head alone if that is asked, and with `Connection: close` if
+// the stream ends after it. It takes no memory. What went out before a fault are the first bytes of
+// the reply.
 #[tactic(auto, unfolding(crate::specs::ReplyTexts::reply_text))]
 pub(crate) fn write_reply<W: Write>(
     writer: &mut W,
@@ -85,7 +85,7 @@ pub(crate) fn write_reply<W: Write>(
     write_both(writer, head, body)
 }
 
-// The status code, or 500 in place of a number that is none.
+// The status code, or 500 if the number is invalid.
 fn status_code(status: u16) -> StatusCode
     ensures { result ≡ status_code status }
 {

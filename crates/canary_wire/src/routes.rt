@@ -59,9 +59,9 @@ pub(crate) fn routes(alloc: Global) -> Result<Router<Route>, InsertError>
     Ok(router)
 }
 
-// What this method and this target ask for, or the first of these that holds: `NoRoute` where the
-// target, up to its first question mark, is no route or not UTF-8, `Method` where the method is not
-// that of the route, `BadName` and `BadNumber` where a part is no name or no number.
+// What this method and this target ask for, or the first of these that holds: `NoRoute` if the
+// target, up to its first question mark, is no route or not UTF-8, `Method` if the method is not
+// that of the route, `BadName` and `BadNumber` if a part is no name or no number.
 pub(crate) fn asked_of(
     router: &Router<Route>,
     method: &[u8],
@@ -157,7 +157,7 @@ fn name_of(bytes: &[u8]) -> Result<Name, Rejection>
     Name::read(bytes).ok_or(Rejection::BadName)
 }
 
-// The parts of a path, where this route is its only one.
+// The parts of a path, if this route is its only one.
 fn split(route: Route, path: &[u8]) -> Option<PathParts<'_>>
     ensures { MatchOption result ((t : Target) → route ≡ route_to t → ¬ (IsSplit path.now t))
         (λ parts. IsSplit path.now (target_of parts)) }
@@ -224,7 +224,7 @@ fn split_run(path: &[u8]) -> Option<PathParts<'_>>
     Some(PathParts::Run(name, number))
 }
 
-// The part that stands behind that front, up to the next slash, and what stands behind it.
+// The part that stands after that front, up to the next slash, and what stands after it.
 fn part_behind<'a>(path: &'a [u8], front: &[u8]) -> Option<(&'a [u8], &'a [u8])>
     ensures parts { MatchOption result
         ((part rest : List ℕ) → ¬ (StandsBehind path.now front.now part rest))
@@ -242,7 +242,7 @@ fn part_behind<'a>(path: &'a [u8], front: &[u8]) -> Option<(&'a [u8], &'a [u8])>
     }
 }
 
-// The part that stands behind that front, and is the last.
+// The part that stands after that front, and is the last.
 fn last_part<'a>(path: &'a [u8], front: &[u8]) -> Option<&'a [u8]>
     ensures { MatchOption result
         ((part : List ℕ) → IsPart part → path.now ≢ front.now ++ part)
@@ -252,7 +252,7 @@ fn last_part<'a>(path: &'a [u8], front: &[u8]) -> Option<&'a [u8]>
     if is_part(part) { Some(part) } else { None }
 }
 
-// What stands behind that front.
+// What stands after that front.
 fn behind<'a>(text: &'a [u8], front: &[u8]) -> Option<&'a [u8]>
     ensures { MatchOption result ((rest : List ℕ) → text.now ≢ front.now ++ rest)
         (λ rest. text.now ≡ front.now ++ rest.now) }

@@ -31,7 +31,7 @@ const MAX_READS: u32 = 1_000_000_000;
 /// How a stream ended.
 #[derive(Clone, Copy, Debug, PartialEq, Eq)]
 pub enum Ended {
-    /// The input ended, and nothing but line ends stood behind the last message.
+    /// The input ended, and nothing but line ends stood after the last message.
     EndOfInput,
     /// The last message asked for that, or was rejected in a way that ends the stream.
     Closed,
@@ -65,17 +65,17 @@ pub(crate) enum Turn {
 /// Serves a stream of requests of HTTP (RFC 9110, RFC 9112), each answered as soon as it is whole.
 ///
 /// The bytes that are read are cut into messages. For each the clock is asked once, the register is
-/// asked where the message is a request or a query, and its reply is written before more is read.
-/// The stream ends at the end of the input, after a message of HTTP/1.0 or with
-/// `Connection: close`, at a message that is rejected as `malformed`, `length` or `too-long`, or
-/// after 1,000,000,000 reads. Where memory runs out behind the first read, the reply is 503.
+/// asked if the message is a request or a query, and its reply is written before more is read. The
+/// stream ends at the end of the input, after a message of HTTP/1.0 or with `Connection: close`, at
+/// a message that is rejected as `malformed`, `length` or `too-long`, or after 1,000,000,000 reads.
+/// If memory runs out after the first read, the reply is 503.
 ///
 /// # Errors
-/// `Memory` where there was none for the buffer of 81,920 bytes or for the routes: nothing was
-/// read, written or asked. `Read` where the reader failed, also where it was interrupted: all that
-/// was read before is answered. `Write` where the writer failed or took no byte: what was written
-/// are the replies up to the midst of one; the message of that one is the last that was answered,
-/// and if it was a new request, and not answered 503, it is settled.
+/// `Memory` if there was none for the buffer of 81,920 bytes or for the routes: nothing was read,
+/// written or asked. `Read` if the reader failed, also if it was interrupted: all that was read
+/// before is answered. `Write` if the writer failed or took no byte: what was written are the
+/// replies up to the midst of one; the message of that one is the last that was answered, and if it
+/// was a new request, and not answered 503, it is settled.
 pub fn serve<R: Read, W: Write, C: Clock, B: Book>(
     alloc: Global,
     reader: &mut R,
@@ -158,7 +158,7 @@ fn serve_turns<R: Read, W: Write, C: Clock, B: Book>(
     Ok(Ended::TurnsSpent)
 }
 
-// How a stream ended whose input ended with these bytes behind the last message.
+// How a stream ended whose input ended with these bytes after the last message.
 fn end_of(rest: &[u8]) -> Ended
     ensures { result ≡ end_of rest.now }
 {

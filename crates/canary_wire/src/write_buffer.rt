@@ -10,14 +10,14 @@ use std::alloc::Global;
 use std::io::Write;
 
 // Room for the reply to any request that is new: a head of some hundred bytes, and at most 32
-// phases with a service behind them.
+// phases with a service after them.
 const ROOM: usize = 1_024;
 
 // The most memory that is kept once all is written: a long reply gives its memory back.
 const MAX_KEPT: usize = 16_384;
 
-// Bytes that are to be written, in order. As a writer it keeps what is written to it, and fails
-// where there is no memory.
+// Bytes that are to be written, in order. As a writer it keeps what is written to it, and fails if
+// there is no memory.
 #[derive(Drop)]
 pub(crate) struct WriteBuffer {
     bytes: Vec<u8>,
@@ -47,7 +47,7 @@ impl WriteBuffer {
         self.sent = 0;
     }
 
-    // Takes room for the reply to a request behind what is owed: none is taken where nothing is.
+    // Takes room for the reply to a request after what is owed: none is taken if nothing is.
     pub(crate) fn make_room(&mut self) -> Result<(), Memory>
         ensures same { bytes_unsent self.new ≡ bytes_unsent self.old }
         ensures room { OnOk result (HasRoom self.new) }
@@ -62,7 +62,7 @@ impl WriteBuffer {
         &self.bytes[self.sent..]
     }
 
-    // Writes once, if there is something: some of it, or nothing where the writer would block.
+    // Writes once, if there is something: some of it, or nothing if the writer would block.
     pub(crate) fn write_to<W: Write>(&mut self, writer: &mut W) -> Result<(), WriteFault>
         ensures sent { (put : List ℕ) × (bytes_unsent self.old ≡ put ++ bytes_unsent self.new)
             × Appends (W.contents writer.old) (W.contents writer.new) put }

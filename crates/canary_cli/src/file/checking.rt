@@ -14,7 +14,7 @@ struct CheckState {
     // The bytes that are read so far, and from how many on a line may be written.
     read: u64,
     next: u64,
-    // How long no line is written where no terminal is.
+    // How long no line is written if there is no terminal.
     pause: Pause,
     // Whether the line of a terminal says how far it is.
     is_drawn: bool,
@@ -29,7 +29,7 @@ impl CheckState {
         CheckState { read, ..self }
     }
 
-    // The same, where no line may be written before a megabyte more is read.
+    // The same, but no line may be written before a megabyte more is read.
     fn with_next(self) -> CheckState {
         let next = self.read.saturating_add(MEGABYTE);
         CheckState { next, ..self }
@@ -52,7 +52,7 @@ pub struct CheckDisplay {
     rt: HostRuntime,
     bytes: u64,
     is_terminal: bool,
-    // None where nothing is shown.
+    // None if nothing is shown.
     state: Option<Rc<Cell<CheckState>>>,
 }
 

@@ -11,7 +11,7 @@ use std::io::ErrorKind;
 #[derive(Drop)]
 pub(crate) struct ExclusiveFile {
     files: Files<File>,
-    // The log, where it was made since there was none.
+    // The log, if it was made since there was none.
     made: Option<String>,
 }
 
@@ -42,7 +42,7 @@ impl ExclusiveFile {
     }
 }
 
-// The name of the log of a file, where it is not there.
+// The name of the log of a file, if it is not there.
 fn log_to_make(rt: &HostRuntime, file: &str) -> Result<Option<String>, Fault> {
     match log_of(rt, file) {
         Ok(log) => Ok(if_missing(rt, log)),

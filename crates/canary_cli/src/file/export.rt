@@ -12,7 +12,7 @@ use std::io::Write;
 /// Writes the measurements of a service in a file, under this caller.
 ///
 /// # Errors
-/// `BadName` where the service's name or the caller's is none: no file is opened then. What `open`
+/// `BadName` if the service's name or the caller's is invalid: no file is opened then. What `open`
 /// and canary_programs' `export_rows` answer.
 pub fn export<W: Write, F: Write>(
     rt: &HostRuntime,

@@ -12,8 +12,8 @@ use std::io::Write;
 /// Writes the history of a service in a file as it is stored: no time passes.
 ///
 /// # Errors
-/// `BadName` where the service's name is none: no file is opened then. What `open` answers.
-/// `UnknownService` where there is no such service, and nothing is written. `Write` where the
+/// `BadName` if the service's name is invalid: no file is opened then. What `open` answers.
+/// `UnknownService` if there is no such service, and nothing is written. `Write` if the
 /// output failed. `Memory` and `Storage`: nothing is written.
 pub fn history<W: Write, F: Write>(
     rt: &HostRuntime,

@@ -10,12 +10,12 @@ use std::io::{ErrorKind, Read, Write};
 const INPUT: &str = "-";
 
 /// Imports a measurement file into the book of a file, by the machine's clock, and writes each
-/// row's line as it goes. The file `csv` is the input where that is `-`. How many bytes are read is
+/// row's line as it goes. The file `csv` is the input if that is `-`. How many bytes are read is
 /// shown on standard error.
 ///
 /// # Errors
-/// `File` where the measurement file cannot be opened, or is a folder: the book is not opened then.
-/// What `open` and canary_programs' `import_rows` answer. `Storage` where the book's file fails as
+/// `File` if the measurement file cannot be opened, or is a folder: the book is not opened then.
+/// What `open` and canary_programs' `import_rows` answer. `Storage` if the book's file fails as
 /// it is closed; what was settled is settled.
 pub fn import<R: Read, W: Write, F: Write>(
     rt: &HostRuntime,
@@ -48,7 +48,7 @@ fn opened(rt: &HostRuntime, csv: &str) -> Result<fs::File, Fault> {
     }
 }
 
-// How many bytes a file has, where that is known: a FIFO and a device have as many as come.
+// How many bytes a file has, if that is known: a FIFO and a device have as many as come.
 fn length_of<O: OpenFile>(file: &O) -> Option<u64> {
     match file.metadata() {
         Ok(found) if found.is_file() => Some(found.len()),

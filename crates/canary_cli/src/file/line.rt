@@ -5,7 +5,7 @@ use std::io::Write;
 /// The bytes of one megabyte.
 pub(crate) const MEGABYTE: u64 = 1_000_000;
 
-/// How many seconds pass before the first line where no terminal is, and between two of them.
+/// How many seconds pass before the first line if there is no terminal, and between two of them.
 pub(crate) const LINE_SECONDS: u64 = 1;
 
 // Erases the line in which the cursor stands.

@@ -40,7 +40,7 @@ pub(crate) fn bytes_of<P: Files + AllocGlobal>(rt: &P, file: &str) -> u64 {
     }
 }
 
-// How many bytes the file of this name has, where all links lead; 0 if it is none.
+// How many bytes the file of this name has, where all links lead; 0 if there is none.
 fn length_of<P: Files>(files: &P, name: &str) -> u64 {
     match found_at(files, name) {
         Stands::File(bytes) => bytes,
@@ -80,7 +80,7 @@ fn look_at_log<P: Files + AllocGlobal>(rt: &P, file: &str, bytes: u64) -> Result
     }
 }
 
-/// Looks, where there is no file of this name, whether its log is there.
+/// Looks, if there is no file of this name, whether its log is there.
 ///
 /// # Errors
 /// `LogAlone` if it is, and has a frame. `Memory` if an allocation was refused.

@@ -54,11 +54,11 @@ pub type FileBook = TableBook<CheckedStore>;
 /// the process. No log is made beside a file that does not begin as a database.
 ///
 /// # Errors
-/// `InUse` where another program has it open; `Memory` where an allocation was refused; `Storage`
-/// where it cannot be opened, is no file or no database, or fails; `LogAlone` where it is missing
-/// or has no bytes, and its log has a frame: nothing is made or written then; `OtherSchema` where
+/// `InUse` if another program has it open; `Memory` if an allocation was refused; `Storage`
+/// if it cannot be opened, is no file or no database, or fails; `LogAlone` if it is missing
+/// or has no bytes, and its log has a frame: nothing is made or written then; `OtherSchema` if
 /// it has tables, indexes or views, and not just a desk's, or its table meta lacks a desk's row;
-/// `BrokenRow` where its rows are not those that a desk leaves.
+/// `BrokenRow` if its rows are not those that a desk leaves.
 pub fn open<F: Write>(
     rt: &HostRuntime,
     file: &str,
@@ -140,7 +140,7 @@ pub(crate) fn is_blank<P: Files + AllocGlobal>(rt: &P, file: &str) -> Result<boo
     if_read(is_unwritten(rt, file))
 }
 
-// What was read of a file: false where it cannot be read.
+// What was read of a file: false if it cannot be read.
 fn if_read(read: io::Result<bool>) -> Result<bool, Fault>
     ensures { IfErr result (λ f. f ≡ fault.Memory) }
 {
@@ -239,7 +239,7 @@ fn unopened(error: Error) -> Fault {
 /// The names of the services of a book in tables, in order.
 ///
 /// # Errors
-/// `Memory` where an allocation was refused, and `Storage` where the tables failed.
+/// `Memory` if an allocation was refused, and `Storage` if the tables failed.
 pub(crate) fn names_of<S: Alter + Drop>(book: &mut TableBook<S>) -> Result<Vec<Name>, Fault> {
     let mut names = book.service_names()?.into_vec();
     names.sort()?;

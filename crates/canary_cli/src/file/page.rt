@@ -12,7 +12,7 @@ use std::time::Duration;
 const STANDARD_OUTPUT: &str = "-";
 
 /// Draws a page of the services in a file, as they stand at the present moment, into the file of
-/// the name `out`, or on `output` where that is `-`: once, or again each time after so many
+/// the name `out`, or on `output` if that is `-`: once, or again each time after so many
 /// seconds. The page is written beside the file of that name, to a file that its owner alone may
 /// read, and renamed to it, so that this is always a whole page. It then has the mode that `Draft`
 /// of canary_backup says. The desk's file is read as `status` reads it. In the folder `json`, if

@@ -4,7 +4,7 @@ use std::time::{self, Instant};
 /// So many seconds from a moment on.
 #[derive(Clone, Copy)]
 pub(crate) struct Pause {
-    // None where the clock could not be read.
+    // None if the clock could not be read.
     begin: Option<Instant>,
     seconds: u64,
 }

@@ -9,7 +9,7 @@ use std::io::{Read, Write};
 /// message is at `at`, and each later one `step` seconds after the one before it.
 ///
 /// # Errors
-/// What `open` answers: nothing is read then. What `answer` does. `Storage` where the file fails as
+/// What `open` answers: nothing is read then. What `answer` does. `Storage` if the file fails as
 /// it is closed; what was settled is settled.
 pub fn pipe<R: Read, W: Write, F: Write>(
     rt: &HostRuntime,

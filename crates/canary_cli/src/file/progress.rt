@@ -29,7 +29,7 @@ enum Unit {
 }
 
 /// Shows how far a program has come. A terminal has one line, which is written anew as it goes, and
-/// erased where it is done. Elsewhere lines are written one below another: none in the first
+/// erased when it is done. Elsewhere lines are written one below another: none in the first
 /// second, then at most one a second, and none that says the same as the one before it. Such a line
 /// waits for nobody who reads it: if it cannot be taken at once, it is left out. A fault of the
 /// stream, a clock that cannot be read, and memory that is refused for a line, are ignored.
@@ -40,11 +40,11 @@ pub struct ProgressDisplay<'a, F: Write> {
     is_terminal: bool,
     unit: Unit,
     done: u64,
-    // The whole; none where it is not known.
+    // The whole; none if it is not known.
     whole: Option<u64>,
     // How much is done when a line may be written next.
     next: u64,
-    // How long no line is written where no terminal is.
+    // How long no line is written if there is no terminal.
     pause: Pause,
     // The number in the last line, if there is one.
     last: Option<u64>,
@@ -71,7 +71,7 @@ impl<'a, F: Write> ProgressDisplay<'a, F> {
         shown
     }
 
-    /// Shows how many bytes are read, of so many where that is known, on `errors`, the standard
+    /// Shows how many bytes are read, of so many if that is known, on `errors`, the standard
     /// error of the process.
     pub fn bytes(
         rt: &'a HostRuntime,
@@ -231,7 +231,7 @@ impl<'a, F: Write> ProgressDisplay<'a, F> {
     }
 }
 
-// As large a share of this as is done of the whole; all of it where the whole is done or unknown.
+// As large a share of this as is done of the whole; all of it if the whole is done or unknown.
 fn share(done: u64, whole: Option<u64>, of: u64) -> u64 {
     match whole {
         Some(whole) if done < whole => of.saturating_mul(done) / whole,
@@ -283,7 +283,7 @@ impl<R: Read, F: Write> Read for Counted<'_, R, F> {
 }
 
 /// Says on a terminal that the file of this name was made. Characters of the name that would
-/// command it are escaped. Nothing is written where it is no terminal. A fault of the terminal, and
+/// command it are escaped. Nothing is written if it is no terminal. A fault of the terminal, and
 /// memory that is refused for the line, are ignored.
 pub fn tell_made<F: Write>(alloc: Global, file: &str, errors: &mut F, is_terminal: bool)
     ensures { is_terminal ≡ false → errors.new ≡ errors.old }

@@ -63,7 +63,7 @@ impl<'a> Seat<'a> {
     }
 
     /// Whether the path leads to another file, or to none, or the file has another hard link. If
-    /// the system does not say where it leads, as where a folder may not be searched, this is
+    /// the system does not say where it leads, as when a folder may not be searched, this is
     /// false.
     pub(crate) fn is_lost<P: Files>(&self, files: &P) -> bool {
         self.is_lost_by(fs::metadata(files, self.path))

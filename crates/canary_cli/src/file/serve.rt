@@ -7,15 +7,15 @@ use canary_programs::serve::{Listening, serve_memory};
 use std::io::Write;
 
 /// Serves clients on the address that `listen` spells, after so many connections no more. The book
-/// is that of a file, which is opened before anybody can connect, or one in memory where none is
+/// is that of a file, which is opened before anybody can connect, or one in memory if none is
 /// given, which a line on `errors` says. The line `listening IP:PORT` goes to `output` once clients
 /// can connect.
 ///
 /// # Errors
-/// `Listen` where `listen` is no address, before anything is opened; then what `open` answers; then
-/// `Listen` where the address cannot be listened on; `Memory` where an allocation was refused;
-/// `Write` where the output failed; `Accept` where waiting for clients failed; `Storage`
-/// where the file fails as it is closed.
+/// `Listen` if `listen` is no address, before anything is opened; then what `open` answers; then
+/// `Listen` if the address cannot be listened on; `Memory` if an allocation was refused;
+/// `Write` if the output failed; `Accept` if waiting for clients failed; `Storage`
+/// if the file fails as it is closed.
 pub fn serve<W: Write, F: Write>(
     rt: &HostRuntime,
     listen: &str,

@@ -60,7 +60,7 @@ impl Shelf<'_> {
 /// # Errors
 /// `File` if a name is one that a desk uses for its own files, if something other than a file
 /// stands there, or if no file can be made there or be given the name; `Write`, `Memory` and
-/// `Storage` as canary_page. The files before that one are whole and new, and those behind it as
+/// `Storage` as canary_page. The files before that one are whole and new, and those after it as
 /// they were.
 pub(crate) fn fill<B: Book, P: DrawingProgress>(
     rt: &HostRuntime,

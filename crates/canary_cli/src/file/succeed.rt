@@ -192,7 +192,7 @@ fn fill<A: Book, F: Write>(
     end_with(filled(rt, old, names, opened))
 }
 
-// Makes the new desk in a book over any store, if it was opened, and gives its connection back.
+// Makes the new desk in a book over any store, if it was opened, and returns its connection.
 fn filled<A: Book, S: Alter + Drop>(
     rt: &HostRuntime,
     old: &mut A,

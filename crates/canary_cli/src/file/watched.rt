@@ -128,7 +128,7 @@ impl<P: Files, B: Book + Drop> Placed for Watched<'_, P, B> {
 }
 
 /// However a watched book came about, it contains what the book contains that it watches, and its
-/// store is honest, and memory alone, exactly where that of the other is.
+/// store is honest, and memory alone, exactly if that of the other is.
 pub(crate) fn watched_books<'a, P: Files, B: Book + Drop>(watched: &Watched<'a, P, B>)
     ensures { IsOver (B.state watched.now.book) (⟦<Watched<'a, P, B> as Book>⟧.state watched.now) }
 {}

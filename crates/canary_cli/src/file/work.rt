@@ -31,7 +31,7 @@ pub(crate) enum BookTask {
     Pipe { at: Moment, step: Moment },
     /// Clients are served.
     Serve(Listening),
-    /// The measurement file that the input is, of so many bytes where that is known, is imported.
+    /// The measurement file that the input is, of so many bytes if that is known, is imported.
     Import { whole: Option<u64> },
     /// The measurements of a service are written, under this caller.
     Export { service: Name, caller: Name },
@@ -55,13 +55,13 @@ impl BookTask {
     }
 }
 
-/// Does this work on the book in a file, which is closed where the work may have settled requests.
-/// A terminal is told if the file was made, unless the work is that of `pipe` or `serve`.
+/// Does this work on the book in a file, which is closed if the work may have settled requests.
+/// A terminal shows it if the file was made, unless the work is that of `pipe` or `serve`.
 ///
 /// # Errors
-/// What `open` answers, or `Storage` where its path was given to another file meanwhile: nothing is
+/// What `open` answers, or `Storage` if its path was given to another file meanwhile: nothing is
 /// read or written then. What canary_programs answers of the work; after `Replaced` nothing more is
-/// written to the file or its log. `Storage` where the file fails as it is closed; what was settled
+/// written to the file or its log. `Storage` if the file fails as it is closed; what was settled
 /// is settled.
 pub(crate) fn on_file<R: Read, W: Write, F: Write>(
     rt: &HostRuntime,
@@ -106,7 +106,7 @@ impl Place {
     }
 }
 
-// Does this work on the book in a file, if it was opened, and gives the connection back where that
+// Does this work on the book in a file, if it was opened, and returns the connection if that
 // is to be closed.
 fn on_opened<S: Alter + Drop, R: Read, W: Write, F: Write>(
     rt: &HostRuntime,
@@ -188,8 +188,8 @@ pub(crate) fn end_with(
     closed.or(Err(Fault::Storage))
 }
 
-// Does this work on a book, each call of which fails once its file is found lost, and gives the
-// book back. It knows no type of book: the prover is at its limit over that of a file.
+// Does this work on a book, each call of which fails once its file is found lost, and returns the
+// book. It knows no type of book: the prover is at its limit over that of a file.
 fn on_watched<B: Book + Drop, R: Read, W: Write, F: Write>(
     rt: &HostRuntime,
     seat: Seat<'_>,
@@ -258,7 +258,7 @@ fn on_book<B: Placed, R: Read, W: Write, F: Write>(
     }
 }
 
-// Imports a measurement file, of so many bytes where that is known, by the machine's clock, and
+// Imports a measurement file, of so many bytes if that is known, by the machine's clock, and
 // shows how much is read.
 fn import_shown<B: Book, R: Read + Drop, W: Write, F: Write>(
     rt: &HostRuntime,

@@ -42,7 +42,7 @@ pub(crate) struct Chart {
 }
 
 /// What a chart shows of its results: the numbers at a spot, from the least to the greatest, of all
-/// measurements, if there are any. What stands for NaN is none.
+/// measurements, if there are any. What stands for NaN is not one of them.
 #[derive(Clone, Copy)]
 pub(crate) struct ChartRow {
     pub(crate) spot: Spot,
@@ -142,7 +142,7 @@ fn rows_of(alloc: Global, spots: &[Spot]) -> Result<Vec<ChartRow>, Memory> {
     Ok(rows)
 }
 
-// Whether the item at this place is shown, where of so many items as many as there is room for are
+// Whether the item at this place is shown, if of so many items as many as there is room for are
 // shown, evenly.
 fn is_one_of(place: u64, whole: u64, room: u64) -> bool {
     part_of(place.saturating_add(1), whole, room) > part_of(place, whole, room)

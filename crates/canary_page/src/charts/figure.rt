@@ -102,7 +102,7 @@ fn with_bounds(
     span
 }
 
-// The end of the run, or what came after it: its start, where the present moment is before that, or
+// The end of the run, or what came after it: its start, if the present moment is before that, or
 // its last measurement.
 fn last_of(shown: &MetricFigure<'_>) -> Moment {
     let end = shown.end.max(shown.started);

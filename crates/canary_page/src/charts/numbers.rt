@@ -22,8 +22,8 @@ impl Span {
         }
     }
 
-    // How far below its greatest number this one is, where the whole span is so long; half of it
-    // where it has one number alone.
+    // How far below its greatest number this one is, if the whole span is so long; half of it if it
+    // has one number alone.
     pub(crate) fn below(self, number: i64, length: u64) -> u64 {
         let whole = self.high.abs_diff(self.low);
         if whole == 0 {

@@ -49,7 +49,7 @@ fn row(page: &mut Markup, line: &Line) {
     page.end(Element::Row);
 }
 
-// What is said of lines that the page does not have.
+// What the page says of lines that it does not have.
 fn earlier(page: &mut Markup, name: Name, lines: usize) {
     let left_out = lines.saturating_sub(MAX_LINES);
     if left_out > 0 {

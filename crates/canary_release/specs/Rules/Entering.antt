@@ -33,13 +33,13 @@ begin_background c at =
     tell (open_run (with_service_state c (record c.service { background = true })) None at) at
     (BackgroundOpened (next_run c))
 
--- the background run is opened, where it begins
+-- the background run is opened if it begins at step i
 abbrev pub open_background : Evolution → ℕ → ℕ → Evolution
 open_background c i at =
     if begins_background c.service.strategy.background i c.service.background then begin_background c at
     else c
 
--- the step's line, and its run where it is an analysis
+-- the step's line, and its run if it is an analysis
 abbrev pub show_step : Evolution → Option Step → ℕ → ℕ → Evolution
 show_step c (Some (SetWeight percent)) i at = tell c at (WeightEntered i percent)
 show_step c (Some (Pause None)) i at = tell c at (PauseEntered i)
@@ -48,7 +48,7 @@ show_step c (Some (Analysis names)) i at =
     tell (open_run c (Some i) at) at (AnalysisEntered i (next_run c))
 show_step c None i at = c
 
--- entering step i at a moment, or the end where i is the number of steps
+-- entering step i at a moment, or the end if i is the number of steps
 abbrev pub enter : Evolution → ℕ → ℕ → Evolution
 enter c i at =
     let there = with_service_state c (record c.service { step = i; entered = at }) in

@@ -14,7 +14,7 @@ abbrev pub is_not_full : Option Counts → Bool
 is_not_full None = true
 is_not_full (Some c) = nat_lt (size c) 1000000
 
--- the tally of a measurement takes it, where it is of that run
+-- the tally of a measurement takes it, if it is of that run
 abbrev pub takes : Recorded → OpenRun → Bool
 takes x r = not (r.number == x.run) || is_not_full (slice_get r.tallies x.metric)
 

@@ -13,7 +13,7 @@ abbrev pub reported_as : Result (Transition × Reported) Refusal → Result Mode
 reported_as (Ok done) = Ok (record { evolution = evolution_of done.0; shows = report_text done.1 })
 reported_as (Err refusal) = Err refusal
 
--- what a phase adds to the text of a list, where phases stand before it or not
+-- what a phase adds to the text of a list, by whether phases stand before it
 abbrev pub phase_words : Bool → Phase → List ℕ
 phase_words false p = quoted_phase p
 phase_words true p = 44 ∷ quoted_phase p

@@ -35,7 +35,7 @@ use canary_plan::templates::Templates;
 use std::alloc::Global;
 
 // The numbers of runs that an attempt may take: one for each of 64 steps, one for the background,
-// and one more where a promotion clears its hold.
+// and one more if a promotion clears its hold.
 const RUNS_OF_AN_ATTEMPT: u32 = 66;
 
 /// Where a command leads a service, and what it adds to its reply if it is a report.
@@ -139,7 +139,7 @@ pub(crate) fn recall_bounds(transition: &Transition)
     let _steps = transition.service.strategy.steps();
 }
 
-// Begins an attempt with that version: at the first step, or at the end where an aborted release
+// Begins an attempt with that version: at the first step, or at the end if an aborted release
 // goes back to its stable version.
 fn start(
     alloc: Global,

@@ -79,7 +79,7 @@ impl Transition {
         Transition { service, tracked }.tell(at, LineEvent::Finished { version })
     }
 
-    // The background run is opened, where it begins.
+    // The background run is opened if it begins at this step.
     fn open_background(self, alloc: Global, step: u32, at: Moment) -> Result<Transition, Memory>
         requires { run_total self < 4294967295 }
         ensures opened { IfOk result
@@ -114,7 +114,7 @@ impl Transition {
         opened.tell(at, LineEvent::BackgroundOpened { run })
     }
 
-    // The step's line, and its run where it is an analysis.
+    // The step's line, and its run if it is an analysis.
     fn show_step(
         self,
         alloc: Global,
@@ -157,7 +157,7 @@ impl Transition {
         opened.tell(at, LineEvent::AnalysisEntered { step, run })
     }
 
-    /// Enters a step, or the end where the index is the number of steps.
+    /// Enters a step, or the end if the index is the number of steps.
     pub(crate) fn enter(self, alloc: Global, step: u32, at: Moment) -> Result<Transition, Memory>
         requires { run_total self + 1 < 4294967295 }
         ensures entered { IfOk result (λ t. evolution_of t ≡ enter (evolution_of self) step at) }
@@ -180,7 +180,7 @@ impl Transition {
         }
     }
 
-    // The background run is opened where it begins, and the step is shown.
+    // The background run is opened if it begins here, and the step is shown.
     fn enter_step(self, alloc: Global, step: u32, at: Moment) -> Result<Transition, Memory>
         requires { run_total self + 1 < 4294967295 }
         ensures entered { IfOk result (λ transition. evolution_of transition

@@ -22,7 +22,7 @@ impl Transition {
         Ok(transition)
     }
 
-    /// Lets time pass up to a moment, or up to the last one where that is later.
+    /// Lets time pass up to a moment, or up to the last one if that is later.
     pub(crate) fn pass(self, alloc: Global, now: Moment) -> Result<Transition, Memory>
         requires { run_total self ≤ 2000000 }
         ensures { IfOk result (λ t. evolution_of t ≡ pass (evolution_of self) now) }

@@ -368,7 +368,7 @@ impl Transition {
         }
     }
 
-    // After a successful run, the next step is entered, where the run was that of the present one.
+    // After a successful run, the next step is entered, if the run was that of the present one.
     fn pass_step(self, alloc: Global, step: Option<u32>, at: Moment) -> Result<Transition, Memory>
         requires room { run_total self + 1 < 4294967295 }
         requires on_step { self.service.step < 4294967295 }
@@ -450,7 +450,7 @@ impl Transition {
         }
     }
 
-    // The verdict of the open run of that number, Running where there is none.
+    // The verdict of the open run of that number, Running if there is none.
     fn verdict_of(&self, number: u32) -> Phase
         ensures { result ≡ verdict_if (evolution_of self.now)
             (open_run_now (evolution_of self.now) number) }
@@ -522,7 +522,7 @@ impl Transition {
     }
 
     /// A report on a service that was passed to that moment: the service with it and what it adds
-    /// to its reply, or why it is refused; `Memory` where memory is refused.
+    /// to its reply, or why it is refused; `Memory` if memory is refused.
     pub(crate) fn report(
         self,
         alloc: Global,

@@ -16,7 +16,7 @@ use std::alloc::Global;
 /// How many tallies the runs have.
 ///
 /// # Errors
-/// `Storage` where there are 2^64 or more.
+/// `Storage` if there are 2^64 or more.
 #[tactic(auto, using(crate::proofs::CountLemmas::tallies_left))]
 pub(crate) fn tally_count(runs: &[RunRecord]) -> Result<u64, ReadFault>
     ensures value { IfOk result (λ count. count
@@ -38,7 +38,7 @@ pub(crate) fn tally_count(runs: &[RunRecord]) -> Result<u64, ReadFault>
 /// How many rows of binding a service has that is bound so, and its runs.
 ///
 /// # Errors
-/// `Memory`; `Storage` where there are 2^64 or more.
+/// `Memory`; `Storage` if there are 2^64 or more.
 pub(crate) fn binding_count(
     alloc: Global,
     bound: &Bound,

@@ -21,12 +21,11 @@ use std::alloc::Global;
 // The most lines that are read at once.
 const PAGE: u32 = 32_768;
 
-/// How many lines the history of the service has, where each row of it is read as a line.
+/// How many lines the history of the service has, if each row of it is read as a line.
 ///
 /// # Errors
-/// `Broken` where a row's words are of no event, or the tables hold what no program can; `Memory`
-/// where there is not enough, `Storage` where the database fails, or has more rows than are
-/// counted.
+/// `Broken` if a row's words are of no event, or the tables hold what no program can; `Memory` if
+/// there is not enough, `Storage` if the database fails, or has more rows than are counted.
 pub(crate) fn lines<Q: Reader>(conn: &mut Q, alloc: Global, name: &Name) -> Result<u64, ReadFault>
     requires ready { Q.IsReady conn.old }
     ensures reads { Reads Q.IsReady Q.place Q.below Q.shows conn.old conn.new }
@@ -45,7 +44,7 @@ pub(crate) fn lines<Q: Reader>(conn: &mut Q, alloc: Global, name: &Name) -> Resu
     Err(ReadFault::Storage)
 }
 
-// How many rows come after so many, one page at most, where each of these is read as a line.
+// How many rows come after so many, one page at most, if each of these is read as a line.
 fn page_of_lines<Q: Reader>(
     conn: &mut Q,
     alloc: Global,

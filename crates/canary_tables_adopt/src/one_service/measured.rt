@@ -48,12 +48,12 @@ impl SoFar {
     }
 }
 
-/// How many measurements the service has, where each of them is read, they come one after another,
-/// and to the tallies of these runs, which are numbered from 1 on.
+/// How many measurements the service has, if each of them is read, they come one after another, and
+/// to the tallies of these runs, which are numbered from 1 on.
 ///
 /// # Errors
-/// `Broken` where that is not so, or the tables hold what no program can; `Memory` where there is
-/// not enough, `Storage` where the database fails, or has more rows than are counted.
+/// `Broken` if that is not so, or the tables hold what no program can; `Memory` if there is not
+/// enough, `Storage` if the database fails, or has more rows than are counted.
 pub(crate) fn measured<Q: Reader>(
     conn: &mut Q,
     alloc: Global,
@@ -83,7 +83,7 @@ pub(crate) fn measured<Q: Reader>(
     Err(ReadFault::Storage)
 }
 
-// How many are counted, where these come to the tallies of the runs.
+// How many are counted, if these come to the tallies of the runs.
 fn tallied(runs: &[RunRecord], so_far: &SoFar) -> Result<u64, ReadFault>
     ensures found { IfOk result (λ count. (count ≡ so_far.now.count)
         × (map (λ (r : RunRecord). r.tallies) runs.now ≡ so_far.now.counts)) }

@@ -28,8 +28,8 @@ pub(crate) struct RunPage {
 /// The rows of the service's runs whose numbers are above `after` and at most `last`.
 ///
 /// # Errors
-/// `Broken` where the tables hold what no program can, `Memory` where there is not enough,
-/// `Storage` where the database fails.
+/// `Broken` if the tables hold what no program can, `Memory` if there is not enough, `Storage` if
+/// the database fails.
 pub(crate) fn page_between<Q: Reader>(
     conn: &mut Q,
     alloc: Global,

@@ -27,8 +27,8 @@ use std::alloc::Global;
 /// rows of binding, of which it has no others but for the templates of this analysis.
 ///
 /// # Errors
-/// `Broken` where they bind no such analysis, or it has others, or the tables hold what no program
-/// can; `Memory` where there is not enough, `Storage` where the database fails.
+/// `Broken` if they bind no such analysis, or it has others, or the tables hold what no program
+/// can; `Memory` if there is not enough, `Storage` if the database fails.
 pub(crate) fn analysis<Q: Reader>(
     conn: &mut Q,
     alloc: Global,

@@ -54,12 +54,12 @@ impl SoFar {
     }
 }
 
-/// The runs 1 to `count` of the service of that strategy, each judged as by `run`, where templates
-/// are judged.
+/// The runs 1 to `count` of the service of that strategy, each judged as by `run`, if templates are
+/// judged.
 ///
 /// # Errors
-/// `Broken` where there are no such runs, or the tables hold what no program can; `Memory` where
-/// there is not enough, `Storage` where the database fails.
+/// `Broken` if there are no such runs, or the tables hold what no program can; `Memory` if there is
+/// not enough, `Storage` if the database fails.
 pub(crate) fn runs<Q: Reader>(
     conn: &mut Q,
     alloc: Global,
@@ -166,7 +166,7 @@ fn with_page<Q: Reader>(
     })
 }
 
-// The runs whose numbers are above `first` and at most `last`, judged and put behind the others.
+// The runs whose numbers are above `first` and at most `last`, judged and put after the others.
 fn judge_rows<Q: Reader>(
     conn: &mut Q,
     alloc: Global,
@@ -220,13 +220,13 @@ fn run_in<Q: Reader>(
     run(conn, alloc, memo, &rows, strategy)
 }
 
-/// The run of a service of that strategy that has these rows, where templates are judged: there is
-/// one row of it, its rows of binding bind its analysis, and it has no others, each of its tallies
-/// has one row, and it has no others, and its verdict is that of its tallies.
+/// The run of a service of that strategy that has these rows, if templates are judged: there is one
+/// row of it, its rows of binding bind its analysis, and it has no others, each of its tallies has
+/// one row, and it has no others, and its verdict is that of its tallies.
 ///
 /// # Errors
-/// `Broken` where there is no such run, or the tables hold what no program can; `Memory` where
-/// there is not enough, `Storage` where the database fails.
+/// `Broken` if there is no such run, or the tables hold what no program can; `Memory` if there is
+/// not enough, `Storage` if the database fails.
 pub(crate) fn run<Q: Reader>(
     conn: &mut Q,
     alloc: Global,
@@ -276,7 +276,7 @@ fn with_tallies(
     }
 }
 
-// The row, where there is one alone.
+// The row, if there is one alone.
 fn only(rows: &[RunRow]) -> Option<RunRow>
     ensures one { IfSome result (λ row. rows.now ≡ row ∷ []) }
     ensures other { result ≡ None → length rows.now ≢ 1 }

@@ -37,13 +37,12 @@ use canary_tables_read::services;
 use canary_tables_rows::rows::ServiceRow;
 use std::alloc::Global;
 
-/// How much the service of that name has, where templates are judged, and it stands once, is made
-/// by an accepted command, is bound by its rows of binding, and has runs, measurements and lines
-/// that come to what it is.
+/// How much the service of that name has, if templates are judged, and it stands once, is made by
+/// an accepted command, is bound by its rows of binding, and has runs, measurements and lines that
+/// come to what it is.
 ///
 /// # Errors
-/// `Broken` where that is not so, `Memory` where there is not enough, `Storage` where the database
-/// fails.
+/// `Broken` if that is not so, `Memory` if there is not enough, `Storage` if the database fails.
 pub(crate) fn validate<Q: Reader>(
     conn: &mut Q,
     alloc: Global,
@@ -117,7 +116,7 @@ fn stand_by(row: &ServiceRow, strategy: &Strategy, bound: &Bound) -> Result<Serv
     reading::service(row.name, strategy, bound, &row.standing).map_err(read_fault)
 }
 
-// How much it has, where its runs, its measurements and its lines come to how it stands.
+// How much it has, if its runs, its measurements and its lines come to how it stands.
 fn judge_past<Q: Reader>(
     conn: &mut Q,
     alloc: Global,

@@ -4,7 +4,7 @@ use Rattle.canary_once.specs.BookCalls.{Stays}
 use Rattle.canary_programs.specs.Successions.{are_going_on, service_again}
 use Rattle.canary_programs.proofs.succession.with_services.Given as goal
 
--- the commands so far are those of the names so far, behind those that were there
+-- the commands so far are those of the names so far, after those that were there
 abbrev pub invariant-loop-name : goal.invariant-loop-name
 invariant-loop-name g l =
     let old = g.B.Book.state l.fn.book in
