@@ -25,8 +25,8 @@ from turns import LATE, PASSED, WRONG, Watch, end_by_signals, is_for_time, parts
 from world import Late, World, running, slowness
 
 # The parts that are left out without these tools.
-PARTS_WITH = {"prometheus": ("try_releases", "try_kills"), "strace": ("try_health_race",),
-              "cc": ("try_hindered", "try_begun", "try_crowded", "try_other_provider",
+PARTS_WITH = {"prometheus": ("try_releases", "try_kills"), "strace": ("try_health_race", "try_unreadable_file"),
+              "cc": ("try_hindered", "try_begun", "try_exhausted", "try_crowded", "try_other_provider",
                      "try_beside_slow", "try_unresolved", "try_two_addresses",
                      "try_unresolved_once", "try_hindered_once", "try_abort_late_away",
                      "try_abort_late_others", "try_pauses", "try_said_again")}

@@ -12,7 +12,7 @@ import time
 
 from journal_rule import journal_of
 from world import (
-    Caller, Unsafe, Wrong, answering, end, environment, expect, rollout, running)
+    Caller, Unsafe, Wrong, answering, end, environment, expect, process, rollout, running)
 from world import wait_until as look_until
 
 # A measurement in the desk's table: what was reported is a result or a failure.
@@ -248,6 +248,20 @@ def agent_of(desk, *files, **more):
     finally:
         if agent.process in running:
             agent.kill()
+
+
+@contextlib.contextmanager
+def traced(agent, path, log, change):
+    """Changes a call of the agent on the file at a path, in strace's words CALL:CHANGE."""
+    words = ["strace", "-f", "-o", str(log), "-p", str(agent.process.pid), "-P", str(path), "-e",
+             f"trace={change.partition(':')[0]}", "-e", f"inject={change}"]
+    with process(words, stdin=subprocess.DEVNULL, stdout=subprocess.DEVNULL,
+                 stderr=subprocess.PIPE) as tracer:
+        if b"attached" not in (told := tracer.stderr.readline()):
+            raise Wrong(f"strace: {told!r}")
+        yield
+        tracer.terminate()
+        tracer.wait()
 
 
 def run_agent(desk, *files, timeout=60, stdin=subprocess.DEVNULL, **more):

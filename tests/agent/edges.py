@@ -13,13 +13,12 @@ import time
 
 from agents import (
     Agent, agent_of, agent_words, beside, but_late, count_measured, desk_for, journals_of, listed,
-    measured, measured_beside, metric, of_web, provider, reply, run_agent, template, wait_measured,
-    wait_until, want_once, want_reported)
+    measured, measured_beside, metric, of_web, provider, reply, run_agent, template, traced,
+    wait_measured, wait_until, want_once, want_reported)
 from journal_rule import journal_of, line_of
 from world import (
     AHEAD, BROKEN, DONE, IN_USE, LOCAL, NO_FILE, NO_JOURNAL_FILE, OTHER_CALLER, PENDING,
-    REFUSED, WORDS, Ended, Late, Wrong, answering, environment, expect, free_port, install,
-    process)
+    REFUSED, WORDS, Ended, Late, Wrong, answering, environment, expect, free_port, install)
 from world import ask as ask_bytes
 
 ONCE = ("--once",)
@@ -311,7 +310,7 @@ def try_health_race(world, server):
         path = desk.folder / "health"
         path.touch()
         with agent_of(desk, options=("--health", str(path))) as agent, \
-                slowed(agent, path, desk.folder / "calls"):
+                traced(agent, path, desk.folder / "calls", "openat:delay_enter=2000000"):
             # it goes on before strace leaves it, which would interrupt a call that waits
             for _ in range(3):
                 os.mkfifo(desk.folder / "fifo")
@@ -324,20 +323,6 @@ def try_health_race(world, server):
             wait_measured(desk, before + 2)
         if "openat" not in (desk.folder / "calls").read_text(encoding="utf-8"):
             raise Wrong("the file was not opened")
-
-
-@contextlib.contextmanager
-def slowed(agent, path, log):
-    """Each call by which the agent opens a file takes two seconds more."""
-    words = ["strace", "-f", "-o", str(log), "-p", str(agent.process.pid), "-P", str(path), "-e",
-             "trace=openat", "-e", "inject=openat:delay_enter=2000000"]
-    with process(words, stdin=subprocess.DEVNULL, stdout=subprocess.DEVNULL,
-                 stderr=subprocess.PIPE) as tracer:
-        if b"attached" not in (told := tracer.stderr.readline()):
-            raise Wrong(f"strace: {told!r}")
-        yield
-        tracer.terminate()
-        tracer.wait()
 
 
 def want_touched(path, row):

@@ -1,7 +1,7 @@
 /* Fails calls of a program that is begun with this library in LD_PRELOAD, as long as the file WHILE
    is there. Of the two words in that file the first is an error's number and the second a port:
-   connect() to that port fails so, with port 0 socket() does, and with -1 a connection that was
-   begun. If the first is below 0, getaddrinfo() answers it, and leaves the second in errno. A host
+   connect() to that port fails so, with port 0 socket() does, with -1 a connection that was begun,
+   and with -PORT one to that port. If the first is below 0, getaddrinfo() answers it, and leaves the second in errno. A host
    whose name begins with `both` has an address of IPv6 first, and then the one of IPv4. The steady
    clock goes FASTER times as fast. */
 #define _GNU_SOURCE
@@ -52,10 +52,17 @@ int connect(int file, const struct sockaddr *address, socklen_t length) {
     return syscall(SYS_connect, file, address, length);
 }
 
+/* Whether a socket has a connection to this port. */
+static int leads_to(int file, int port) {
+    struct sockaddr_in peer;
+    socklen_t length = sizeof peer;
+    return syscall(SYS_getpeername, file, &peer, &length) == 0 && ntohs(peer.sin_port) == port;
+}
+
 int getsockopt(int file, int level, int name, void *value, socklen_t *length) {
     int error, port;
     if (level == SOL_SOCKET && name == SO_ERROR && is_hindered(&error, &port) && error > 0
-        && port == -1) {
+        && (port == -1 || (port < -1 && leads_to(file, -port)))) {
         memcpy(value, &error, sizeof error);
         *length = sizeof error;
         return 0;

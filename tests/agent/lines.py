@@ -6,14 +6,15 @@ import time
 
 from agents import (
     Agent, agent_of, beside, desk_for, measured, measured_beside, metric, of_web, provider,
-    reply, template, wait_until, want_once)
+    reply, run_agent, template, traced, wait_until, want_once)
 from replies import want_plain
 from rows import ESCAPES, GREATEST, LESS, NAN
-from world import Late, Wrong, expect
+from world import LOCAL, Late, Wrong, expect
 
 # What the agent says of a line that it does not take.
 INVALID_LINE = "a line of --values is no SERVICE METRIC VALUE of these files"
 LONG_LINE = "a line of --values has more than 4,096 bytes, and is left out"
+UNREADABLE = "the file with values cannot be read now"
 # Of a kind that no agent asks.
 OTHER = {"datadog": {"query": "avg:errors"}}
 # Whose metric has no condition of its own: the desk's is result == 1.
@@ -199,6 +200,38 @@ def try_input_of_a_file(world):
                            wanted in reported_of(desk, name) or agent.must_run())
                 time.sleep(1)
                 expect(f"{source}: how often", agent.errors().count("ended"), times)
+
+
+def try_unreadable_input(world):
+    """Standard input is a folder, which nobody reads: that is said once, and what a provider
+    measures goes on. With --once the status is 5."""
+    with provider(lambda *_: reply("0.25")) as server, \
+            desk_for(world, "unreadable-input", *manifests_of(SAID[:1], server.port)) as desk:
+        folder = os.open(desk.folder, os.O_RDONLY)
+        with agent_of(desk, options=("--values", "-"), stdin=folder) as agent:
+            agent.wait_said(UNREADABLE)
+            wait_until("others go on", lambda: len(measured(desk, "asked")) > 2)
+            expect("said once", agent.errors().count(UNREADABLE), 1)
+            expect("its end is said", agent.errors().count("ended"), 0)
+        ended = run_agent(desk, options=("--once", "--values", "-"), stdin=folder)
+        os.close(folder)
+        expect("--once", (ended.status, ended.errors.count(UNREADABLE)), (LOCAL, 1))
+
+
+def try_unreadable_file(world):
+    """A file of values on a disk that fails, and fails again later: that is said once each time,
+    and what the file has counts once it can be read."""
+    with reading(world, "unreadable-file", SAID[:1], "file", interval="3s") as (desk, agent, write):
+        values = desk.folder / "values"
+        for times, value in enumerate((b"0.1", b"0.2"), 1):
+            with traced(agent, values, desk.folder / "calls", "read:error=EIO"):
+                write(b"one m %s\n" % value)
+                agent.wait_said(UNREADABLE, times)
+                time.sleep(3)
+                expect("said once", agent.errors().count(UNREADABLE), times)
+            wait_until("what it has counts", lambda times=times:
+                       len(reported_of(desk, "one")) == times or agent.must_run())
+        expect("what counts", reported_of(desk, "one"), ["100000", "200000"])
 
 
 def try_hostile_lines(world):

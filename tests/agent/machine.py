@@ -7,10 +7,10 @@ import subprocess
 import time
 
 from agents import (
-    Agent, agent_of, beside, count_measured, desk_for, journals_of, measured, measured_beside,
+    Agent, agent_of, beside, count_measured, desk_for, journals_of, listed, measured, measured_beside,
     metric, of_web, provider, reply, template, wait_measured, wait_until, want_once, want_rest)
 from rows import silent
-from world import DONE, LOCAL, Wrong, expect
+from world import DONE, LOCAL, Wrong, answering, expect
 
 HINDERED = ("this machine cannot ask a provider, which is tried again, and nothing is reported of"
             " it")
@@ -116,6 +116,62 @@ def try_begun(world):
         expect("how they go", {failure[:9] for failure in failures_of(desk)}, {"no answer"})
         agent.must_run()
         agent.kill()
+
+
+def try_exhausted(world):
+    """No memory is left for a connection that was begun, each time: the provider is asked again
+    after a second, and not at once. Once there is memory, all goes on."""
+    library, begun = library_of(world), []
+    with answering(lambda client: begun.append(client.recv(1))) as port, \
+            provider(lambda *_: reply("0.25")) as server, \
+            desk_for(world, "exhausted", *services(server.port, interval="2s")) as desk:
+        agent = Hindered(desk, library)
+        wait_measured(desk, 1)
+        moved = listed(*services(port, interval="2s"))
+        agent.hinder(errno.ENOBUFS, -port)
+        desk.write("manifests.json", moved)
+        agent.wait_said("ENOMEM")
+        count, seconds = len(begun), 6
+        time.sleep(seconds)
+        count = len(begun) - count
+        if not 2 <= count <= 2 * seconds:
+            raise Wrong(f"{count} connections in {seconds} seconds")
+        desk.write("manifests.json", listed(*services(server.port, interval="2s")))
+        before = count_measured(desk)["m.e6"]
+        wait_measured(desk, before + 2)
+        expect("failures", failures_of(desk), [])
+        agent.must_run()
+        agent.kill()
+        want_once("exhausted", measured(desk))
+    return f"{count} connections in {seconds} seconds"
+
+
+def try_slow_provider(world):
+    """While a provider takes its time the agent waits for it, and does nothing else: it takes no
+    time of a processor."""
+    def answer(*_):
+        time.sleep(6)
+        return reply("0.25")
+
+    with provider(answer) as server, \
+            desk_for(world, "slow-provider", *services(server.port, interval="20s")) as desk, \
+            agent_of(desk) as agent:
+        wait_until("it is asked", lambda: server.asked)
+        before = seconds_of(agent.process)
+        time.sleep(4)
+        taken = seconds_of(agent.process) - before
+        if taken > 1:
+            raise Wrong(f"it took {taken} seconds of a processor in 4 seconds")
+        wait_measured(desk, 1)
+        expect("failures", failures_of(desk), [])
+    return f"{taken:.2f} seconds of a processor in 4 seconds"
+
+
+def seconds_of(process):
+    """The seconds of a processor that a process has taken."""
+    with open(f"/proc/{process.pid}/stat", encoding="ascii") as stat:
+        fields = stat.read().rpartition(")")[2].split()
+    return (int(fields[11]) + int(fields[12])) / os.sysconf("SC_CLK_TCK")
 
 
 def try_crowded(world):

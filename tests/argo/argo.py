@@ -17,7 +17,7 @@ import told
 from asked import Trial, Wrong
 from turns import parts_of
 
-STRACE_PARTS = ("try_empty_name",)
+STRACE_PARTS = ("try_empty_name", "try_full_disk")
 MODULES = (examples, told, attempts, members, outputs, inputs, hostile, pairs)
 
 

@@ -266,6 +266,31 @@ def try_empty_name(trial):
     return "nothing is made"
 
 
+def try_full_disk(trial):
+    """Of the calls by which a file is made, written and named each fails in turn, as on a full
+    disk: that is a fault, and each file that is there is whole (with strace)."""
+    place, faults = os.path.join(trial.folder, "full"), Faults()
+    for call, error in (("write", "ENOSPC"), ("openat", "ENOSPC"), ("/rename", "EIO")):
+        for when in range(1, len(NAMES) + 1):
+            want_fault(trial, ready(place), faults, f"{call}:error={error}:when={when}")
+    faults.end()
+    return f"{3 * len(NAMES)} calls that fail"
+
+
+def want_fault(trial, place, faults, change):
+    """A call in the folder `out` fails: the program ends with a fault, and leaves whole files."""
+    call, out = change.partition(":")[0], os.path.join(place, "out")
+    done = run("strace", ["-f", "-o", os.path.join(trial.folder, "calls"), "-P", out, "-e",
+                          f"trace={call}", "-e", f"inject={change}", trial.program, "argo",
+                          "--out", out, example(trial)])
+    with faults:
+        expect(change, tuple(done), FILE_FAULT)
+        left = set(os.listdir(out))
+        expect(f"{change}: what is there", left - set(NAMES), set())
+        for name in left:
+            json.loads(read(os.path.join(out, name)))
+
+
 def try_forbidden(trial):
     """A folder in which this user may make nothing, or that it may not enter, is a fault."""
     place, faults = ready(os.path.join(trial.folder, "forbidden")), Faults()

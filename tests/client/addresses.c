@@ -1,5 +1,6 @@
 /* Addresses of names that no machine has, for a program that is begun with this library in
-   LD_PRELOAD: `six-first` has ::1 and then 127.0.0.1, `four-first` has 127.0.0.1 first. */
+   LD_PRELOAD: `six-first` has ::1 and then 127.0.0.1, `four-first` has 127.0.0.1 first, and for
+   `no-memory` there is no memory. */
 #define _GNU_SOURCE
 #include <dlfcn.h>
 #include <netdb.h>
@@ -10,6 +11,8 @@ typedef int look_up(const char *, const char *, const struct addrinfo *, struct 
 int getaddrinfo(const char *name, const char *port, const struct addrinfo *hints,
                 struct addrinfo **found) {
     look_up *real = (look_up *)dlsym(RTLD_NEXT, "getaddrinfo");
+    if (name && strcmp(name, "no-memory") == 0)
+        return EAI_MEMORY;
     int six = name && strcmp(name, "six-first") == 0;
     int four = name && strcmp(name, "four-first") == 0;
     if (!six && !four)

@@ -28,8 +28,8 @@ from world import World, allow_descriptors
 # What needs a command that CHECK_WITHOUT may name.
 PARTS_WITH = {
     "strace": ("try_client_killed", "try_desk_killed", "try_power_cuts", "try_failing_calls",
-               "try_taken_path", "try_defaults", "try_slow_calls"),
-    "cc": ("try_late_clock", "try_two_addresses"),
+               "try_taken_path", "try_defaults", "try_hindered", "try_slow_calls"),
+    "cc": ("try_late_clock", "try_two_addresses", "try_no_memory_for_a_name"),
 }
 # How many parts run beside one another: they wait more than they compute.
 BESIDE = 6

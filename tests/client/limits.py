@@ -19,16 +19,26 @@ OK = shows("web", *STARTED)
 # Milliseconds between ten messages: they double up to five seconds.
 PAUSES = [100, 200, 400, 800, 1600, 3200, 5000, 5000, 5000]
 # The calls by which a program connects, and by which it sleeps; neither comes to anything here.
-WITHOUT_NETWORK = ["-e", "trace=connect,nanosleep,clock_nanosleep", "-e",
-                   "inject=connect:error=ECONNREFUSED", "-e",
-                   "inject=nanosleep,clock_nanosleep:retval=0"]
+CALLS = "trace=socket,connect,nanosleep,clock_nanosleep"
+WITHOUT_PAUSES = "inject=nanosleep,clock_nanosleep:retval=0"
+# How each fault of this machine is shown (docs/CLIENT.md), beside the call that has it.
+HINDERED = "this machine cannot connect, and tries again: "
+OWN = [("socket", "EMFILE", "no file descriptor is left (EMFILE or ENFILE)"),
+       ("socket", "ENFILE", "no file descriptor is left (EMFILE or ENFILE)"),
+       ("socket", "ENOBUFS", "no memory is left for a connection (ENOMEM or ENOBUFS)"),
+       ("socket", "EAFNOSUPPORT", "the protocol is not there, as IPv6 (EAFNOSUPPORT)"),
+       ("connect", "EADDRNOTAVAIL", "no local port or address is left (EADDRNOTAVAIL)"),
+       ("connect", "EPERM", "the connection is not permitted here (EPERM or EACCES)"),
+       ("connect", "EACCES", "the connection is not permitted here (EPERM or EACCES)"),
+       ("connect", "ENETUNREACH", "no way leads to the network (ENETUNREACH or ENETDOWN)")]
 
 
-def run_without_network(world, place, words):
+def run_without_network(world, place, words, call="connect", fault="ECONNREFUSED"):
     """How a call ends whose messages go nowhere and whose pauses are over at once, to which
     addresses it connects, and how many milliseconds it pauses."""
     log = place / "calls"
-    with process(["strace", "-f", "-o", str(log), *WITHOUT_NETWORK, world.program, *words],
+    without = ["-e", CALLS, "-e", f"inject={call}:error={fault}", "-e", WITHOUT_PAUSES]
+    with process(["strace", "-f", "-o", str(log), *without, world.program, *words],
                  cwd=place, env=environment(), stdin=subprocess.DEVNULL, stdout=subprocess.PIPE,
                  stderr=subprocess.PIPE) as client:
         output, errors = client.communicate(timeout=60)
@@ -59,6 +69,20 @@ def try_defaults(world):
             expect(f"{row}: what it said", errors.count(UNREACHABLE), count - 1)
             expect(f"{row}: messages", connected, ["127.0.0.1:8080"] * count)
             expect(f"{row}: pauses", slept, PAUSES[:count - 1])
+
+
+def try_hindered(world):
+    """This machine cannot begin a connection: a call says so, and not that nobody answers there. It
+    tries again, and no answer came."""
+    place = world.place("hindered")
+    for call, fault, text in OWN:
+        status, output, errors, _, slept = run_without_network(
+            world, place, ["get", "--tries", "3", "web"], call, fault)
+        expect(fault, (status, output), (PENDING, ""))
+        expect(f"{fault}: what it said", errors.splitlines(),
+               [f"canary: {HINDERED}{text}"] * 2 + [f"canary: {NO_DESK}"])
+        expect(f"{fault}: pauses", slept, PAUSES[:2])
+    return f"{len(OWN)} errors"
 
 
 def field_lines(count):

@@ -17,6 +17,7 @@ from world import (
 
 ADDRESSES = pathlib.Path(__file__).with_name("addresses.c")
 ADDRESS = "the desk's address is not HOST:PORT (--desk or CANARY_DESK)"
+NO_MEMORY = "out of memory"
 NO_ADDRESS = "the system knows no address of the desk's name: nothing was asked"
 NO_CALLER = "a caller has to be given: --as NAME or CANARY_AS"
 NO_VERSION = "the VERSION is missing: a version is 1 to 63 of A-Z, a-z, 0-9, '.', '_' and '-'"
@@ -115,17 +116,32 @@ def try_host_names(world):
         want_delivered("names", desk, journal="named.journal")
 
 
+def addresses_in(folder):
+    """The variables of a program for which names have other addresses."""
+    library = folder / "addresses.so"
+    subprocess.run(["cc", "-O1", "-fPIC", "-shared", "-o", library, ADDRESSES, "-ldl"], check=True)
+    return {"LD_PRELOAD": str(library)}
+
+
 def try_two_addresses(world):
     """Of a name with addresses of IPv6 and IPv4, that of IPv4 counts, wherever it stands."""
     with world.desk("two-addresses") as desk:
         add(desk, "web")
-        library = desk.folder / "addresses.so"
-        subprocess.run(["cc", "-O1", "-fPIC", "-shared", "-o", library, ADDRESSES, "-ldl"],
-                       check=True)
+        variables = addresses_in(desk.folder)
         for name in ("six-first", "four-first"):
             want(name, world.run(["get", "--desk", f"{name}:{desk.port}", "--tries", "1", "none"],
-                                 desk.folder, variables={"LD_PRELOAD": str(library)}), REFUSED,
+                                 desk.folder, variables=variables), REFUSED,
                  '{"code":"unknown-service"}\n')
+
+
+def try_no_memory_for_a_name(world):
+    """Memory is refused as a desk's name is looked up: nothing is asked, and the status is 5."""
+    place = world.place("no-memory-for-a-name")
+    variables = addresses_in(place)
+    for words in (["get", "web"], ["do", "--as", "ops", "--journal", "j", "promote", "web"]):
+        words[1:1] = ["--desk", "no-memory:8080", "--tries", "1"]
+        want(words[0], world.run(words, place, variables=variables), LOCAL, said=NO_MEMORY)
+    expect("no journal", (place / "j").exists(), False)
 
 
 def try_words(world):
