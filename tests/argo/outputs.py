@@ -267,22 +267,24 @@ def try_empty_name(trial):
 
 
 def try_full_disk(trial):
-    """Of the calls by which a file is made, written and named each fails in turn, as on a full
+    """Of the calls by which files are written, synced and named each fails in turn, as on a full
     disk: that is a fault, and each file that is there is whole (with strace)."""
     place, faults = os.path.join(trial.folder, "full"), Faults()
-    for call, error in (("write", "ENOSPC"), ("openat", "ENOSPC"), ("/rename", "EIO")):
-        for when in range(1, len(NAMES) + 1):
+    # a file is written in two pieces, and synced, as its folder is
+    calls = [("write", "ENOSPC", 2), ("fsync", "EIO", 2), ("/rename", "ENOSPC", 1)]
+    for call, error, times in calls:
+        for when in range(1, times * len(NAMES) + 1):
             want_fault(trial, ready(place), faults, f"{call}:error={error}:when={when}")
     faults.end()
-    return f"{3 * len(NAMES)} calls that fail"
+    return f"{5 * len(NAMES)} calls that fail"
 
 
 def want_fault(trial, place, faults, change):
     """A call in the folder `out` fails: the program ends with a fault, and leaves whole files."""
     call, out = change.partition(":")[0], os.path.join(place, "out")
-    done = run("strace", ["-f", "-o", os.path.join(trial.folder, "calls"), "-P", out, "-e",
-                          f"trace={call}", "-e", f"inject={change}", trial.program, "argo",
-                          "--out", out, example(trial)])
+    done = run("strace", ["-f", "-o", os.path.join(trial.folder, "calls"), "-e", f"trace={call}",
+                          "-e", f"inject={change}", trial.program, "argo", "--out", out,
+                          example(trial)])
     with faults:
         expect(change, tuple(done), FILE_FAULT)
         left = set(os.listdir(out))

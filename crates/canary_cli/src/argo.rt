@@ -2,6 +2,7 @@
 ghost use Rattle.canary_cli.specs.Performed.{IsNoClient};
 
 use crate::file::seat::Identity;
+use crate::file::shelf::end_draft;
 use crate::perform::ProgramExit;
 use canary_argo_files::found::FileFindings;
 use canary_argo_files::reading::{FileReadFault, Manifests, STANDARD_INPUT, read_files};
@@ -240,11 +241,8 @@ fn write_each(rt: &HostRuntime, folder: &str, made: &[Made], kind: &str) -> Resu
 fn write_file(rt: &HostRuntime, folder: &str, name: &str, line: &str) -> Result<(), Fault> {
     let path = path_of(rt, folder, name)?;
     let mut draft = Draft::of(rt, path.as_str())?;
-    if write_line(&mut draft, line).is_err() {
-        draft.remove(rt);
-        return Err(Fault::File);
-    }
-    Ok(draft.name(rt)?)
+    let written = write_line(&mut draft, line).map_err(|_| Fault::File);
+    end_draft(rt, &draft, written)
 }
 
 // Writes the line and a line feed.

@@ -106,8 +106,13 @@ fn put_list<B: Book>(
     end_draft(rt, &draft, written)
 }
 
-// Gives a draft its name if it was written whole, and else removes it.
-fn end_draft(rt: &HostRuntime, draft: &Draft, written: Result<(), Fault>) -> Result<(), Fault> {
+/// Gives a draft its name if it was written whole, and else removes it. If it cannot have its name,
+/// it is removed, too.
+pub(crate) fn end_draft(
+    rt: &HostRuntime,
+    draft: &Draft,
+    written: Result<(), Fault>,
+) -> Result<(), Fault> {
     let named = written.and_then(|()| Ok(draft.name(rt)?));
     if named.is_err() {
         draft.remove(rt);
