@@ -25,11 +25,13 @@ from turns import LATE, PASSED, WRONG, Watch, end_by_signals, is_for_time, parts
 from world import Late, World, running, slowness
 
 # The parts that are left out without these tools.
-PARTS_WITH = {"prometheus": ("try_releases", "try_kills"), "strace": ("try_health_race", "try_unreadable_file"),
-              "cc": ("try_hindered", "try_begun", "try_exhausted", "try_crowded", "try_other_provider",
-                     "try_beside_slow", "try_unresolved", "try_two_addresses",
-                     "try_unresolved_once", "try_hindered_once", "try_abort_late_away",
-                     "try_abort_late_others", "try_pauses", "try_said_again")}
+PARTS_WITH = {"prometheus": ("try_releases", "try_kills"),
+              "strace": ("try_health_race", "try_unreadable_file"),
+              "cc": ("try_hindered", "try_hindered_desk", "try_begun", "try_exhausted",
+                     "try_crowded", "try_other_provider", "try_beside_slow", "try_unresolved",
+                     "try_two_addresses", "try_unresolved_once", "try_hindered_once",
+                     "try_abort_late_away", "try_abort_late_others", "try_pauses",
+                     "try_said_again")}
 # The most seconds of a part, and five times as many with --all.
 LONGEST = 180
 # How many parts run beside one another: they wait more than they compute.

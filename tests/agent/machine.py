@@ -10,10 +10,11 @@ from agents import (
     Agent, agent_of, beside, count_measured, desk_for, journals_of, listed, measured, measured_beside,
     metric, of_web, provider, reply, template, wait_measured, wait_until, want_once, want_rest)
 from rows import silent
-from world import DONE, LOCAL, Wrong, answering, expect
+from world import DONE, LOCAL, PENDING, Wrong, answering, expect
 
 HINDERED = ("this machine cannot ask a provider, which is tried again, and nothing is reported of"
             " it")
+UNCONNECTED = "this machine cannot connect to the desk, and tries again"
 # What is said of each error as a connection is begun.
 OWN = {
     errno.EMFILE: "EMFILE", errno.ENFILE: "EMFILE", errno.ENOBUFS: "ENOMEM",
@@ -116,6 +117,32 @@ def try_begun(world):
         expect("how they go", {failure[:9] for failure in failures_of(desk)}, {"no answer"})
         agent.must_run()
         agent.kill()
+
+
+def try_hindered_desk(world):
+    """No descriptor, no way to the network, and the like, as a connection to the desk begins: that
+    is said once for each, and the agent goes on once it works. With --once the status is 3."""
+    library = library_of(world)
+    with provider(lambda *_: reply("0.25")) as server, \
+            desk_for(world, "hindered-desk", *services(server.port, interval="2s")) as desk:
+        agent = Hindered(desk, library)
+        wait_measured(desk, 2)
+        for number in (errno.EMFILE, errno.EACCES, errno.ENETUNREACH):
+            agent.hinder(number, desk.port)
+            agent.wait_said(f"{UNCONNECTED}: ")
+            agent.wait_said(OWN[number])
+            time.sleep(2)
+            expect(f"{number}: said", [OWN[number] in line for line in agent.errors().splitlines()
+                                       if UNCONNECTED in line].count(True), 1)
+        agent.release()
+        before = count_measured(desk)["m.e6"]
+        wait_measured(desk, before + 2)
+        agent.must_run()
+        agent.kill()
+        agent = Hindered(desk, library, errno.EPERM, desk.port, options=("--once",))
+        wait_until("the end", agent.has_ended)
+        expect("--once", (agent.process.returncode, agent.errors().count("EPERM")), (PENDING, 2))
+        want_once("hindered desk", measured(desk))
 
 
 def try_exhausted(world):

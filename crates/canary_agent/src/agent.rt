@@ -95,6 +95,7 @@ fn go_on<R: Read, W: Write, F: Write>(
     let (mut rounds, mut network) = (rounds, network);
     for _ in 0..u64::MAX {
         let ended = rounds.go(rt, &mut network, named, manner, input, output, errors)?;
+        rounds.tell_desk_hindrance(rt, network.take_hindrance(), errors)?;
         if let Some(outcome) = ended {
             return Ok(outcome);
         }

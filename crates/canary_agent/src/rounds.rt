@@ -21,6 +21,7 @@ use canary_base::names::{Label, Name};
 use canary_client::outcome::{ClientExit, Stop, say, say_of};
 use canary_client_journal::network::Network;
 use canary_fetch::fetcher::FetchFault;
+use canary_fetch::local::LocalFault;
 use canary_page_html::shown::{TextKind, shown};
 use std::alloc::Global;
 use std::io::{Read, Write};
@@ -37,6 +38,8 @@ const MAX_SHOWN: usize = 200;
 
 const HINDERED: &str =
     "this machine cannot ask a provider, which is tried again, and nothing is reported of it";
+
+const UNCONNECTED: &str = "this machine cannot connect to the desk, and tries again";
 
 const UNTOUCHED: &str = "the file of --health cannot be touched";
 
@@ -72,6 +75,8 @@ pub(crate) struct Rounds {
     touch_at: u64,
     is_untouched: bool,
     hindrances: Hindrances,
+    // The same of the way to the desk.
+    desk_hindrances: Hindrances,
     watch: Watch,
     outcome: ClientExit,
 }
@@ -112,6 +117,7 @@ impl Rounds {
             touch_at: 0,
             is_untouched: false,
             hindrances: Hindrances::new(alloc),
+            desk_hindrances: Hindrances::new(alloc),
             watch: Watch::new(rt)?,
             outcome: ClientExit::Done,
         };
@@ -410,6 +416,26 @@ impl Rounds {
         if self.hindrances.is_to_say(alloc, fault, now)? {
             let text = fault.text();
             say(errors, format!(in alloc; "{HINDERED}: {text}")?.as_str());
+        }
+        Ok(())
+    }
+
+    /// Says why this machine does not reach the desk, once a minute at most.
+    ///
+    /// # Errors
+    /// `Clock`; `Memory`.
+    pub(crate) fn tell_desk_hindrance<F: Write>(
+        &mut self,
+        rt: &HostRuntime,
+        fault: Option<LocalFault>,
+        errors: &mut F,
+    ) -> Result<(), AgentStop> {
+        let Some(fault) = fault else {
+            return Ok(());
+        };
+        let now = self.watch.now(rt)?;
+        if self.desk_hindrances.is_to_say(rt.alloc(), fault, now)? {
+            say_of(rt.alloc(), errors, UNCONNECTED, fault.text());
         }
         Ok(())
     }

@@ -53,6 +53,12 @@ impl<'a> Tcp<'a> {
         tcp
     }
 
+    /// The fault of this machine by which the last exchange had no connection; none if it had one,
+    /// if nobody answered there, or if it was taken before.
+    pub fn take_hindrance(&mut self) -> Option<LocalFault> {
+        self.hindrance.take()
+    }
+
     // As much of this time as is left of the call.
     fn cut(&self, time: Duration) -> Option<Duration> {
         match self.call {
