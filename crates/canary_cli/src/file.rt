@@ -31,7 +31,7 @@ pub mod pipe;
 pub mod progress;
 pub(crate) mod seat;
 pub mod serve;
-mod shelf;
+pub(crate) mod shelf;
 pub mod status;
 pub mod succeed;
 mod watched;
