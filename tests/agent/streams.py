@@ -12,6 +12,7 @@ from agents import (
     want_once, want_reported)
 from closing import SUBSETS, run_closed
 from edges import ONCE, services
+from lines import UNREADABLE
 from replies import run_on_terminal
 from world import DONE, LOCAL, Wrong, environment, expect, process
 
@@ -52,10 +53,12 @@ def want_closed(world, port, closed):
 
 
 def want_values_closed(desk, closed, row):
-    """--values - with a closed input ends no agent, and reads no journal."""
+    """--values - with a closed input stops no measurement, and reads no journal. That it cannot be
+    read is said, if standard error is open, and with --once the status is 5."""
     if 0 in closed and 1 not in closed:
         ended = run_agent_closed(desk, closed, options=(*ONCE, "--values", "-"))
-        expect(f"{row}: --values -: {ended}", ended.status, DONE)
+        expect(f"{row}: --values -: {ended}", ended.status, LOCAL)
+        expect(f"{row}: said", UNREADABLE in ended.errors, 2 not in closed)
         expect(f"{row}: measured", len(measured(desk)), 3)
 
 
