@@ -193,16 +193,27 @@ def speaking(folder, script):
 
 
 def answers(port, count):
-    """How many of so many requests each version answered."""
+    """How many of so many requests each version answered. A request whose connection ends without a
+    byte of a reply is sent again, once, as any GET may be: a proxy that reads its files anew closes
+    a connection that it has accepted, and not read yet."""
     found = collections.Counter()
     for _ in range(count):
-        # A connection of its own: a proxy that reads its files anew closes those that wait.
-        with contextlib.closing(http.client.HTTPConnection("127.0.0.1", port, timeout=10)) as one:
-            one.request("GET", "/")
-            reply = one.getresponse()
-            body = reply.read().decode()
-            found[body if reply.status == 200 else str(reply.status)] += 1
+        try:
+            name = answer(port)
+        except ConnectionResetError:
+            name = answer(port)
+        found[name] += 1
     return found
+
+
+def answer(port):
+    """Which version answers a request, or the status if it is not 200."""
+    # A connection of its own: a proxy that reads its files anew closes those that wait.
+    with contextlib.closing(http.client.HTTPConnection("127.0.0.1", port, timeout=10)) as one:
+        one.request("GET", "/")
+        reply = one.getresponse()
+        body = reply.read().decode()
+        return body if reply.status == 200 else str(reply.status)
 
 
 def want_shares(row, port, wanted, within, count=200):
