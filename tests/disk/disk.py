@@ -199,12 +199,17 @@ def try_foreign_files(program, folder):
         file.write("no database\n" * 1000)
     want_untouched(program, text, ["storage"], "a text")
     for name, schema in (("songs", "CREATE TABLE song (title TEXT)"),
+                         ("odd", "CREATE TABLE caller (k TEXT PRIMARY KEY) WITHOUT ROWID"),
                          ("views", "CREATE VIEW caller AS SELECT 1")):
         path = os.path.join(folder, name)
         with sqlite3.connect(path) as other:
             other.execute(schema)
         other.close()
         want_untouched(program, path, ["other-schema"], f"another program's database: {name}")
+    with open(path, "r+b") as file:
+        file.seek(20)
+        file.write(b"\x08")
+    want_untouched(program, path, ["storage"], "a database whose pages end in eight reserved bytes")
     print("disk: files of other programs are left alone", file=sys.stderr)
 
 
