@@ -7,10 +7,11 @@ import subprocess
 import time
 
 from agents import (
-    Agent, agent_of, beside, count_measured, desk_for, journals_of, listed, measured, measured_beside,
-    metric, of_web, provider, reply, template, wait_measured, wait_until, want_once, want_rest)
+    Agent, agent_of, beside, count_measured, desk_for, journals_of, listed, measured,
+    measured_beside, metric, of_web, provider, reply, template, wait_measured, wait_until,
+    want_once, want_rest)
 from rows import silent
-from world import DONE, LOCAL, PENDING, Wrong, answering, expect
+from world import DONE, LOCAL, PENDING, Late, Wrong, answering, expect
 
 HINDERED = ("this machine cannot ask a provider, which is tried again, and nothing is reported of"
             " it")
@@ -162,7 +163,7 @@ def try_exhausted(world):
         time.sleep(seconds)
         count = len(begun) - count
         if not 2 <= count <= 2 * seconds:
-            raise Wrong(f"{count} connections in {seconds} seconds")
+            raise (Late if count < 2 else Wrong)(f"{count} connections in {seconds} seconds")
         desk.write("manifests.json", listed(*services(server.port, interval="2s")))
         before = count_measured(desk)["m.e6"]
         wait_measured(desk, before + 2)

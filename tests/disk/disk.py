@@ -206,6 +206,7 @@ def try_foreign_files(program, folder):
             other.execute(schema)
         other.close()
         want_untouched(program, path, ["other-schema"], f"another program's database: {name}")
+    # byte 20 of the header says how many bytes of each page are reserved
     with open(path, "r+b") as file:
         file.seek(20)
         file.write(b"\x08")
