@@ -48,3 +48,6 @@ module _ (served : Served) where
   pub among_all : (taken : List Taken) (place : ℕ) (es : List Entry) → AreEntriesOf served (take place taken) es → AreEntriesOf served taken es
   among_all taken place es are =
       subst (λ ts. AreEntriesOf served ts es) (take-append-drop place taken) (more (take place taken) (drop place taken) es are)
+
+-- the entries of measurements, one after another
+pub ruleset in_turn = (none_of, with_next, among_all)

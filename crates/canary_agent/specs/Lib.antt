@@ -1,3 +1,4 @@
+pub mod Journals
 pub mod Lateness
 pub mod Plans
 pub mod Reports

@@ -1,6 +1,6 @@
 //! The journal of a service, in its file.
 ghost use Rattle.std.proofs.Props.{props};
-ghost use Rattle.canary_client_journal.specs.Keeping.{IsKept};
+ghost use Rattle.canary_agent.specs.Journals.{IsKeptOn};
 
 use crate::plan::Served;
 use crate::reporting;
@@ -30,7 +30,7 @@ const LONG: usize = 2_000;
 #[derive(Drop)]
 pub(crate) struct OpenJournal {
     kept: KeptJournal<FileDevice>,
-    ghost is_kept: { IsKept ⟦<FileDevice as Device>⟧.seen ⟦<FileDevice as Device>⟧.may_leave kept } by { Prim.hlevel props },
+    ghost is_kept: { IsKeptOn ⟦<FileDevice as Device>⟧ kept } by { Prim.hlevel props },
 }
 
 impl OpenJournal {

@@ -134,7 +134,7 @@ pub fn report_of(
 }
 
 // The entries of the first 32 of these of which the plan has the metric.
-#[tactic(auto, using(crate::proofs::EntryLemmas::none_of, crate::proofs::EntryLemmas::with_next, crate::proofs::EntryLemmas::among_all))]
+#[tactic(auto, using(crate::proofs::EntryLemmas::in_turn))]
 fn entries_of(alloc: Global, served: &Served, taken: &[Taken]) -> Result<Listed<Entry>, Memory>
     ensures entries { IfOk result (AreEntriesOf served.now taken.now) }
     ensures few { IfOk result (λ entries. length entries ≤ 32) }

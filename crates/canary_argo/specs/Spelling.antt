@@ -6,7 +6,8 @@
 --                | ("isNaN" | "isInf") "(" place ")"
 --     look    := value | "(" value ")"
 --     amount  := number | "(" number ")"
---     value   := place | ("asFloat" | "asInt") "(" place ")" | "default" "(" "result" "," number ")"
+--     value   := place | ("asFloat" | "asInt") "(" place ")"
+--                | "default" "(" "result" "," number ")"
 --     place   := "result" | "result" "[" digits "]" | "len" "(" "result" ")"
 -- Argo negates the operand that follows a `not`, and not a comparison. The relation splits the
 -- whole text at each level.

@@ -27,3 +27,6 @@ no_json_attended text false is none = rw is refl
 
 pub attended_is_none : (text : List ℕ) → (IsUtf8 text → read text ≡ None) → is_attended text ≡ true
 attended_is_none text none = no_json_attended text (is_utf8 text) refl none
+
+-- what a check says of a text that is read, or is not
+pub ruleset what_is_read = (json_is, json_is_none, attended_is, attended_is_none)

@@ -136,7 +136,7 @@ fn joined(lines: String, others: String) -> Result<String, Memory>
 ///
 /// # Errors
 /// `Memory` if an allocation was refused.
-#[tactic(auto, using(crate::proofs::Texts::json_is, crate::proofs::Texts::json_is_none, crate::proofs::Texts::attended_is, crate::proofs::Texts::attended_is_none))]
+#[tactic(auto, using(crate::proofs::Texts::what_is_read))]
 pub fn check(alloc: Global, text: &[u8]) -> Result<CheckReport, Memory>
     ensures taken { IfOk result (λ findings. findings.is_taken ≡ is_taken text.now) }
     ensures attended { IfOk result (λ findings.

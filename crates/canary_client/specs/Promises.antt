@@ -44,13 +44,16 @@ IsFor what key false a = (body : List ℕ) × (a.instead ≡ Some body) × AsksF
 -- Where its reply stands.
 
 -- the desk answered so to a message under the number of this place
-pub record IsReplyAt (was_told : List ℕ → Heard → Type 0) (j : JournalValue) (place : ℕ) (k : SettledNumber) : Type 0 where
-  pub told : was_told (request_text j.caller (j.before + place + 1) (body_of k.asked k.reply.is_late))
+pub record IsReplyAt (was_told : List ℕ → Heard → Type 0) (j : JournalValue) (place : ℕ)
+    (k : SettledNumber) : Type 0 where
+  pub told : was_told
+      (request_text j.caller (j.before + place + 1) (body_of k.asked k.reply.is_late))
       (record { status = k.reply.status; body = k.reply.body })
   pub meaning : meaning_of k.reply.status k.reply.body ≡ Settled
 
 -- at this place the journal has what was asked and its reply: since before, or the desk gave it now
-pub record IsSettledAt (was_told : List ℕ → Heard → Type 0) (what : Asking) (key : Option (List ℕ)) (old new : JournalValue) (at : SettledAt) : Type 0 where
+pub record IsSettledAt (was_told : List ℕ → Heard → Type 0) (what : Asking)
+    (key : Option (List ℕ)) (old new : JournalValue) (at : SettledAt) : Type 0 where
   pub kept : SettledNumber
   pub there : slice_get new.kept at.place ≡ Some kept
   pub asked : IsFor what key at.is_wish kept.asked
@@ -67,7 +70,8 @@ abbrev pub IsQuery : List ℕ → Type 0
 IsQuery m = (path : List ℕ) × (m ≡ query_text path)
 
 -- what is pending in a journal of the same caller was asked now
-pub record IsPendingFor (what : Asking) (key : Option (List ℕ)) (caller : List ℕ) (j : JournalValue) : Type 0 where
+pub record IsPendingFor (what : Asking) (key : Option (List ℕ)) (caller : List ℕ)
+    (j : JournalValue) : Type 0 where
   pub same : j.caller ≡ caller
   pub asked : Asked
   pub pending : j.pending ≡ Some asked

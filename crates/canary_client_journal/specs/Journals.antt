@@ -106,7 +106,9 @@ with_entry j (entry.Settled number reply) = settles j reply
 -- the wish at this place is meant
 abbrev pub settled_place : List SettledNumber → ℕ → List ℕ → WishPlace
 settled_place kept i intent =
-    if unwrap_or (option_map (λ (k : SettledNumber). bytes_eq k.asked.wish.intent intent) (slice_get kept i)) false
+    if unwrap_or
+        (option_map (λ (k : SettledNumber). bytes_eq k.asked.wish.intent intent) (slice_get kept i))
+        false
     then place.Settled i else place.KeyUsed
 
 -- without a key, a wish is the one that is pending if that has its intent and no key

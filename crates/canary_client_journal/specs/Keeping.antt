@@ -37,7 +37,8 @@ IsFault failed full broken refused keep.Broken = broken
 IsFault failed full broken refused (keep.Refused refusal) = refused refusal
 
 -- the device is at rest, all of it on the disk, and its lines are the journal
-pub record IsKept {D : Type 0} (seen : D → List ℕ) (may_leave : D → List ℕ → Type 0) (kept : KeptJournal D) : Type 0 where
+pub record IsKept {D : Type 0} (seen : D → List ℕ) (may_leave : D → List ℕ → Type 0)
+    (kept : KeptJournal D) : Type 0 where
   pub settled : IsSettled seen may_leave kept.store.device kept.store.gate
   pub journal : journal_of (held (seen kept.store.device)) ≡ Some kept.journal
 

@@ -5,7 +5,10 @@ use Rattle.canary_client_journal.specs.declared.network.RetryReason.{RetryReason
 
 -- What was sent, and what came of it, stays so. What is new since is of messages that have P: only
 -- these may have been sent, and a reply came only to one that was.
-pub record GoesOn {N : Type 0} (was_sent : N → List ℕ → Type 0) (was_told : N → List ℕ → Heard → Type 0) (was_unanswered : N → List ℕ → RetryReason → Type 0) (old new : N) (P : List ℕ → Type 0) : Type 0 where
+pub record GoesOn {N : Type 0} (was_sent : N → List ℕ → Type 0)
+    (was_told : N → List ℕ → Heard → Type 0)
+    (was_unanswered : N → List ℕ → RetryReason → Type 0)
+    (old new : N) (P : List ℕ → Type 0) : Type 0 where
   pub sent_still : (m : List ℕ) → was_sent old m → was_sent new m
   pub told_still : (m : List ℕ) (response : Heard) → was_told old m response
       → was_told new m response

@@ -43,7 +43,8 @@ IsTooLate was_told j a =
 
 -- what is pending asks for the message: it is that of what was asked last, or, if that came too
 -- late, of the wish
-pub record IsAskedBy (was_told : List ℕ → Heard → Type 0) (j : JournalValue) (message : List ℕ) : Type 0 where
+pub record IsAskedBy (was_told : List ℕ → Heard → Type 0) (j : JournalValue)
+    (message : List ℕ) : Type 0 where
   pub asked : Asked
   pub pending : j.pending ≡ Some asked
   pub is_late : Bool
@@ -56,10 +57,12 @@ IsAnswered was_told j meaning =
     (m : List ℕ) × IsAskedBy was_told j m × IsTold was_told m meaning
 
 -- this reply came to one of these messages, and settles the number
-pub record IsSettledBy (was_told : List ℕ → Heard → Type 0) (j : JournalValue) (reply : SettledReply) : Type 0 where
+pub record IsSettledBy (was_told : List ℕ → Heard → Type 0) (j : JournalValue)
+    (reply : SettledReply) : Type 0 where
   pub asked : Asked
   pub pending : j.pending ≡ Some asked
-  pub told : was_told (message_of j asked reply.is_late) (record { status = reply.status; body = reply.body })
+  pub told : was_told (message_of j asked reply.is_late)
+      (record { status = reply.status; body = reply.body })
   pub meaning : meaning_of reply.status reply.body ≡ means.Settled
   -- a late reply is one to what something else was asked in the place of, too late
   pub late : reply.is_late ≡ true → IsTooLate was_told j asked
@@ -103,7 +106,8 @@ abbrev pub IsFailed : (List ℕ → Heard → Type 0) → JournalValue → (fail
     → Type 0
 IsFailed was_told j failed gate fault =
     (reply : SettledReply) × IsSettledBy was_told j reply
-    × IsFault failed (2 ^ 60 ≤ gate + length (line_of (entry.Settled (number_of j) reply))) ⊥ (λ _. ⊥) fault
+    × IsFault failed (2 ^ 60 ≤ gate + length (line_of (entry.Settled (number_of j) reply)))
+        ⊥ (λ _. ⊥) fault
 
 -- the journal failed
 abbrev pub is_kept : Unsettled → Bool
@@ -170,7 +174,8 @@ IsWrong response unsettled.Memory = Unit {0}
 -- or the same is sent again, or it is an error that no try more would fix
 abbrev pub taken_for : Meaning → Heard → Bool → Result Tried Unsettled
 taken_for means.Settled response is_late =
-    Ok (tried.Settled (record { status = response.status; body = response.body; is_late = is_late }))
+    Ok (tried.Settled
+        (record { status = response.status; body = response.body; is_late = is_late }))
 taken_for means.Reused response is_late = Ok tried.Reused
 taken_for means.Unavailable response is_late = Ok (tried.Again why.Unavailable)
 taken_for means.Foreign response is_late = Ok (tried.Again why.Foreign)

@@ -82,7 +82,8 @@ AsksInstead =
 -- a reply that settles, to the number that is pending and to one of its bodies, is heard
 abbrev pub Hears : Type 0
 Hears =
-    (w : World) (j : JournalValue) (number : ℕ) (a : Asked) (reply : SettledReply) (answered : Answered)
+    (w : World) (j : JournalValue) (number : ℕ) (a : Asked)
+    (reply : SettledReply) (answered : Answered)
     → IsJournalOf w j → refusal_of j (entry.Settled number reply) ≡ None
     → j.pending ≡ Some a → answered.place ≡ length w.received
     → IsHeard a reply (record { command = answered.command; reply = answered.reply })

@@ -50,4 +50,5 @@ Settles =
     → (reply.is_late ≡ true → is_some a.instead ≡ true)
     → meaning_of reply.status reply.body ≡ means.Settled
     → IsAnswer w (body_of a reply.is_late) reply which
-    → IsJournalOf (step_applied j.caller j.before w (delivery.Hears which)) (journals.settles j reply)
+    → IsJournalOf (step_applied j.caller j.before w (delivery.Hears which))
+        (journals.settles j reply)

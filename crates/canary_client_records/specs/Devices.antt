@@ -31,19 +31,22 @@ Only file outcomes = (c : List ℕ) → outcomes c → c ≡ file
 
 -- time goes on: a crash since t might have left what it might have left before, or what it may
 -- leave now
-pub record Elapses (before now : ℕ) (past since : ℕ → List ℕ → Type 0) (may_leave : List ℕ → Type 0) : Type 0 where
+pub record Elapses (before now : ℕ) (past since : ℕ → List ℕ → Type 0)
+    (may_leave : List ℕ → Type 0) : Type 0 where
   pub later : before ≤ now
   pub nothing_else : (t : ℕ) (c : List ℕ) → t ≤ before → since t c → past t c ⊎ may_leave c
   pub keeps : (t : ℕ) (c : List ℕ) → t ≤ before → past t c → since t c
 
 -- a crash at any moment since old leaves a file that has P
-pub record LeavesOnly {D : Type 0} (moment : D → ℕ) (left_since : D → ℕ → List ℕ → Type 0) (old new : D) (P : List ℕ → Type 0) : Type 0 where
+pub record LeavesOnly {D : Type 0} (moment : D → ℕ) (left_since : D → ℕ → List ℕ → Type 0)
+    (old new : D) (P : List ℕ → Type 0) : Type 0 where
   pub later : moment old ≤ moment new
   pub each : (c : List ℕ) → left_since new (moment old) c → P c
   -- for a run that began earlier
   pub before : (t : ℕ) (c : List ℕ) → t ≤ moment old → left_since new t c → left_since old t c ⊎ P c
 
 -- only a device that has failed reports `Failed`, and none reports `Full`
-pub record HasCause {T : Type 0} (has_failed : Type 0) (result : Result T DeviceFault) : Type 0 where
+pub record HasCause {T : Type 0} (has_failed : Type 0)
+    (result : Result T DeviceFault) : Type 0 where
   pub failed : IsErrOf result Failed → has_failed
   pub not_full : IsErrOf result Full → ⊥

@@ -14,7 +14,8 @@ pub record IsAtRest (file : List ℕ) : Type 0 where
   pub lines : AllByRecursion IsLine (held file)
 
 -- the file is at rest, with its closed gate at this place, and all of it is on the disk
-pub record IsSettled {D : Type 0} (seen : D → List ℕ) (may_leave : D → List ℕ → Type 0) (device : D) (gate : ℕ) : Type 0 where
+pub record IsSettled {D : Type 0} (seen : D → List ℕ) (may_leave : D → List ℕ → Type 0)
+    (device : D) (gate : ℕ) : Type 0 where
   pub rest : IsAtRest (seen device)
   pub place : gate ≡ length (records (held (seen device)))
   pub durable : Only (seen device) (may_leave device)

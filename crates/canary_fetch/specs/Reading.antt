@@ -23,7 +23,8 @@ abbrev pub BeginsWith : List ℕ → Heard → Type 0
 BeginsWith stream reply = (rest : List ℕ) × ReadsReply stream reply rest
 
 -- what was kept of the body, and what the decoder makes of the stream, make this reply
-pub record Remains (status : ℕ) (d : Decoder) (kept stream : List ℕ) (reply : Heard) (rest : List ℕ) : Type 0 where
+pub record Remains (status : ℕ) (d : Decoder) (kept stream : List ℕ) (reply : Heard)
+    (rest : List ℕ) : Type 0 where
   pub body : Body
   pub completes : Completes d stream body rest
   pub is : reply ≡ response status (kept ++ body.bytes)

@@ -73,7 +73,8 @@ AreTold c xs =
 -- so it is of the contents after rows that were answered
 abbrev pub TellsAfterwards : DeskState → DeskState → Type 0
 TellsAfterwards p q =
-    (xs : List RowExchange) → AnsweredInOrder IsExchange p q xs → q.book.is_honest → AreTold q.book.contents xs
+    (xs : List RowExchange) → AnsweredInOrder IsExchange p q xs → q.book.is_honest
+    → AreTold q.book.contents xs
 
 -- rows whose numbers are settled, or that do not read, change nothing, and have the lines of the
 -- register of the contents, 503 aside

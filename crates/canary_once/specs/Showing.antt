@@ -1,5 +1,5 @@
--- What the code reports of a service that was passed: what a book reported of it, as the effects on the
--- way leave it.
+-- What the code reports of a service that was passed: what a book reported of it, as the effects on
+-- the way leave it.
 use Rattle.std.specs.Prelude.{◌≡◌, ℕ, ◌==◌, Bool, true, false, if◌then◌else◌, List, [], ◌∷◌, ◌++◌, length, replicate, Option, Some, None, option_map, Result, IfOk, IfErr}
 use Rattle.canary_metric.specs.Counts.{counts}
 use Rattle.canary_plan.specs.declared.line.Line.{Line}

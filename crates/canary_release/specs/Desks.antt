@@ -56,7 +56,8 @@ refuses refusal = record { change = Nothing; reply = refused refusal }
 
 -- a refusal changes nothing; else the service becomes what the command leads to, and is shown
 abbrev pub rules : Result ModelResult Refusal → ModelDecision
-rules (Ok a) = record { change = Becomes a.evolution; reply = accepted (a.shows a.evolution.service) }
+rules (Ok a) =
+    record { change = Becomes a.evolution; reply = accepted (a.shows a.evolution.service) }
 rules (Err refusal) = refuses refusal
 
 -- passed to t, if it is not refused

@@ -95,7 +95,8 @@ pub record Changes (templates : RevisionMap) (found : Option ModelService) (by :
   pub named : s.service.name ≡ subject_of by
   pub strategy : s.service.strategy ≡ (before found s.service).service.strategy
   pub bound : s.service.bound ≡ bound_after (newest templates) by found s.service.strategy
-  pub allowed : AreAllowed templates s.service.strategy (tracked (before found s.service).past) effects
+  pub allowed : AreAllowed templates s.service.strategy
+      (tracked (before found s.service).past) effects
 
 -- a change by a command: a template has the name that the command has, and is its next revision; a
 -- service becomes another by it

@@ -27,7 +27,8 @@ stored_evolution s = evolution_from s.service (after_all s.runs)
 
 -- an evolution of the code, as the definitions see it: what was kept gives the view of runs
 abbrev pub evolution_of : Transition → Evolution
-evolution_of d = record { service = d.service; effects = d.tracked.effects; watch = after_all d.tracked.kept }
+evolution_of d =
+    record { service = d.service; effects = d.tracked.effects; watch = after_all d.tracked.kept }
 
 -- how many runs it has had by now
 abbrev pub run_total : Transition → ℕ
@@ -48,7 +49,8 @@ stored_after c = record { service = c.service; runs = runs_now c }
 -- what a service has passed to, as the code says it
 abbrev pub IsPassing : ServiceParts → ℕ → Passed → Type 0
 IsPassing s t p =
-    let c = pass (stored_evolution s) t in p ≡ record { service = stored_after c; effects = c.effects }
+    let c = pass (stored_evolution s) t in
+    p ≡ record { service = stored_after c; effects = c.effects }
 
 -- a change of the machine, as the code says it
 abbrev pub change_of : Change → DeskChange

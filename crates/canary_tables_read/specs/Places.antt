@@ -67,4 +67,5 @@ FindsPlaced service from place most shows old new result = IsUsable (shows new) 
 -- the place, if there is one, is where a page ends
 abbrev pub MarksEnd : List MeasurementAt → Option ℤ → Type 0
 MarksEnd page place = (db : Database) (t : Tables) (service : List ℕ) (from most : ℕ)
-    → IsPlacedPage db t service from most page → IfSome place (IsMark db service (from + length page))
+    → IsPlacedPage db t service from most page
+    → IfSome place (IsMark db service (from + length page))

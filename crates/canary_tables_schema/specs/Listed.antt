@@ -8,4 +8,5 @@ use Rattle.canary_tables_schema.specs.Cells.{tally_tree}
 
 -- the trees list a schema whose tallies stand in this tree
 abbrev pub ListsTally : Trees → ℕ → Type 0
-ListsTally trees tree = (schema : Schema) × Lists (trees catalog_tree) schema × (tree ≡ tally_tree schema)
+ListsTally trees tree =
+    (schema : Schema) × Lists (trees catalog_tree) schema × (tree ≡ tally_tree schema)

@@ -62,4 +62,5 @@ IsExchange x =
     IsDisposition x.message.head.method x.message.head.target x.message.body x.moment x.disposition
 
 abbrev pub reply_bytes : HttpExchange → List ℕ
-reply_bytes x = reply_text (response_of x.disposition) (closes x.message.head) (is_bare x.message.head)
+reply_bytes x =
+    reply_text (response_of x.disposition) (closes x.message.head) (is_bare x.message.head)

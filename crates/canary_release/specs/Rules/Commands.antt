@@ -104,7 +104,9 @@ promoted_to s =
     if s.step_hold then s.step + 1 else (if s.background_hold then s.step else s.step + 1)
 
 abbrev pub promote : Evolution → ℕ → Evolution
-promote c t = enter (tell (with_service_state c (without_holds c.service)) t Promoted) (promoted_to c.service) t
+promote c t =
+    enter (tell (with_service_state c (without_holds c.service)) t Promoted)
+        (promoted_to c.service) t
 
 abbrev pub promote_full : Evolution → ℕ → Evolution
 promote_full c t = enter (tell c t PromotedFull) (length c.service.strategy.steps) t

@@ -36,7 +36,8 @@ begin_background c at =
 -- the background run is opened if it begins at step i
 abbrev pub open_background : Evolution → ℕ → ℕ → Evolution
 open_background c i at =
-    if begins_background c.service.strategy.background i c.service.background then begin_background c at
+    if begins_background c.service.strategy.background i c.service.background
+    then begin_background c at
     else c
 
 -- the step's line, and its run if it is an analysis
@@ -58,4 +59,5 @@ enter c i at =
 
 -- the release is aborted: holds are cleared, open runs are ended, and the step stays
 abbrev pub abort : Evolution → ℕ → Evolution
-abort c at = end_open_runs (with_service_state c (record (without_holds c.service) { state = Aborted })) at
+abort c at =
+    end_open_runs (with_service_state c (record (without_holds c.service) { state = Aborted })) at

@@ -111,7 +111,8 @@ abbrev pub abort_by_run : Evolution → ℕ → ℕ → Evolution
 abort_by_run c run t = abort (tell c t (AbortedBy run)) t
 
 abbrev pub hold_step : Evolution → ℕ → Evolution
-hold_step c t = tell (with_service_state c (record c.service { step_hold = true })) t (StepHeld c.service.step)
+hold_step c t =
+    tell (with_service_state c (record c.service { step_hold = true })) t (StepHeld c.service.step)
 
 -- an open step run is ended from outside
 abbrev pub hold_background : Evolution → ℕ → Evolution
