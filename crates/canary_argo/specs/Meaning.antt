@@ -52,7 +52,7 @@ in_order false f x y = f x y
 abbrev pub test_value : Test → Option Given → Verdict3
 test_value t (Some (Decimal x)) =
     verdict_of_test
-        (in_order t.turned (compares_exactly t.comparison) x (fraction_of t.amount.number))
+    (in_order t.turned (compares_exactly t.comparison) x (fraction_of t.amount.number))
 test_value t (Some NotANumber) = verdict_of_test (compares_nan t.comparison)
 test_value t (Some Infinite) =
     verdict_of_test (in_order t.turned (compares t.comparison) (pos 1) (pos 0))

@@ -107,8 +107,8 @@ with_entry j (entry.Settled number reply) = settles j reply
 abbrev pub settled_place : List SettledNumber → ℕ → List ℕ → WishPlace
 settled_place kept i intent =
     if unwrap_or
-        (option_map (λ (k : SettledNumber). bytes_eq k.asked.wish.intent intent) (slice_get kept i))
-        false
+    (option_map (λ (k : SettledNumber). bytes_eq k.asked.wish.intent intent) (slice_get kept i))
+    false
     then place.Settled i else place.KeyUsed
 
 -- without a key, a wish is the one that is pending if that has its intent and no key

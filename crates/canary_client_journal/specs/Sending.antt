@@ -107,7 +107,7 @@ abbrev pub IsFailed : (List ℕ → Heard → Type 0) → JournalValue → (fail
 IsFailed was_told j failed gate fault =
     (reply : SettledReply) × IsSettledBy was_told j reply
     × IsFault failed (2 ^ 60 ≤ gate + length (line_of (entry.Settled (number_of j) reply)))
-        ⊥ (λ _. ⊥) fault
+    ⊥ (λ _. ⊥) fault
 
 -- the journal failed
 abbrev pub is_kept : Unsettled → Bool
@@ -175,7 +175,7 @@ IsWrong response unsettled.Memory = Unit {0}
 abbrev pub taken_for : Meaning → Heard → Bool → Result Tried Unsettled
 taken_for means.Settled response is_late =
     Ok (tried.Settled
-        (record { status = response.status; body = response.body; is_late = is_late }))
+    (record { status = response.status; body = response.body; is_late = is_late }))
 taken_for means.Reused response is_late = Ok tried.Reused
 taken_for means.Unavailable response is_late = Ok (tried.Again why.Unavailable)
 taken_for means.Foreign response is_late = Ok (tried.Again why.Foreign)

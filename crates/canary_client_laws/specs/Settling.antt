@@ -51,4 +51,4 @@ Settles =
     → meaning_of reply.status reply.body ≡ means.Settled
     → IsAnswer w (body_of a reply.is_late) reply which
     → IsJournalOf (step_applied j.caller j.before w (delivery.Hears which))
-        (journals.settles j reply)
+    (journals.settles j reply)

@@ -106,7 +106,7 @@ promoted_to s =
 abbrev pub promote : Evolution → ℕ → Evolution
 promote c t =
     enter (tell (with_service_state c (without_holds c.service)) t Promoted)
-        (promoted_to c.service) t
+    (promoted_to c.service) t
 
 abbrev pub promote_full : Evolution → ℕ → Evolution
 promote_full c t = enter (tell c t PromotedFull) (length c.service.strategy.steps) t
