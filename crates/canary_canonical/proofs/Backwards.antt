@@ -26,7 +26,7 @@ use Rattle.canary_plan.specs.declared.report.Report.{Report}
 use Rattle.canary_plan.specs.declared.command.Command.{Command}
 use Rattle.canary_plan.specs.declared.command.Command.TheVariants as command
 use Rattle.canary_plan.specs.Commands.{subject_of}
-use Rattle.canary_canonical.specs.Texts.{whole_data, signed_data, data_or_null, list_data, metric_data, metric_data_with, template_data, step_data, background_data, service_data, result_data, entry_with, entry_data, report_data, start_data, service_alone, command_data, command_text}
+use Rattle.canary_canonical.specs.Texts.{whole_data, signed_data, data_or_null, list_data, metric_data, metric_object, template_data, step_data, background_data, service_data, result_data, entry_with, entry_data, report_data, start_data, service_alone, command_data, command_text}
 use Rattle.canary_canonical.specs.Forms.{◌⊛◌, at, at_if, is_object_of, name_in, label_in, number_up_to, signed_in, null_or, each, list_of}
 use Rattle.canary_canonical.specs.Readings.{seconds_in, moment_in, word_in, weight_in, starting_step_in, dry_run_name_in, metric_with, metric_in, template_with, template_in, step_in, background_with, background_in, service_with, service_in, values_with, result_in, outcome_in, entry_of, entry_in, report_with, report_in, start_with, start_in, named_in, plain_of_kind, command_of_kind, command_in, if_text_of, canonical_in}
 use Rattle.canary_canonical.specs.Laws.{is_duration, is_weight, is_starting_step, is_signed_word, all_of, keeps_metric, keeps_template, keeps_step, keeps_background, keeps_service, keeps_outcome, keeps_entry, keeps_report, keeps_limits, KeepsLimits, ReadsBack, OneText}
@@ -100,18 +100,18 @@ dry_run_back = each_back string dry_run_name_in is_dry_run_name dry_run_name_bac
 
 -- ---- templates
 
-passes_back : (o : Option ℕ) (m : MetricSpec) → IsTrue (all_of is_word o) → at_if (codes "passAfter") word_in (metric_data_with o m) ≡ Some o
-unfolding metric_data_with
+passes_back : (o : Option ℕ) (m : MetricSpec) → IsTrue (all_of is_word o) → at_if (codes "passAfter") word_in (metric_object o m) ≡ Some o
+unfolding metric_object
 passes_back None m h = refl
 passes_back (Some n) m h = ap (option_map Some) (word_back n h)
 
-success_back : (o : Option ℕ) (m : MetricSpec) → at (codes "successCondition") (null_or as_str) (metric_data_with o m) ≡ Some m.success
-unfolding metric_data_with
+success_back : (o : Option ℕ) (m : MetricSpec) → at (codes "successCondition") (null_or as_str) (metric_object o m) ≡ Some m.success
+unfolding metric_object
 success_back None m = text_or_null m.success
 success_back (Some n) m = text_or_null m.success
 
 metric_back : (m : MetricSpec) → IsTrue (keeps_metric m) → metric_in (metric_data m) ≡ Some m
-unfolding metric_data_with metric_in keeps_metric
+unfolding metric_object metric_in keeps_metric
 metric_back m h =
     let numbers = metric_numbers m in
     let times = both (both h).1 in

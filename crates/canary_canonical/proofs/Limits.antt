@@ -19,7 +19,7 @@ use Rattle.canary_plan.specs.declared.report.Report.{Report}
 use Rattle.canary_plan.specs.declared.command.Command.{Command}
 use Rattle.canary_plan.specs.declared.command.Command.TheVariants as command
 use Rattle.canary_plan.specs.Limits.{is_limit, is_count}
-use Rattle.canary_canonical.specs.Texts.{whole_data, signed_data, data_or_null, list_data, passing, metric_data, metric_data_with, template_data, step_data, background_data, service_data, entry_with, entry_data, report_data, start_data, command_data}
+use Rattle.canary_canonical.specs.Texts.{whole_data, signed_data, data_or_null, list_data, passing, metric_data, metric_object, template_data, step_data, background_data, service_data, entry_with, entry_data, report_data, start_data, command_data}
 use Rattle.canary_canonical.specs.Laws.{is_duration, is_weight, is_starting_step, is_signed_word, all_of, keeps_metric, keeps_template, keeps_step, keeps_background, keeps_service, keeps_outcome, keeps_entry, keeps_report, keeps_limits, KeepsLimits}
 use Rattle.canary_canonical.proofs.Regular.{NumbersFit, ItemsFit, MembersFit}
 
@@ -118,7 +118,7 @@ passing_fits None rest h fit = fit
 passing_fits (Some n) rest h fit = (word_fits n h, fit)
 
 metric_fits : (m : MetricSpec) → IsTrue (keeps_metric m) → NumbersFit (metric_data m)
-unfolding metric_data_with keeps_metric
+unfolding metric_object keeps_metric
 metric_fits m h =
     let numbers = metric_numbers m in
     let times = both (both h).1 in (

@@ -20,7 +20,7 @@ use Rattle.canary_plan.specs.declared.report.Report.{Report}
 use Rattle.canary_plan.specs.declared.command.Command.{Command}
 use Rattle.canary_plan.specs.declared.command.Command.TheVariants as command
 use Rattle.canary_plan.specs.Commands.{subject_of}
-use Rattle.canary_canonical.specs.Texts.{whole_data, signed_data, data_or_null, list_data, only, passing, metric_data, metric_data_with, template_data, step_data, background_data, service_data, result_data, entry_with, entry_data, report_data, start_data, service_alone, command_data}
+use Rattle.canary_canonical.specs.Texts.{whole_data, signed_data, data_or_null, list_data, only, passing, metric_data, metric_object, template_data, step_data, background_data, service_data, result_data, entry_with, entry_data, report_data, start_data, service_alone, command_data}
 use Rattle.canary_canonical.proofs.Regular.{rebuilt, IsInOrder, ItemsInOrder, MembersInOrder}
 
 -- no float, in order, and at most so deep
@@ -96,13 +96,13 @@ abbrev members_of : Data → Members
 members_of (object ms) = ms
 members_of d = no_members
 
-metric_sorted : (o : Option ℕ) (m : MetricSpec) → rebuilt (members_of (metric_data_with o m)) no_members ≡ members_of (metric_data_with o m)
-unfolding metric_data_with
+metric_sorted : (o : Option ℕ) (m : MetricSpec) → rebuilt (members_of (metric_object o m)) no_members ≡ members_of (metric_object o m)
+unfolding metric_object
 metric_sorted None m = refl
 metric_sorted (Some n) m = refl
 
 plain_metric : (m : MetricSpec) → IsPlain 1 (metric_data m)
-unfolding metric_data_with
+unfolding metric_object
 plain_metric m =
     let number = plain_whole 0 in
     let text = plain_text 0 in

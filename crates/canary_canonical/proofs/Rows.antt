@@ -12,7 +12,7 @@ use Rattle.canary_plan.specs.declared.template_spec.MetricSpec.{MetricSpec}
 use Rattle.canary_plan.specs.declared.report.Entry.{Entry}
 use Rattle.canary_plan.specs.declared.command.Command.{Command}
 use Rattle.canary_plan.specs.declared.command.Command.TheVariants as command
-use Rattle.canary_canonical.specs.Texts.{metric_data_with, template_data, step_data, background_data, service_data, entry_data, report_data, start_data, command_data, command_text}
+use Rattle.canary_canonical.specs.Texts.{metric_object, template_data, step_data, background_data, service_data, entry_data, report_data, start_data, command_data, command_text}
 use Rattle.canary_canonical.specs.Readings.{template_in, metric_in, service_in, step_in, background_in, entry_in, report_in, start_in, plain_of_kind, command_of_kind, spelt_in, canonical_in}
 
 abbrev web : List ℕ
@@ -38,7 +38,7 @@ metric = record {
 template :
     command_text (command.Template (record { name = codes "t"; metrics = metric ∷ []; dry_run = codes "m" ∷ []; within = refl }))
     ≡ codes "{\"template\":{\"dryRun\":[\"m\"],\"metrics\":[{\"consecutiveErrorLimit\":4,\"count\":null,\"failureCondition\":null,\"failureLimit\":0,\"inconclusiveLimit\":0,\"initialDelay\":0,\"interval\":60,\"name\":\"m\",\"successCondition\":\"result == 0\"}],\"name\":\"t\"}}"
-unfolding json_on_literals digits command_text command_data template_data metric_data_with
+unfolding json_on_literals digits command_text command_data template_data metric_object
 template = refl
 
 -- what is absent and what is written out change places
@@ -49,13 +49,13 @@ other_metric : command_text (command.Template (record {
   within = refl;
 }))
     ≡ codes "{\"template\":{\"dryRun\":[],\"metrics\":[{\"consecutiveErrorLimit\":4,\"count\":3,\"failureCondition\":\"result < 5\",\"failureLimit\":1,\"inconclusiveLimit\":2,\"initialDelay\":5,\"interval\":null,\"name\":\"m\",\"successCondition\":null}],\"name\":\"t\"}}"
-unfolding json_on_literals digits command_text command_data template_data metric_data_with
+unfolding json_on_literals digits command_text command_data template_data metric_object
 other_metric = refl
 
 -- a number of successes in a row has a member of its own
 passed_metric : command_text (command.Template (record { name = codes "t"; metrics = record metric { pass_after = Some 2; within = refl } ∷ []; dry_run = []; within = refl }))
     ≡ codes "{\"template\":{\"dryRun\":[],\"metrics\":[{\"consecutiveErrorLimit\":4,\"count\":null,\"failureCondition\":null,\"failureLimit\":0,\"inconclusiveLimit\":0,\"initialDelay\":0,\"interval\":60,\"name\":\"m\",\"passAfter\":2,\"successCondition\":\"result == 0\"}],\"name\":\"t\"}}"
-unfolding json_on_literals digits command_text command_data template_data metric_data_with
+unfolding json_on_literals digits command_text command_data template_data metric_object
 passed_metric = refl
 
 -- Services.
@@ -181,7 +181,7 @@ abbrev marking : ℕ → List ℕ
 marking n = codes "{\"template\":{\"dryRun\":[\"" ++ replicate n 97 ++ codes "\"],\"metrics\":[{\"consecutiveErrorLimit\":4,\"count\":null,\"failureCondition\":null,\"failureLimit\":0,\"inconclusiveLimit\":0,\"initialDelay\":0,\"interval\":60,\"name\":\"m\",\"successCondition\":\"result == 0\"}],\"name\":\"t\"}}"
 
 longest_dry_run_name : canonical_in (marking 63) ≡ Some (command.Template (record { name = codes "t"; metrics = metric ∷ []; dry_run = replicate 63 97 ∷ []; within = refl }))
-unfolding json_on_literals serde_json_on_literals digits command_text command_data template_data metric_data_with canonical_in command_of_kind template_in metric_in
+unfolding json_on_literals serde_json_on_literals digits command_text command_data template_data metric_object canonical_in command_of_kind template_in metric_in
 longest_dry_run_name = refl
 
 dry_run_name_too_long : canonical_in (marking 64) ≡ None

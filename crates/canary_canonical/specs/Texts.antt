@@ -46,8 +46,8 @@ abbrev pub passing : Option ℕ → Members → Members
 passing None rest = rest
 passing (Some n) rest = member (codes "passAfter") (whole_data n) rest
 
-unfoldable pub metric_data_with : Option ℕ → MetricSpec → Data
-metric_data_with passes m = object
+unfoldable pub metric_object : Option ℕ → MetricSpec → Data
+metric_object passes m = object
     (member (codes "consecutiveErrorLimit") (whole_data m.consecutive_error_limit)
     (member (codes "count") (data_or_null whole_data m.count)
     (member (codes "failureCondition") (data_or_null string m.failure)
@@ -60,7 +60,7 @@ metric_data_with passes m = object
     (member (codes "successCondition") (data_or_null string m.success) no_members))))))))))
 
 abbrev pub metric_data : MetricSpec → Data
-metric_data m = metric_data_with m.pass_after m
+metric_data m = metric_object m.pass_after m
 
 unfoldable pub template_data : TemplateSpec → Data
 template_data t = object

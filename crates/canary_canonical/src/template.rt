@@ -67,7 +67,7 @@ fn metric_values(alloc: Global, metrics: &[MetricSpec]) -> Result<Value, AllocEr
 }
 
 // The metric in JSON, which has the member `passAfter` only if that was given.
-#[tactic(auto, unfolding(crate::specs::Objects::with_member, crate::specs::Texts::metric_data_with, crate::specs::Laws::keeps_metric))]
+#[tactic(auto, unfolding(crate::specs::Objects::with_member, crate::specs::Texts::metric_object))]
 fn metric_value(alloc: Global, metric: &MetricSpec) -> Result<Value, AllocError>
     ensures value { IfOk result (λ value. view value ≡ metric_data metric.now) }
     ensures kept { IfOk result (λ _. IsTrue (keeps_metric metric.now)) }
