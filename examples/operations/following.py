@@ -40,6 +40,20 @@ def say(text):
         print(shown, file=sys.stderr, flush=True)
 
 
+def words_of(page, least, most):
+    """The words with which a program was called. With --help it prints its page, whose first line
+    has the words, and ends; with fewer or more words it says that line, and ends with status 2."""
+    words, line = sys.argv[1:], page.split(":")[0]
+    if words in (["--help"], ["-h"]):
+        with contextlib.suppress(OSError, AttributeError):
+            print(page, flush=True)
+        sys.exit()
+    if not least <= len(words) <= most:
+        say(f"usage: {line}")
+        sys.exit(2)
+    return words
+
+
 def follow(service, act, read=shares_of):
     """Calls `act` with what `read` makes of the last line, each second from the first line on, and
     says what it answers, if it answers something else than before. While no desk answers, that is

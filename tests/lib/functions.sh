@@ -4,6 +4,13 @@ source "$root/tests/lib/needs.sh"
 script=$(readlink -f "$0")
 script=${script#"$root"/}
 
+# With the one word --help, or -h, a script that tries something prints what stands at its top, and
+# ends. ./check prints words of its own, and ./canary hands all words on to the program.
+if [[ "$script" == */* || "$script" == demo ]] && [[ "$*" == -h || "$*" == --help ]]; then
+    awk 'NR > 1 { if (!/^#/) exit; sub(/^# ?/, ""); print }' "$root/$script"
+    exit 0
+fi
+
 # Says on standard error what the script has to say, and ends it.
 fail() {
     echo "$script: $1" >&2

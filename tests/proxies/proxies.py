@@ -6,6 +6,7 @@ import sys
 
 sys.path.append(str(pathlib.Path(__file__).resolve().parents[1] / "client"))
 
+import called  # pylint: disable=wrong-import-position
 import desks  # pylint: disable=wrong-import-position
 import followers  # pylint: disable=wrong-import-position
 import loops  # pylint: disable=wrong-import-position
@@ -33,8 +34,9 @@ NEEDS = {
     "try_notify_away": set(),
     "try_notify_flood": set(),
     "try_notify_words": set(),
+    "try_usage": set(),
 }
-PARTS = parts_of(desks, followers, loops, notices, roles)
+PARTS = parts_of(called, desks, followers, loops, notices, roles)
 
 
 def chosen(wanted):

@@ -1,0 +1,46 @@
+"""How the programs of examples/operations are called: a part of proxies.py."""
+import os
+import subprocess
+
+from parts import OPERATIONS
+from world import Wrong, expect
+
+# Each program with its words, and calls of it that are invalid.
+CALLS = {
+    "follow-haproxy SERVICE SOCKET BACKEND": ("", "web", "web socket", "web socket web more"),
+    "follow-nginx SERVICE FILE [NGINX..]": ("", "web"),
+    "notify SERVICE FILE": ("", "web", "web file more"),
+    "report SERVICE": ("", "web shop", "a b c d e f g h i j"),
+    "serve-and-notify COMMAND [WORD..]": ("",),
+    "watchdog SECONDS SERVICE..": ("", "120"),
+}
+
+
+def try_usage(world):
+    """A call with too few words, or too many, says how the program is called, and has status 2, also
+    with closed streams; one for help prints that. Nothing else happens: there is no `canary`."""
+    folder = world.place("usage")
+    for line, calls in CALLS.items():
+        name = line.split()[0]
+        for words in calls:
+            row = f"{name} {words}"
+            expect(row, called(folder, name, words), (2, "", f"usage: {line}\n"))
+            expect(f"{row}, closed", called(folder, name, words, "<&- >&- 2>&-"), (2, "", ""))
+        for word in ("--help", "-h"):
+            status, output, errors = called(folder, name, word)
+            expect(f"{name} {word}", (status, errors), (0, ""))
+            if line not in output.split("\n")[0]:
+                raise Wrong(f"{name} {word}: {output!r}")
+        expect(f"{name} --help, closed", called(folder, name, "--help", "<&- >&- 2>&-")[1:], ("", ""))
+    expect("notify without a webhook", called(folder, "notify", "web file"),
+           (2, "", "notify: CANARY_WEBHOOK is not set\n"))
+    expect("nothing is made", os.listdir(folder), [])
+
+
+def called(folder, name, words, ends=""):
+    """The status, the output and the errors of a call."""
+    command = ["sh", "-c", f'exec "$@" {ends}', "sh", OPERATIONS / name, *words.split()]
+    done = subprocess.run([*map(str, command)], cwd=folder, capture_output=True, text=True,
+                          timeout=60, stdin=subprocess.DEVNULL, check=False,
+                          env={"PATH": "/usr/bin:/bin", "PYTHONDONTWRITEBYTECODE": "1"})
+    return done.returncode, done.stdout, done.stderr
