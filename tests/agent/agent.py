@@ -14,6 +14,7 @@ import edges
 import edits
 import lines
 import machine
+import order
 import pauses
 import real
 import replies
@@ -46,7 +47,7 @@ CONTEXT = multiprocessing.get_context("fork")
 parts = {}
 # The long ones first.
 PARTS = parts_of(silence, real, crowd, replies, edits, lines, runs, web, edges, streams, machine,
-                 pauses)
+                 pauses, order)
 
 
 def give_up(*_):

@@ -8,6 +8,7 @@ import signal
 import subprocess
 import time
 
+from journal_disk import BYTES, CALL, Disk, unescaped
 from journal_rule import is_new, journal_of
 from world import (
     DONE, LOCAL, NO_FILE, NO_JOURNAL_FILE, PROMOTED, Wrong, add, environment, expect, process,
@@ -20,8 +21,6 @@ STOPPED = re.compile(r"^(\d+) +--- stopped by SIGSTOP", re.MULTILINE)
 KILLED = (-signal.SIGKILL, 128 + signal.SIGKILL)
 # What may take a path.
 TAKES = {"fifo": os.mkfifo, "null": lambda path: path.symlink_to("/dev/null")}
-# How many parts of what was not synced are tried at each call, beside all of it and nothing.
-PARTS = 8
 
 
 def killing(log, names, at):
@@ -264,54 +263,6 @@ def try_desk_killed(world):
 
 
 # What the disk may hold.
-
-CALL = re.compile(r'^(?:\d+ +)?(\w+)\((.*)\) += +(-?\d+)', re.MULTILINE)
-BYTES = re.compile(r'"((?:\\x[0-9a-f]{2})*)"')
-
-
-class Disk:
-    """What a disk may hold of a journal's file: what was synced, and any part of what was changed
-    since."""
-
-    def __init__(self):
-        self.synced, self.changes = b"", []
-
-    def with_changes(self, changes):
-        found = bytearray(self.synced)
-        for place, written in changes:
-            if written is None:
-                found[:] = found[:place].ljust(place, b"\0")
-            else:
-                found.extend(bytes(max(0, place - len(found))))
-                found[place:place + len(written)] = written
-        return bytes(found)
-
-    def note(self, call, told, result):
-        """A call on the file, with its words and its result."""
-        if call == "pwrite64":
-            place = int(told.rsplit(",", 1)[1])
-            self.changes.append((place, unescaped(BYTES.search(told)[1])[:int(result)]))
-        elif call == "ftruncate":
-            self.changes.append((int(told.split(",")[1]), None))
-        elif call in ("fsync", "fdatasync"):
-            self.synced, self.changes = self.with_changes(self.changes), []
-
-    def images(self):
-        """All of it, nothing of it, and each beginning and each end of a write alone."""
-        yield self.synced
-        yield self.with_changes(self.changes)
-        for at, (place, written) in enumerate(self.changes):
-            before = self.changes[:at]
-            if written is None:
-                continue
-            step = max(1, len(written) // PARTS)
-            for end in range(1, len(written), step):
-                yield self.with_changes([*before, (place, written[:end])])
-                yield self.with_changes([*before, (place + end, written[end:])])
-
-
-def unescaped(told):
-    return bytes.fromhex(told.replace("\\x", ""))
 
 
 def try_power_cuts(world):

@@ -13,7 +13,7 @@ import time
 from reports import metric
 from world import (
     DONE, LOCAL, REFUSED, WORDS, Caller, Wrong, add, answering, ask, environment, expect, process,
-    process_group, rollout, want, wait_until,
+    process_group, rollout, two_pauses, want, wait_until,
 )
 
 HELD = 7
@@ -337,7 +337,7 @@ def run_workflow(desk, key, version, seconds=60):
 def try_workflow(world):
     """The lines of release.yml: an Inconclusive hold is not promoted, a timed pause lasts, and a
     repeat of the whole job does nothing twice."""
-    expect("the commands", [len(workflow()), workflow()[0].split()[:2]], [5, ["canary", "do"]])
+    expect("the commands", [len(workflow()), workflow()[0].split()[:2]], [3, ["canary", "do"]])
     with world.desk("workflow") as desk:
         add_held(desk)
         steps = [{"setWeight": 20}, {"pause": {"duration": "3s"}}, {"setWeight": 50}, {"pause": {}},
@@ -349,17 +349,28 @@ def try_workflow(world):
         expect("not promoted", desk.count("promote"), {})
         # a person promotes it, and the job is run again: the timed pause lasts
         expect("a person", desk.do("promote", "web").status, DONE)
-        expect("again", run_workflow(desk, "1", "v2"), [DONE, DONE, DONE, DONE])
+        expect("again", run_workflow(desk, "1", "v2"), [DONE, DONE])
         expect("promoted by a person, and by the job", desk.count("promote"), {"web": 2})
         lasted = desk.rows("SELECT moment FROM history WHERE service = 'web' AND"
                            " (line LIKE 'step 3 %' OR line LIKE 'step 4 %') ORDER BY place")
         expect("the timed pause", lasted[1][0] - lasted[0][0], 3)
         before = desk.rows("SELECT count(*) FROM history")
-        expect("once more", run_workflow(desk, "1", "v2"), [DONE, DONE, DONE, DONE])
+        expect("once more", run_workflow(desk, "1", "v2"), [DONE, DONE])
         expect("nothing twice", desk.rows("SELECT count(*) FROM history"), before)
         # one that is aborted meanwhile fails the job
         with until_done(desk, "abort web"):
             expect("aborted meanwhile", run_workflow(desk, "2", "v3"), [DONE, REFUSED])
+    with world.desk("workflow-twice") as desk:
+        Caller(desk, "setup").send({"service": {"version": "v1", "manifest": two_pauses()}})
+        for row in ("at each pause", "once more"):
+            expect(row, run_workflow(desk, "1", "v2"), [DONE, DONE])
+            expect(f"{row}: promoted", desk.count("promote"), {"web": 2})
+        # the key of a pause was used before the release was begun anew: the job fails at once
+        for words in (("start", "web", "v3"), ("abort", "web"), ("retry", "web")):
+            expect(words, desk.do(*words).status, DONE)
+        begun = time.monotonic()
+        expect("used keys", run_workflow(desk, "1", "v2"), [DONE, REFUSED])
+        expect("at once", time.monotonic() - begun < 30, True)
 
 
 def try_dying(world):

@@ -34,13 +34,20 @@ def try_usage(world):
         expect(f"{name} --help, closed", called(folder, name, "--help", "<&- >&- 2>&-")[1:], ("", ""))
     expect("notify without a webhook", called(folder, "notify", "web file"),
            (2, "", "notify: CANARY_WEBHOOK is not set\n"))
+    expect("report without a measure", called(folder, "report", "web"),
+           (5, "", "report: there is no measure on the PATH\n"))
+    none = folder / "none"
+    expect("a watchdog without its folder", called(folder, "watchdog", "120 web",
+                                                   WATCHDOG_FOLDER=str(none)),
+           (5, "", f"watchdog: {none}: this user has to be able to write to it\n"))
     expect("nothing is made", os.listdir(folder), [])
 
 
-def called(folder, name, words, ends=""):
+def called(folder, name, words, ends="", **variables):
     """The status, the output and the errors of a call."""
     command = ["sh", "-c", f'exec "$@" {ends}', "sh", OPERATIONS / name, *words.split()]
     done = subprocess.run([*map(str, command)], cwd=folder, capture_output=True, text=True,
                           timeout=60, stdin=subprocess.DEVNULL, check=False,
-                          env={"PATH": "/usr/bin:/bin", "PYTHONDONTWRITEBYTECODE": "1"})
+                          env={"PATH": "/usr/bin:/bin", "PYTHONDONTWRITEBYTECODE": "1",
+                               **variables})
     return done.returncode, done.stdout, done.stderr
