@@ -34,6 +34,8 @@ const AGAIN: u64 = 600_000;
 
 const UNGIVEN: &str = "no value: the other program gave none in time";
 
+const UNREAD: &str = "no value: the agent cannot read what the other program gives";
+
 /// A service that is attended.
 #[derive(Drop)]
 pub(crate) struct Attended {
@@ -385,15 +387,17 @@ impl Attended {
     fn look_anew(&mut self, now: u64) {
         self.outcome = worse(self.outcome, ClientExit::Local);
         if self.look_at != NEVER {
-            self.look_at = look_again(now);
+            self.look_at = self.look_at.min(look_again(now));
         }
     }
 
-    /// Takes what another program gives, or a failure if it gave nothing in time; or `Memory`.
+    /// Takes what another program gives, or a failure if it gave nothing in time, by whether that
+    /// cannot be read; or `Memory`.
     pub(crate) fn take_values(
         &mut self,
         alloc: Global,
         values: &mut UnreportedValues,
+        is_unreadable: bool,
         now: u64,
     ) -> Result<(), Memory> {
         let mut place = 0;
@@ -401,7 +405,7 @@ impl Attended {
             let Some(found) = self.takings.awaited_from(place) else {
                 return Ok(());
             };
-            if let Some(came) = self.value_for(alloc, values, found, now)? {
+            if let Some(came) = self.value_for(alloc, values, found, is_unreadable, now)? {
                 self.takings.give(found, came);
             }
             place = found.saturating_add(1);
@@ -415,6 +419,7 @@ impl Attended {
         alloc: Global,
         values: &mut UnreportedValues,
         place: usize,
+        is_unreadable: bool,
         now: u64,
     ) -> Result<Option<Came>, Memory> {
         let Some(taking) = self.takings.at(place) else {
@@ -431,7 +436,8 @@ impl Attended {
         if now < taking.ends_at {
             return Ok(None);
         }
-        Ok(Some(failed(alloc, UNGIVEN)?))
+        let why = if is_unreadable { UNREAD } else { UNGIVEN };
+        Ok(Some(failed(alloc, why)?))
     }
 
     /// Reports what is there of each run, if it is all there or has waited long enough. Whether the

@@ -52,7 +52,7 @@ impl AgentStop {
             AgentStop::Manifests => "nothing is measured: these manifests are not translated",
             AgentStop::NoService =>
                 "nothing is measured: these files have no Rollout to measure for",
-            AgentStop::Values => "the file with values cannot be read",
+            AgentStop::Values => "standard input, or the file of --values, cannot be read",
             AgentStop::Connections => "this machine cannot wait for connections (epoll)",
         }
     }

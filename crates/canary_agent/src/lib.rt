@@ -2,8 +2,8 @@
 //!
 //! Callers may rest on this: a report says of each measurement what canary_measure makes of what
 //! was measured, by the label of the desk's run, or a failure; a label that the plan does not have
-//! is in no report; and what is sent stands in the service's journal before, by
-//! canary_client_journal. What providers, the desk and the network do, no clause says.
+//! is in no report; and a report is settled in the service's journal by a reply of the desk to it.
+//! What providers, the desk and the network do, no clause says.
 //!
 //! In use (canary_cli, src/perform.rt):
 //!

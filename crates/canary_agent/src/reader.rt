@@ -1,4 +1,5 @@
 //! The lines of another program, read without waiting for any.
+use canary_fetch::local::LocalFault;
 use mio::unix::SourceFd;
 use mio::{Events, Interest, Poll, Token};
 use std::alloc::{AllocError, Global};
@@ -32,17 +33,21 @@ struct ReadPoll {
 impl ReadPoll {
     // The gate of a descriptor; none if the system has none for it, as for a file, of which a read
     // never waits.
-    fn new<R: Net + AllocGlobal>(rt: &R, descriptor: RawFd) -> Option<ReadPoll> {
-        let poll = Poll::new(rt).ok()?;
-        let events = Events::with_capacity(rt.alloc(), 1).ok()?;
-        poll.registry()
-            .register(&mut SourceFd(&descriptor), Token(0), Interest::READABLE)
-            .ok()?;
-        Some(ReadPoll {
-            poll,
-            events,
+    fn new<R: Net + AllocGlobal>(rt: &R, descriptor: RawFd) -> io::Result<Option<ReadPoll>> {
+        let gate = ReadPoll {
+            poll: Poll::new(rt)?,
+            events: Events::with_capacity(rt.alloc(), 1)?,
             descriptor,
-        })
+        };
+        let registered = gate
+            .poll
+            .registry()
+            .register(&mut SourceFd(&descriptor), Token(0), Interest::READABLE);
+        match registered {
+            Ok(()) => Ok(Some(gate)),
+            Err(error) if is_exhausted(&error) => Err(error),
+            Err(_) => Ok(None),
+        }
     }
 
     // Whether a read does not wait.
@@ -56,6 +61,14 @@ impl ReadPoll {
             .poll(&mut self.events, Some(std::time::Duration::ZERO))?;
         Ok(self.events.iter().count() > 0)
     }
+}
+
+// Whether this machine has nothing left for a gate.
+fn is_exhausted(error: &io::Error) -> bool {
+    matches!(
+        LocalFault::of(error),
+        Some(LocalFault::Descriptors | LocalFault::Memory)
+    )
 }
 
 // Where the lines come from.
@@ -76,6 +89,8 @@ pub(crate) struct LineReader {
     is_ended: bool,
     // Whether the last read failed.
     is_failing: bool,
+    // Whether it was answered that one failed, and no byte came since.
+    is_told: bool,
 }
 
 /// What a reader has.
@@ -87,7 +102,7 @@ pub(crate) enum ReadLine {
     TooLong,
     /// That no more comes.
     End,
-    /// That it cannot be read now, which comes once until a read succeeds.
+    /// That it cannot be read now, which comes once until some bytes are read.
     Unreadable,
     /// Nothing now.
     Nothing,
@@ -119,13 +134,19 @@ impl LineReader {
             Origin::File(file) => file.as_raw_fd(),
         };
         Ok(LineReader {
-            gate: ReadPoll::new(rt, descriptor),
+            gate: ReadPoll::new(rt, descriptor)?,
             origin,
             held: Vec::new(rt.alloc()),
             is_too_long: false,
             is_ended: false,
             is_failing: false,
+            is_told: false,
         })
+    }
+
+    /// Whether the last read failed.
+    pub(crate) fn is_failing(&self) -> bool {
+        self.is_failing
     }
 
     /// The next line that is there.
@@ -146,7 +167,7 @@ impl LineReader {
                 return Ok(ReadLine::Nothing);
             }
             match self.read(input)? {
-                InputRead::More => self.is_failing = false,
+                InputRead::More => self.succeeded(),
                 InputRead::End if self.has_an_end() => return self.rest(alloc),
                 InputRead::End => return Ok(self.none_yet()),
                 InputRead::Interrupted => return Ok(ReadLine::Nothing),
@@ -154,6 +175,12 @@ impl LineReader {
             }
         }
         Ok(ReadLine::Nothing)
+    }
+
+    // Some bytes were read.
+    fn succeeded(&mut self) {
+        self.is_failing = false;
+        self.is_told = false;
     }
 
     // Nothing now: it was read to its end, and may grow.
@@ -164,7 +191,8 @@ impl LineReader {
 
     // That it cannot be read; nothing if that was answered before.
     fn failed(&mut self) -> ReadLine {
-        if mem::replace(&mut self.is_failing, true) {
+        self.is_failing = true;
+        if mem::replace(&mut self.is_told, true) {
             return ReadLine::Nothing;
         }
         ReadLine::Unreadable

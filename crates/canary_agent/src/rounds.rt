@@ -39,7 +39,7 @@ const MAX_SHOWN: usize = 200;
 const HINDERED: &str =
     "this machine cannot ask a provider, which is tried again, and nothing is reported of it";
 
-const UNCONNECTED: &str = "this machine cannot connect to the desk, and tries again";
+const UNCONNECTED: &str = "this machine cannot connect to the desk";
 
 const UNTOUCHED: &str = "the file of --health cannot be touched";
 
@@ -49,7 +49,7 @@ const USED_AGAIN: &str = "nothing is found in the files any more: they are used 
 
 const ENDED: &str = "the program that gives values has ended: no more come";
 
-const UNREADABLE: &str = "the file with values cannot be read now";
+const UNREADABLE: &str = "standard input, or the file of --values, cannot be read now";
 
 const GONE: &str = "not measured any more: no file has a Rollout of this name";
 
@@ -342,8 +342,9 @@ impl Rounds {
         ensures { IsTrue manner.now.is_dry_run → GoesOn N.was_sent N.was_told N.was_unanswered
             network.old network.new IsQuery }
     {
+        let is_unreadable = self.is_unreadable();
         for attended in self.list.iter_mut() {
-            attended.take_values(rt.alloc(), &mut self.values, now)?;
+            attended.take_values(rt.alloc(), &mut self.values, is_unreadable, now)?;
             let is_there = attended.report(rt, network, manner, now, output, errors)?
                 && attended.visit(rt, network, manner, &mut self.asking, now, output, errors)?;
             if !is_there {
@@ -351,6 +352,14 @@ impl Rounds {
             }
         }
         Ok(())
+    }
+
+    // Whether what another program gives cannot be read now.
+    fn is_unreadable(&self) -> bool {
+        match &self.reader {
+            Some(reader) => reader.is_failing(),
+            None => false,
+        }
     }
 
     // Touches the file of the watchdog once a second, and says once that it cannot.

@@ -1,26 +1,25 @@
 -- Where what was asked is settled, and which messages go out for it.
-use Rattle.std.proofs.Common.{◌≡◌, ◌⊎◌, inl, inr, ℕ, suc, ◌+◌, List, [], ◌∷◌, ◌++◌, length, Bool, true, false, Option, Some, None, refl, sym, ap, ◌∙◌, subst, arith}
-use Rattle.std.specs.Prelude.{◌&&◌, cond, not, get_or, is_none, option_map, unwrap_or, position, slice_get, if◌then◌else◌}
+use Rattle.std.proofs.Common.{◌≡◌, inl, inr, ℕ, List, [], ◌∷◌, ◌++◌, length, Bool, true, false, Option, Some, None, refl, sym, ap, ◌∙◌, subst}
+use Rattle.std.specs.Prelude.{◌&&◌, not, get_or, is_none, option_map, unwrap_or, position, slice_get, if◌then◌else◌}
 use Rattle.std.specs.Str.{bytes_eq}
 use Rattle.std.proofs.lemmas.Slice.Eq.{bytes_eq-Decides}
 use Rattle.std.proofs.lemmas.List.Quantifiers.{position-Some}
 use Rattle.std.proofs.lemmas.Option.{get_or_from_slice_get}
 use Rattle.canary_client_journal.specs.declared.entry.Asked.{Asked}
 use Rattle.canary_client_journal.specs.declared.entry.SettledNumber.{SettledNumber}
-use Rattle.canary_client_journal.specs.declared.entry.WishPlace.{WishPlace}
 use Rattle.canary_client_journal.specs.declared.entry.WishPlace.TheVariants as place
 use Rattle.canary_client_journal.specs.declared.entry.SettledReply.{SettledReply}
 use Rattle.canary_client_journal.specs.declared.entry.Wish.{Wish}
-use Rattle.canary_client_journal.specs.Journals.{JournalValue, asks, asks_instead, has_key, is_kept_under, kept_with, place_of, place_under, place_without, place_pending, settled_place, settles}
+use Rattle.canary_client_journal.specs.Journals.{JournalValue, asks, asks_instead, has_key, is_kept_under, kept_with, place_of, place_under, place_without, place_pending}
 use Rattle.canary_client_journal.specs.declared.network.Heard.{Heard}
-use Rattle.canary_client_journal.specs.Sending.{IsAskedBy, IsSettledBy}
+use Rattle.canary_client_journal.specs.Sending.{IsAskedBy}
 use Rattle.canary_client_journal.specs.declared.network.RetryReason.{RetryReason}
 use Rattle.canary_client_journal.specs.Networks.{GoesOn}
-use Rattle.canary_client_journal.proofs.NetworkLemmas.{asked_more, then_on, wider}
+use Rattle.canary_client_journal.proofs.NetworkLemmas.{asked_more, late_more, then_on, wider}
 use Rattle.canary_client.specs.declared.ask.SettledAt.{SettledAt}
 use Rattle.canary_client.specs.declared.wish.Asking.{Asking}
 use Rattle.canary_client.specs.Beginning.{IsSettledSo}
-use Rattle.canary_client.specs.Promises.{intent_of, AsksFor, IsFor, IsReplyAt, IsSettledAt, IsQuery, IsPendingFor, IsSentFor}
+use Rattle.canary_client.specs.Promises.{intent_of, AsksFor, IsFor, IsSettledAt, IsQuery, IsWishFor, IsSentAnew, IsSentFor}
 
 -- the item that comes after a list
 item_after : {X : Type 0} (xs : List X) (x : X) → slice_get (xs ++ x ∷ []) (length xs) ≡ Some x
@@ -169,37 +168,65 @@ asked_instead what key j body asks a is = instead_of what key body j.pending ask
 
 -- What is sent.
 
--- of what was asked now
-pub sent_now : (told : List ℕ → Heard → Type 0) (what : Asking) (key : Option (List ℕ)) (j now : JournalValue) (is_wish : Bool) → now.caller ≡ j.caller → ((a : Asked) → now.pending ≡ Some a → IsFor what key is_wish a)
-    → (m : List ℕ) → IsAskedBy told now m → IsSentFor told what key j m
-sent_now told what key j now is_wish same for m by = inr (inr (
-  now,
-  record {
-    same = same;
-    asked = by.asked;
-    pending = by.pending;
-    is_wish = is_wish;
-    is = for by.asked by.pending;
-  },
-  by,
-))
+-- What was sent, and settled, with fewer replies is so with more.
+module _ (T U : List ℕ → Heard → Type 0) (more : (m : List ℕ) (response : Heard) → T m response → U m response) (what : Asking) (key : Option (List ℕ)) (j : JournalValue) where
+  settled_more : (new : JournalValue) → IsSettledSo T j new → IsSettledSo U j new
+  settled_more new so = (
+    so.0,
+    record {
+      asked = so.1.asked;
+      pending = so.1.pending;
+      told = more _ _ so.1.told;
+      meaning = so.1.meaning;
+      late = λ e. late_more T U more j so.1.asked (so.1.late e);
+    },
+    so.2,
+  )
 
--- what was sent with fewer replies is sent with more
-pub sent_more : (T U : List ℕ → Heard → Type 0) → ((m : List ℕ) (response : Heard) → T m response → U m response) → (what : Asking) (key : Option (List ℕ)) (j : JournalValue) (m : List ℕ) → IsSentFor T what key j m → IsSentFor U what key j m
-sent_more T U more what key j m (inl query) = inl query
-sent_more T U more what key j m (inr (inl before)) = inr (inl (asked_more T U more j m before))
-sent_more T U more what key j m (inr (inr now)) =
-    inr (inr (now.0, now.1, asked_more T U more now.0 m now.2))
+  anew_more : (now : JournalValue) (m : List ℕ) → IsSentAnew T what key now m → IsSentAnew U what key now m
+  anew_more now m (inl query) = inl query
+  anew_more now m (inr by) = inr (by.0, by.1, asked_more T U more (asks now by.0) m by.2)
 
--- once a number is settled nothing is pending, so what goes out is of what was asked
-pub sent_after : (told earlier : List ℕ → Heard → Type 0) (what : Asking) (key : Option (List ℕ)) (j new : JournalValue) → IsSettledSo earlier j new → (m : List ℕ) → IsSentFor told what key new m → IsSentFor told what key j m
-sent_after told earlier what key j new so m sent =
-    by (subst (λ n. IsSentFor told what key n m) so.2 sent)
+  sent_more : (m : List ℕ) → IsSentFor T what key j m → IsSentFor U what key j m
+  sent_more m (inl before) = inl (asked_more T U more j m before)
+  sent_more m (inr (inl (none, anew))) = inr (inl (none, anew_more j m anew))
+  sent_more m (inr (inr (inl after))) =
+      inr (inr (inl (after.0, settled_more after.0 after.1, anew_more after.0 m after.2)))
+  sent_more m (inr (inr (inr instead))) =
+      inr (inr (inr (instead.0, instead.1, asked_more T U more (asks_instead j instead.0) m instead.2)))
+
+-- What is new, while nothing is pending.
+
+none_without : (pending : Option Asked) (intent : List ℕ) → place_without pending intent ≡ place.New → pending ≡ None
+none_without None intent e = refl
+none_without (Some a) intent e = by (is_none a.wish.key && bytes_eq a.wish.intent intent) e
   where
-    by : IsSentFor told what key (settles j so.0) m → IsSentFor told what key j m
-    by (inl query) = inl query
-    by (inr (inl before)) = let none : ⊥ = cc before.pending in absurd none
-    by (inr (inr now)) = inr (inr now)
+    by : (b : Bool) → (if b then place.Pending else place.Behind) ≡ place.New → Some a ≡ None
+    by true e = let never : ⊥ = cc e in absurd never
+    by false e = let never : ⊥ = cc e in absurd never
+
+none_pending : (pending : Option Asked) (intent key : List ℕ) → place_pending pending intent key ≡ place.New → pending ≡ None
+none_pending None intent key e = refl
+none_pending (Some a) intent key e = by (has_key key a.wish) (bytes_eq a.wish.intent intent) e
+  where
+    by : (has same : Bool) → (if not has then place.Behind else (if same then place.Pending else place.KeyUsed)) ≡ place.New → Some a ≡ None
+    by true true e = let never : ⊥ = cc e in absurd never
+    by true false e = let never : ⊥ = cc e in absurd never
+    by false same e = let never : ⊥ = cc e in absurd never
+
+none_under : (j : JournalValue) (intent key : List ℕ) (at : Option ℕ) → place_under j intent key at ≡ place.New → j.pending ≡ None
+none_under j intent key None e = none_pending j.pending intent key e
+none_under j intent key (Some i) e = by (unwrap_or (option_map (λ (k : SettledNumber). bytes_eq k.asked.wish.intent intent) (slice_get j.kept i)) false) e
+  where
+    by : (b : Bool) → (if b then place.Settled i else place.KeyUsed) ≡ place.New → j.pending ≡ None
+    by true e = let never : ⊥ = cc e in absurd never
+    by false e = let never : ⊥ = cc e in absurd never
+
+-- a wish that is new is asked while nothing is pending
+pub nothing_pending : (j : JournalValue) (intent : List ℕ) (key : Option (List ℕ)) → place_of j intent key ≡ place.New → j.pending ≡ None
+nothing_pending j intent None e = none_without j.pending intent e
+nothing_pending j intent (Some key) e =
+    none_under j intent key (position (is_kept_under key) j.kept) e
 
 -- Call after call.
 
@@ -218,24 +245,31 @@ module _ {N : Type 0} (was_sent : N → List ℕ → Type 0) (was_told : N → L
   -- what was pending goes out
   pub of_before : (what : Asking) (key : Option (List ℕ)) (j : JournalValue) (old new : N) → GoesOn was_sent was_told was_unanswered old new (IsAskedBy (was_told new) j) → GoesOn was_sent was_told was_unanswered old new (IsSentFor (was_told new) what key j)
   of_before what key j old new goes =
-      wider was_sent was_told was_unanswered old new _ _ goes (λ m by. inr (inl by))
+      wider was_sent was_told was_unanswered old new _ _ goes (λ m by. inl by)
 
-  -- what was asked goes out
-  pub of_now : (what : Asking) (key : Option (List ℕ)) (j now : JournalValue) (is_wish : Bool) (old new : N) → now.caller ≡ j.caller → ((a : Asked) → now.pending ≡ Some a → IsFor what key is_wish a)
-      → GoesOn was_sent was_told was_unanswered old new (IsAskedBy (was_told new) now) → GoesOn was_sent was_told was_unanswered old new (IsSentFor (was_told new) what key j)
-  of_now what key j now is_wish old new same for goes =
-      wider was_sent was_told was_unanswered old new _ _ goes (sent_now (was_told new) what key j now is_wish same for)
+  -- queries go out, and then a wish
+  pub of_wish : (what : Asking) (key : Option (List ℕ)) (j : JournalValue) (wish : Wish) (old mid new : N) → IsWishFor what key wish → GoesOn was_sent was_told was_unanswered old mid IsQuery
+      → GoesOn was_sent was_told was_unanswered mid new (IsAskedBy (was_told new) (asks j wish)) → GoesOn was_sent was_told was_unanswered old new (IsSentAnew (was_told new) what key j)
+  of_wish what key j wish old mid new is first second =
+      then_on was_sent was_told was_unanswered old mid new _ _ _ first second (λ m query. inl query) (λ m by. inr (wish, is, by))
 
-  -- queries go out
-  pub of_queries : (what : Asking) (key : Option (List ℕ)) (j : JournalValue) (old new : N) → GoesOn was_sent was_told was_unanswered old new IsQuery → GoesOn was_sent was_told was_unanswered old new (IsSentFor (was_told new) what key j)
-  of_queries what key j old new goes =
-      wider was_sent was_told was_unanswered old new _ _ goes (λ m query. inl query)
+  -- what is asked goes out while nothing is pending
+  pub of_new : (what : Asking) (key : Option (List ℕ)) (j : JournalValue) (old new : N) → j.pending ≡ None → GoesOn was_sent was_told was_unanswered old new (IsSentAnew (was_told new) what key j)
+      → GoesOn was_sent was_told was_unanswered old new (IsSentFor (was_told new) what key j)
+  of_new what key j old new none goes =
+      wider was_sent was_told was_unanswered old new _ _ goes (λ m s. inr (inl (none, s)))
 
-  -- what was asked goes out after another command is settled
-  pub of_after : (what : Asking) (key : Option (List ℕ)) (j now : JournalValue) (old new : N) → IsSettledSo (was_told old) j now → GoesOn was_sent was_told was_unanswered old new (IsSentFor (was_told new) what key now)
+  -- what is asked goes out after another command is settled
+  pub of_after : (what : Asking) (key : Option (List ℕ)) (j now : JournalValue) (old new : N) → IsSettledSo (was_told old) j now → GoesOn was_sent was_told was_unanswered old new (IsSentAnew (was_told new) what key now)
       → GoesOn was_sent was_told was_unanswered old new (IsSentFor (was_told new) what key j)
   of_after what key j now old new so goes =
-      wider was_sent was_told was_unanswered old new _ _ goes (sent_after (was_told new) (was_told old) what key j now so)
+      wider was_sent was_told was_unanswered old new _ _ goes (λ m s. inr (inr (inl (now, settled_more (was_told old) (was_told new) goes.told_still what key j now so, s))))
+
+  -- what is asked goes out in the place of what is pending
+  pub of_instead : (what : Asking) (key : Option (List ℕ)) (j : JournalValue) (body : List ℕ) (old new : N) → AsksFor what body → GoesOn was_sent was_told was_unanswered old new (IsAskedBy (was_told new) (asks_instead j body))
+      → GoesOn was_sent was_told was_unanswered old new (IsSentFor (was_told new) what key j)
+  of_instead what key j body old new asks goes =
+      wider was_sent was_told was_unanswered old new _ _ goes (λ m by. inr (inr (inr (body, asks, by))))
 
   -- one after the other
   pub of_both : (what : Asking) (key : Option (List ℕ)) (j : JournalValue) (old mid new : N) → GoesOn was_sent was_told was_unanswered old mid (IsSentFor (was_told mid) what key j) → GoesOn was_sent was_told was_unanswered mid new (IsSentFor (was_told new) what key j)

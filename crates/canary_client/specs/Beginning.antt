@@ -1,5 +1,6 @@
 -- How a caller's journal begins, and what is asked by it.
-use Rattle.std.specs.Prelude.{◌≡◌, ◌⊎◌, ℕ, ◌+◌, List, Some, codes}
+use Rattle.std.specs.Prelude.{◌≡◌, ◌⊎◌, ℕ, ◌+◌, List, [], Some, codes}
+use Rattle.canary_client_records.specs.Texts.{texts_of}
 use Rattle.canary_client_journal.specs.declared.entry.SettledReply.{SettledReply}
 use Rattle.canary_client_journal.specs.declared.meaning.Meaning.TheVariants.{Ahead}
 use Rattle.canary_client_journal.specs.Journals.{JournalValue, begun, settles}
@@ -19,11 +20,12 @@ IsSaid was_told caller settled =
     (response : Heard) × was_told (probe_text caller) response
     × (meaning_of response.status response.body ≡ Ahead (settled + 1))
 
--- the journal stood in the file, or it begins with what the desk said
+-- the journal stood in the file; or the file has none, and it begins with what the desk said
 abbrev pub IsOpenedOrBegun : (List ℕ → Heard → Type 0) → List ℕ → List ℕ → JournalValue → Type 0
 IsOpenedOrBegun was_told caller file j =
     (journal_in file ≡ Some j)
-    ⊎ ((settled : ℕ) × (j ≡ begun caller settled) × IsSaid was_told caller settled)
+    ⊎ ((texts_of file ≡ Some [])
+    × ((settled : ℕ) × (j ≡ begun caller settled) × IsSaid was_told caller settled))
 
 -- a number was settled by a reply of the desk, which the journal has
 abbrev pub IsSettledSo : (List ℕ → Heard → Type 0) → JournalValue → JournalValue → Type 0

@@ -1,6 +1,6 @@
 -- What a call of `do` promises: it shows the reply of what was asked, under its number, and the
 -- journal has that reply before anything is shown.
-use Rattle.std.specs.Prelude.{◌≡◌, ◌⊎◌, ◌+◌, ℕ, Bool, true, false, List, [], ◌∷◌, ◌++◌, Option, Some, slice_get}
+use Rattle.std.specs.Prelude.{◌≡◌, ◌⊎◌, ◌+◌, ℕ, Bool, true, false, List, [], ◌∷◌, ◌++◌, Option, Some, None, slice_get}
 use Rattle.canary_plan.specs.declared.command.Command.{Command}
 use Rattle.canary_canonical.specs.Texts.{command_text}
 use Rattle.canary_manifest.specs.Commands.{body_reading}
@@ -9,12 +9,14 @@ use Rattle.canary_page_html.specs.Showing.{shown}
 use Rattle.canary_page_html.specs.declared.shown.TextKind.TheVariants.{Json}
 use Rattle.canary_client_journal.specs.declared.entry.Asked.{Asked}
 use Rattle.canary_client_journal.specs.declared.entry.SettledNumber.{SettledNumber}
+use Rattle.canary_client_journal.specs.declared.entry.Wish.{Wish}
 use Rattle.canary_client_journal.specs.declared.meaning.Meaning.TheVariants.{Settled}
-use Rattle.canary_client_journal.specs.Journals.{JournalValue}
+use Rattle.canary_client_journal.specs.Journals.{JournalValue, asks, asks_instead}
 use Rattle.canary_client_journal.specs.Meanings.{meaning_of}
 use Rattle.canary_client_journal.specs.declared.network.Heard.{Heard}
 use Rattle.canary_client_journal.specs.Messages.{request_text, query_text}
 use Rattle.canary_client_journal.specs.Sending.{body_of, IsAskedBy}
+use Rattle.canary_client.specs.Beginning.{IsSettledSo}
 use Rattle.canary_client.specs.declared.ask.SettledAt.{SettledAt}
 use Rattle.canary_client.specs.declared.wish.Asking.{Asking}
 use Rattle.canary_client.specs.declared.wish.Asking.TheVariants as asking
@@ -69,19 +71,30 @@ reply_line k = shown Json k.reply.body ++ 10 ∷ []
 abbrev pub IsQuery : List ℕ → Type 0
 IsQuery m = (path : List ℕ) × (m ≡ query_text path)
 
--- what is pending in a journal of the same caller was asked now
-pub record IsPendingFor (what : Asking) (key : Option (List ℕ)) (caller : List ℕ)
-    (j : JournalValue) : Type 0 where
-  pub same : j.caller ≡ caller
-  pub asked : Asked
-  pub pending : j.pending ≡ Some asked
-  pub is_wish : Bool
-  pub is : IsFor what key is_wish asked
+-- the body that is sent: a command's own, and for a report the one that is made of it now
+abbrev pub body_for : Asking → List ℕ → List ℕ
+body_for (asking.Command intent own) made = own
+body_for (asking.Report intent measured) made = made
 
--- a message of a call: a query, one of what was pending before it, or one of what was asked
+-- the wish of what is asked, under this key
+pub record IsWishFor (what : Asking) (key : Option (List ℕ)) (wish : Wish) : Type 0 where
+  pub means : wish.intent ≡ intent_of what
+  pub under : wish.key ≡ key
+  pub sends : wish.body ≡ body_for what wish.body
+
+-- a query, or the message of the wish under the journal's next number
+abbrev pub IsSentAnew : (List ℕ → Heard → Type 0) → Asking → Option (List ℕ) → JournalValue
+    → List ℕ → Type 0
+IsSentAnew was_told what key j m =
+    IsQuery m
+    ⊎ ((wish : Wish) × IsWishFor what key wish × IsAskedBy was_told (asks j wish) m)
+
+-- a message of a call: one of what was pending before it; one of what is asked, if nothing was, or
+-- once that is settled; or one of what is asked in the place of what is pending
 abbrev pub IsSentFor : (List ℕ → Heard → Type 0) → Asking → Option (List ℕ) → JournalValue → List ℕ
     → Type 0
 IsSentFor was_told what key j m =
-    IsQuery m
-    ⊎ (IsAskedBy was_told j m
-    ⊎ ((now : JournalValue) × IsPendingFor what key j.caller now × IsAskedBy was_told now m))
+    IsAskedBy was_told j m
+    ⊎ (((j.pending ≡ None) × IsSentAnew was_told what key j m)
+    ⊎ (((now : JournalValue) × IsSettledSo was_told j now × IsSentAnew was_told what key now m)
+    ⊎ ((body : List ℕ) × AsksFor what body × IsAskedBy was_told (asks_instead j body) m)))

@@ -13,8 +13,8 @@ ghost use Rattle.canary_client_journal.specs.Sending.{IsAskedBy};
 ghost use Rattle.canary_client.specs.declared.ask.SettledAt.{SettledAt};
 ghost use Rattle.canary_client.specs.Asking.{acted, by_reply, outcome_by};
 ghost use Rattle.canary_client.specs.Beginning.{IsSettledSo};
-ghost use Rattle.canary_client.specs.Promises.{intent_of, IsFor, IsSettledAt};
-ghost use Rattle.canary_client.specs.Promises.{IsQuery, IsSentFor, reply_line};
+ghost use Rattle.canary_client.specs.Promises.{IsFor, IsSettledAt, reply_line};
+ghost use Rattle.canary_client.specs.Promises.{IsQuery, IsWishFor, IsSentAnew, IsSentFor};
 
 use crate::each::{NamedCommand, commands_of};
 use crate::endpoint::{DeskEndpoint, caller_of, endpoint_of, journal_of};
@@ -359,7 +359,7 @@ fn ask_anew<N: Network, D: Device>(
     ensures settled { (before : JournalValue) → IfOk result
         (IsSettledAt (N.was_told network.new) asking key before kept.new.journal) }
     ensures sends { GoesOn N.was_sent N.was_told N.was_unanswered network.old network.new
-        (IsSentFor (N.was_told network.new) asking key kept.old.journal) }
+        (IsSentAnew (N.was_told network.new) asking key kept.old.journal) }
 {
     let place = kept.journal.kept().len();
     let wish = wish_of(rt, network, asking, key, tries)?;
@@ -378,7 +378,7 @@ fn wish_of<N: Network>(
     key: Option<Text>,
     tries: u32,
 ) -> Result<Wish, Stop>
-    ensures wish { IfOk result (λ wish. (wish.intent ≡ intent_of asking) × (wish.key ≡ key)) }
+    ensures wish { IfOk result (IsWishFor asking key) }
     ensures sends { GoesOn N.was_sent N.was_told N.was_unanswered network.old network.new IsQuery }
 {
     match asking {

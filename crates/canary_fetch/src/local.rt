@@ -68,7 +68,7 @@ impl LocalFault {
             LocalFault::Descriptors => "no file descriptor is left (EMFILE or ENFILE)",
             LocalFault::Memory => "no memory is left for a connection (ENOMEM or ENOBUFS)",
             LocalFault::Ports => "no local port or address is left (EADDRNOTAVAIL)",
-            LocalFault::Forbidden => "the connection is not permitted here (EPERM or EACCES)",
+            LocalFault::Forbidden => "the connection is not permitted (EPERM or EACCES)",
             LocalFault::Network => "no way leads to the network (ENETUNREACH or ENETDOWN)",
             LocalFault::Protocol => "the protocol is not there, as IPv6 (EAFNOSUPPORT)",
             LocalFault::Resolver => "the resolver of names gives no answer now (EAI_AGAIN)",

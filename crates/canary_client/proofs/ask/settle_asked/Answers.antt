@@ -1,7 +1,8 @@
 use Rattle.std.proofs.Common.{true, false, sym, ap, ◌∙◌}
 use Rattle.std.proofs.lemmas.Result.{IfOk-weaker}
 use Rattle.canary_client_journal.specs.Journals.{place_of}
-use Rattle.canary_client.proofs.PromiseLemmas.{is_pending, is_settled, pending_instead, at_place, had_before, of_before}
+use Rattle.canary_client.proofs.PromiseLemmas.{is_pending, is_settled, pending_instead, at_place, had_before, nothing_pending, of_before, of_new}
+use Rattle.canary_client.specs.Promises.{intent_of}
 use Rattle.canary_client.proofs.ask.settle_asked.Goals as goal
 
 pub returns-then-branch-clause-settled : goal.returns-then-branch-clause-settled
@@ -28,3 +29,9 @@ returns-in-Pending-clause-settled g c =
 pub returns-in-Pending-clause-sends : goal.returns-in-Pending-clause-sends
 returns-in-Pending-clause-sends g c =
     of_before g.N.Network.was_sent g.N.Network.was_told g.N.Network.was_unanswered c.args.asking c.args.key c.args.kept.now.journal c.args.network.now c.resumed-in-Pending.new.network c.resumed-in-Pending.ensures.sends
+
+pub returns-in-New-clause-sends : goal.returns-in-New-clause-sends
+returns-in-New-clause-sends g c =
+    of_new g.N.Network.was_sent g.N.Network.was_told g.N.Network.was_unanswered c.args.asking c.args.key c.args.kept.now.journal c.args.network.now c.ask_anew.new.network
+    (nothing_pending c.args.kept.now.journal (intent_of c.args.asking) c.args.key
+    (ap (λ i. place_of c.args.kept.now.journal i c.args.key) (sym c.intent.ensures) ∙ sym c.place_of.ensures ∙ c.in-New.is)) c.ask_anew.ensures.sends
