@@ -5,8 +5,8 @@ import subprocess
 import time
 
 from agents import (
-    Agent, agent_of, beside, desk_for, measured, measured_beside, metric, of_web, provider,
-    reply, run_agent, template, traced, wait_until, want_once)
+    Agent, agent_of, agent_words, beside, desk_for, measured, measured_beside, metric, of_web,
+    provider, reply, run_agent, template, traced, wait_until, want_once)
 from replies import want_plain
 from rows import ESCAPES, GREATEST, LESS, NAN
 from world import LOCAL, Late, Wrong, expect
@@ -14,7 +14,8 @@ from world import LOCAL, Late, Wrong, expect
 # What the agent says of a line that it does not take.
 INVALID_LINE = "a line of --values is no SERVICE METRIC VALUE of these files"
 LONG_LINE = "a line of --values has more than 4,096 bytes, and is left out"
-UNREADABLE = "the file with values cannot be read now"
+UNREADABLE = "standard input, or the file of --values, cannot be read now"
+UNREAD = "no value: the agent cannot read what the other program gives"
 # Of a kind that no agent asks.
 OTHER = {"datadog": {"query": "avg:errors"}}
 # Whose metric has no condition of its own: the desk's is result == 1.
@@ -211,6 +212,8 @@ def try_unreadable_input(world):
         with agent_of(desk, options=("--values", "-"), stdin=folder) as agent:
             agent.wait_said(UNREADABLE)
             wait_until("others go on", lambda: len(measured(desk, "asked")) > 2)
+            wait_until("its own fault is reported as such", lambda: UNREAD in [
+                each.failure for each in measured(desk, SAID[0][0])] or agent.must_run())
             expect("said once", agent.errors().count(UNREADABLE), 1)
             expect("its end is said", agent.errors().count("ended"), 0)
         ended = run_agent(desk, options=("--once", "--values", "-"), stdin=folder)
@@ -232,6 +235,33 @@ def try_unreadable_file(world):
             wait_until("what it has counts", lambda times=times:
                        len(reported_of(desk, "one")) == times or agent.must_run())
         expect("what counts", reported_of(desk, "one"), ["100000", "200000"])
+
+
+def try_uneven_file(world):
+    """A file of values of which each second read fails, and the others have nothing: that is said
+    once."""
+    with reading(world, "uneven-file", SAID[:1], "file", interval="30s") as (desk, agent, _):
+        with traced(agent, desk.folder / "values", desk.folder / "calls", "read:error=EIO:when=1+2"):
+            agent.wait_said(UNREADABLE)
+            time.sleep(5)
+            expect("said once", agent.errors().count(UNREADABLE), 1)
+
+
+def try_no_gate(world):
+    """Standard input is a pipe without a word, and this machine has nothing left to wait for it with:
+    the call ends with status 5, and does not wait for ever."""
+    with provider(lambda *_: reply("0.25")) as server, \
+            desk_for(world, "no-gate", *manifests_of(SAID[:1], server.port)) as desk:
+        front = ["strace", "-f", "-o", str(desk.folder / "calls"), "-e", "trace=epoll_ctl", "-e",
+                 "inject=epoll_ctl:error=ENOSPC:when=1"]
+        reader, writer = os.pipe()
+        ended = world.run_words(
+            [*front, world.program, *agent_words(desk, options=("--once", "--values", "-"))],
+            desk.folder, 60, stdin=reader)
+        os.close(reader)
+        os.close(writer)
+        expect("it ends", (ended.status, ended.errors),
+               (LOCAL, "canary: standard input, or the file of --values, cannot be read\n"))
 
 
 def try_hostile_lines(world):

@@ -15,7 +15,7 @@ from world import DONE, LOCAL, PENDING, Late, Wrong, answering, expect
 
 HINDERED = ("this machine cannot ask a provider, which is tried again, and nothing is reported of"
             " it")
-UNCONNECTED = "this machine cannot connect to the desk, and tries again"
+UNCONNECTED = "this machine cannot connect to the desk"
 # What is said of each error as a connection is begun.
 OWN = {
     errno.EMFILE: "EMFILE", errno.ENFILE: "EMFILE", errno.ENOBUFS: "ENOMEM",

@@ -28,8 +28,8 @@ OWN = [("socket", "EMFILE", "no file descriptor is left (EMFILE or ENFILE)"),
        ("socket", "ENOBUFS", "no memory is left for a connection (ENOMEM or ENOBUFS)"),
        ("socket", "EAFNOSUPPORT", "the protocol is not there, as IPv6 (EAFNOSUPPORT)"),
        ("connect", "EADDRNOTAVAIL", "no local port or address is left (EADDRNOTAVAIL)"),
-       ("connect", "EPERM", "the connection is not permitted here (EPERM or EACCES)"),
-       ("connect", "EACCES", "the connection is not permitted here (EPERM or EACCES)"),
+       ("connect", "EPERM", "the connection is not permitted (EPERM or EACCES)"),
+       ("connect", "EACCES", "the connection is not permitted (EPERM or EACCES)"),
        ("connect", "ENETUNREACH", "no way leads to the network (ENETUNREACH or ENETDOWN)")]
 
 
