@@ -27,7 +27,8 @@ from world import Late, World, running, slowness
 
 # The parts that are left out without these tools.
 PARTS_WITH = {"prometheus": ("try_releases", "try_kills"),
-              "strace": ("try_health_race", "try_unreadable_file"),
+              "strace": ("try_health_race", "try_unreadable_file", "try_uneven_file", "try_no_gate",
+                         "try_kept_first"),
               "cc": ("try_hindered", "try_hindered_desk", "try_begun", "try_exhausted",
                      "try_crowded", "try_other_provider", "try_beside_slow", "try_unresolved",
                      "try_two_addresses", "try_unresolved_once", "try_hindered_once",
