@@ -252,8 +252,8 @@ def try_no_gate(world):
     the call ends with status 5, and does not wait for ever."""
     with provider(lambda *_: reply("0.25")) as server, \
             desk_for(world, "no-gate", *manifests_of(SAID[:1], server.port)) as desk:
-        front = ["strace", "-f", "-o", str(desk.folder / "calls"), "-e", "trace=epoll_ctl", "-e",
-                 "inject=epoll_ctl:error=ENOSPC:when=1"]
+        front = ["strace", "-D", "-f", "-o", str(desk.folder / "calls"), "-e", "trace=epoll_ctl",
+                 "-e", "inject=epoll_ctl:error=ENOSPC:when=1"]
         reader, writer = os.pipe()
         ended = world.run_words(
             [*front, world.program, *agent_words(desk, options=("--once", "--values", "-"))],

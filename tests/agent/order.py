@@ -1,5 +1,5 @@
 """What an agent has on the disk before it sends: a part of agent.py."""
-from agents import agent_of, desk_for, measured, wait_measured
+from agents import agent_of, desk_for, measured, wait_until
 from edges import measuring, services
 from journal_disk import BYTES, CALL, Disk, unescaped
 from journal_rule import journal_of
@@ -14,14 +14,17 @@ def try_kept_first(world, server):
     the next one: whenever the power goes, the disk has what a desk may have settled."""
     with desk_for(world, "kept-first", *services(server.port, "web")) as desk:
         log = desk.folder / "calls"
-        front = ("strace", "-f", "-o", str(log), "-xx", "-s", "1000000", "-e",
+        log.touch()
+        path = str(desk.folder / "journals" / "agent-web")
+        # -D: what is killed at the end is the agent, and not the tracer, without which it would go on
+        front = ("strace", "-D", "-f", "-o", str(log), "-xx", "-s", "1000000", "-e",
                  "trace=openat,close,pwrite64,ftruncate,fsync,fdatasync,sendto")
-        with agent_of(desk, front=front):
-            wait_measured(desk, REPORTS)
-        if len(measured(desk)) < REPORTS:
+        with agent_of(desk, front=front) as agent:
+            wait_until("reports are seen", lambda: agent.must_run() or want_kept_first(
+                log.read_text(), path) >= REPORTS)
+        if len(measured(desk)) < REPORTS - 1:
             raise Wrong("nothing is measured")
-        sent = want_kept_first(log.read_text(), str(desk.folder / "journals" / "agent-web"))
-        expect("reports are seen", sent >= REPORTS - 1, True)
+        sent = want_kept_first(log.read_text(), path)
     return f"{sent} reports"
 
 
