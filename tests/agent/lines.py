@@ -241,15 +241,16 @@ def try_uneven_file(world):
     """A file of values of which each second read fails, and the others have nothing: that is said
     once."""
     with reading(world, "uneven-file", SAID[:1], "file", interval="30s") as (desk, agent, _):
-        with traced(agent, desk.folder / "values", desk.folder / "calls", "read:error=EIO:when=1+2"):
+        with traced(agent, desk.folder / "values", desk.folder / "calls",
+                    "read:error=EIO:when=1+2"):
             agent.wait_said(UNREADABLE)
             time.sleep(5)
             expect("said once", agent.errors().count(UNREADABLE), 1)
 
 
 def try_no_gate(world):
-    """Standard input is a pipe without a word, and this machine has nothing left to wait for it with:
-    the call ends with status 5, and does not wait for ever."""
+    """Standard input is a pipe without a word, and this machine has nothing left to wait for it
+    with: the call ends with status 5, and does not wait for ever."""
     with provider(lambda *_: reply("0.25")) as server, \
             desk_for(world, "no-gate", *manifests_of(SAID[:1], server.port)) as desk:
         front = ["strace", "-D", "-f", "-o", str(desk.folder / "calls"), "-e", "trace=epoll_ctl",

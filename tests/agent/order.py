@@ -10,13 +10,13 @@ REPORTS = 4
 
 @measuring
 def try_kept_first(world, server):
-    """Each report stands in the journal, on the disk, before it is sent, and so does its reply before
-    the next one: whenever the power goes, the disk has what a desk may have settled."""
+    """Each report stands in the journal, on the disk, before it is sent: whenever the power goes, the
+    disk has what a desk may have settled."""
     with desk_for(world, "kept-first", *services(server.port, "web")) as desk:
         log = desk.folder / "calls"
         log.touch()
         path = str(desk.folder / "journals" / "agent-web")
-        # -D: what is killed at the end is the agent, and not the tracer, without which it would go on
+        # -D: what is killed at the end is the agent, and not the tracer, which it would outlive
         front = ("strace", "-D", "-f", "-o", str(log), "-xx", "-s", "1000000", "-e",
                  "trace=openat,close,pwrite64,ftruncate,fsync,fdatasync,sendto")
         with agent_of(desk, front=front) as agent:

@@ -17,8 +17,9 @@ CALLS = {
 
 
 def try_usage(world):
-    """A call with too few words, or too many, says how the program is called, and has status 2, also
-    with closed streams; one for help prints that. Nothing else happens: there is no `canary`."""
+    """A call with too few words, or too many, says how the program is called, and has status 2,
+    also with closed streams; one for help prints that. Nothing else happens: there is no
+    `canary`."""
     folder = world.place("usage")
     for line, calls in CALLS.items():
         name = line.split()[0]
@@ -31,7 +32,8 @@ def try_usage(world):
             expect(f"{name} {word}", (status, errors), (0, ""))
             if line not in output.split("\n")[0]:
                 raise Wrong(f"{name} {word}: {output!r}")
-        expect(f"{name} --help, closed", called(folder, name, "--help", "<&- >&- 2>&-")[1:], ("", ""))
+        closed = called(folder, name, "--help", "<&- >&- 2>&-")
+        expect(f"{name} --help, closed", closed[1:], ("", ""))
     expect("notify without a webhook", called(folder, "notify", "web file"),
            (2, "", "notify: CANARY_WEBHOOK is not set\n"))
     expect("report without a measure", called(folder, "report", "web"),

@@ -1,9 +1,9 @@
 //! A client of the desk: it numbers commands, keeps them in a journal, repeats and resumes.
 //!
-//! Callers may rest on this: a number is settled in the caller's journal only by a reply of the desk
-//! to what the journal asks under it, and `do` shows a reply only once the journal has it. What comes
-//! of a call is its `ClientExit`, whose number is the exit status. What the desk and the network do,
-//! no clause says.
+//! Callers may rest on this: a number is settled in the caller's journal only by a reply of the
+//! desk to what the journal asks under it, and `do` shows a reply only once the journal has it.
+//! What comes of a call is its `ClientExit`, whose number is the exit status. What the desk and the
+//! network do, no clause says.
 //!
 //! In use (canary_cli, src/perform.rt):
 //!
