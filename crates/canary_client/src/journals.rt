@@ -42,8 +42,8 @@ pub fn device_at(rt: &HostRuntime, path: &str) -> Result<FileDevice, Stop> {
 }
 
 /// The journal of a caller on a device: as it stands there; or the device has none, and it begins
-/// with what the desk says that it has settled of the caller. If the device is in doubt, it may have
-/// lost its journal, and that begins only if the desk has settled nothing of the caller.
+/// with what the desk says that it has settled of the caller. If the device is in doubt, it may
+/// have lost its journal, and that begins only if the desk has settled nothing of the caller.
 ///
 /// # Errors
 /// `JournalBroken` if the device has no whole journal, `OtherCaller` if it has another caller's;
