@@ -7,6 +7,7 @@ import threading
 import time
 
 import dearest
+import planned
 import times
 from kit import load_rtlib, share_stamps, take
 
@@ -96,6 +97,7 @@ def main():
     words.add_argument("--lanes", type=int, default=os.cpu_count(), help="so many at a time")
     words.add_argument("--from", dest="clone", help="a clone whose kept work is taken first")
     words.add_argument("--times", action="store_true", help="where the last run's time went")
+    words.add_argument("--gate", action="store_true", help="by rt ci, and kept for the gate")
     words.add_argument("--dearest", type=int, metavar="N", help="the N dearest functions")
     words.add_argument("crates", nargs="*", metavar="CRATE", help="these, and what is below")
     root, given = sys.argv[1], words.parse_intermixed_args(sys.argv[2:])
@@ -104,6 +106,9 @@ def main():
     if given.dearest:
         crates = given.crates or sorted(os.listdir(f"{root}/crates"))
         return dearest.table(root, crates, given.dearest)
+    if given.gate:
+        with times.watched(os.getpid(), f"{root}/{times.FILE}"):
+            return planned.run(root, given.lanes, ["ci", *given.crates])
     rtlib = load_rtlib()
     share_stamps(rtlib)
     os.chdir(root)

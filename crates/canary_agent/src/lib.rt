@@ -5,7 +5,7 @@
 //! is in no report; and a report is settled in the service's journal by a reply of the desk to it.
 //! What providers, the desk and the network do, no clause says.
 //!
-//! In use (canary_cli, src/perform.rt):
+//! In use (canary_cli_client, src/call.rt):
 //!
 //!     ClientCall::Agent(call) => agent(rt, call, input, output, errors, is_terminal),
 #![tactic(auto)]

@@ -11,7 +11,7 @@ use canary_base::names::{Label, Name};
 use canary_client::outcome::{say, say_lines, say_unread, say_warnings};
 use canary_convert::conversion::Converted;
 use canary_convert::work::{Made, Planned};
-use canary_page_html::shown::{TextKind, shown};
+use canary_shown::text::{TextKind, shown};
 use serde_json::Value;
 use std::alloc::Global;
 use std::io::Write;

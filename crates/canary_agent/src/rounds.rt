@@ -22,7 +22,7 @@ use canary_client::outcome::{ClientExit, Stop, say, say_of};
 use canary_client_journal::network::Network;
 use canary_fetch::fetcher::FetchFault;
 use canary_fetch::local::LocalFault;
-use canary_page_html::shown::{TextKind, shown};
+use canary_shown::text::{TextKind, shown};
 use std::alloc::Global;
 use std::io::{Read, Write};
 use std::{mem, str};

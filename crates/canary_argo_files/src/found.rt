@@ -1,7 +1,7 @@
 //! What is found in files of manifests.
 use crate::reading::{ArgoFile, Manifests};
 use canary_base::error::Memory;
-use canary_page_html::shown::{TextKind, shown};
+use canary_shown::text::{TextKind, shown};
 use serde_json::Value;
 use std::alloc::Global;
 

@@ -5,7 +5,7 @@
 //! is made canary_check finds nothing, so a desk takes it, and starts attempts of each service once
 //! it has the templates that are made.
 //!
-//! In use (canary_cli, src/argo.rt):
+//! In use (canary_cli_client, src/argo.rt):
 //!
 //!     let manifests = manifests_of(rt, files, input, errors)?;
 //!     let Ok(translated) = translate(rt.alloc(), &manifests) else {

@@ -3,7 +3,7 @@ use crate::found::FileFinding;
 use crate::reading::Manifests;
 use canary_base::error::Memory;
 use canary_convert::source::Source;
-use canary_page_html::shown::{TextKind, shown};
+use canary_shown::text::{TextKind, shown};
 use canary_yaml::fault::YamlFault as Refusal;
 use canary_yaml::places::{PathStep, Place, place_of};
 use std::alloc::Global;

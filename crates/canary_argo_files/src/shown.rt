@@ -4,7 +4,7 @@ use crate::reading::Manifests;
 use crate::translated::Translated;
 use canary_base::error::Memory;
 use canary_convert::work::{Made, Planned};
-use canary_page_html::shown::{TextKind, shown};
+use canary_shown::text::{TextKind, shown};
 use serde_json::Value;
 use std::alloc::Global;
 

@@ -7,7 +7,7 @@
 //! says. A `Draft` is its owner's alone until it has its name. Nobody else can put a file or a link
 //! in the place of what is written, as far as src/folder.rt says.
 //!
-//! In use (canary_cli, src/file/backup.rt):
+//! In use (canary_cli_desk, src/backup.rt):
 //!
 //!     let part = StagedCopy::of(rt, file, copy)?;
 //!     let named = name_desk(rt, &part);
@@ -20,5 +20,5 @@ pub mod copying;
 pub mod draft;
 pub mod fault;
 pub mod folder;
-mod node;
+pub mod node;
 pub mod series;

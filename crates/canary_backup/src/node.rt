@@ -3,7 +3,7 @@
 ghost use Rattle.std.specs.Prelude.{◌≡◌, ◌↔◌, IsTrue, bit_and, false};
 
 use crate::fault::BackupFault;
-use std::fs::{self, File, Metadata, OpenOptions};
+use std::fs::{self, File, Files, Metadata, OpenOptions};
 use std::hash::{BuildHasher, RandomState};
 use std::io::{self, ErrorKind};
 use std::os::unix::fs::MetadataExt;
@@ -25,14 +25,14 @@ const ROOT: u32 = 0;
 
 /// A file of the system: all its names have the same node, and no other file has while it is there.
 #[derive(Clone, Copy, Debug, PartialEq, Eq)]
-pub(crate) struct Node {
+pub struct Node {
     device: u64,
     number: u64,
 }
 
 impl Node {
     /// That of the file with this metadata: its device, and its number there.
-    pub(crate) fn of(found: &Metadata) -> Node {
+    pub fn of(found: &Metadata) -> Node {
         Node {
             device: found.dev(),
             number: found.ino(),
@@ -44,12 +44,18 @@ impl Node {
         Ok(Node::of(&fs::symlink_metadata(rt, name)?))
     }
 
+    /// That of the file to which this name leads, through all links; none if there is none, or the
+    /// system does not say which.
+    pub fn led_to<P: Files>(files: &P, name: &str) -> Option<Node> {
+        match fs::metadata(files, name) {
+            Ok(found) => Some(Node::of(&found)),
+            Err(_) => None,
+        }
+    }
+
     /// Whether this name leads to it, through all links.
     pub(crate) fn is_led_to(self, rt: &HostRuntime, name: &str) -> bool {
-        match fs::metadata(rt, name) {
-            Ok(found) => Node::of(&found) == self,
-            Err(_) => false,
-        }
+        Node::led_to(rt, name) == Some(self)
     }
 
     /// Whether it stands under this name.

@@ -7,7 +7,7 @@
 //! holds itself (`Memory` aside). If nothing is warned of, no service is registered that time alone
 //! brings to 100 percent. No contract says which other warnings a `CheckReport` has.
 //!
-//! In use (canary_cli, src/check.rt):
+//! In use (canary_cli_client, src/check.rt):
 //!
 //!     let Ok(findings) = canary_check::check::check(alloc, manifest) else {
 //!         return Err(Fault::Memory);

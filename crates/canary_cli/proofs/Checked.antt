@@ -1,6 +1,5 @@
 -- What a check that ended with status 0 wrote.
 use Rattle.std.proofs.Common.{◌≡◌, ℕ, List, Bool, true, false, Option, Result, Ok, Err, arith, refl, sym, ◌∙◌, codes}
-use Rattle.std.specs.Prelude.{◌&&◌, IsTrue}
 use Rattle.std.specs.Io.KnownBytes.{Appends}
 use Rattle.canary_base.specs.Writes.{Known}
 use Rattle.canary_programs.specs.declared.fault.Fault.{Fault}
@@ -21,13 +20,3 @@ pub written : (r new_r w new_w : Known) (file request : Option (List ℕ)) (stri
 written r new_r w new_w file request strict status ran zero =
     let run : IsRun r new_r w new_w (Check file request strict) ran.0 = ran.2 in
     run.1 (only_done ran.0 (sym zero ∙ ran.1) run.2)
-
--- ---- both of two tests
-
-pub first_so : (a b : Bool) → IsTrue (a && b) → IsTrue a
-first_so true b is = refl
-first_so false b is = is
-
-pub second_so : (a b : Bool) → IsTrue (a && b) → IsTrue b
-second_so true b is = is
-second_so false b is = let bad : false ≡ true = is in cc

@@ -4,8 +4,9 @@ use Rattle.canary_base.specs.Writes.{Known}
 use Rattle.canary_cli_words.specs.declared.words.Program.{Program}
 use Rattle.canary_cli_words.specs.declared.words.Program.TheVariants.{Pipe, Serve, Import, History, Export, Status, Page, Backup, Migrate, Succeed, Check, Argo, Ask}
 use Rattle.canary_cli.specs.declared.perform.ProgramExit.TheVariants.{Unclear}
-use Rattle.canary_cli.specs.declared.unclear.Unclear.{Unclear as WhatIsUnclear}
-use Rattle.canary_cli.specs.Performed.{unclear_of, IsChecked, IsNoClient, IsRun}
+use Rattle.canary_cli_words.specs.declared.unclear.Unclear.{Unclear as WhatIsUnclear}
+use Rattle.canary_cli_words.specs.Unclear.{unclear_of}
+use Rattle.canary_cli.specs.Performed.{IsChecked, IsNoClient, IsRun}
 
 not_checked : (what : WhatIsUnclear) (w : Known) → IsChecked w w (Ok (Unclear what))
 not_checked what w done = cc

@@ -1,4 +1,4 @@
-mod Served
+mod DeskRuns
 mod TurnedAway
 mod Checked
 mod LeftUnclear

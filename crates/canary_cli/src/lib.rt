@@ -1,5 +1,6 @@
 //! What a command line comes to: `perform` does what its words ask for, by `read_words` of
-//! canary_cli_words, on a given input, output and error stream.
+//! canary_cli_words, on a given input, output and error stream. It is the last step, which hands
+//! the desk's programs to canary_cli_desk and the client's to canary_cli_client.
 //!
 //! Callers may rest on this: if the words are those of `pipe` in memory, what is written is what
 //! it comes to on what was read, and the exit status says how it ended; if they are no
@@ -17,11 +18,4 @@
 //!     ),
 #![tactic(auto)]
 
-mod argo;
-mod check;
-mod fault_place;
-mod file;
-mod given;
 pub mod perform;
-pub mod unclear;
-mod yaml;

@@ -1,46 +1,30 @@
-//! Running a command line.
+//! Running a command line: the one place that knows both the desk's programs and the client's.
 ghost use Rattle.std.specs.Prelude.{◌≡◌, ◌↔◌, ℕ, Bool, List, Option, Some, None, Ok, Err, [], map};
 ghost use Rattle.std.specs.Prelude.{◌⊎◌, IfOk, IfErr, codes, string_bytes};
 ghost use Rattle.std.specs.IoError.{error_kind};
 ghost use Rattle.std.specs.Io.KnownBytes.{Appends};
 ghost use Rattle.canary_cli_words.specs.CommandLine.{faults_of, program_of};
-ghost use Rattle.canary_cli.specs.Performed.{outcome_of, status_of};
-ghost use Rattle.canary_cli.specs.Performed.{IsPiped, IsPipedTo, IsRun, IsRunTo, IsTold};
-ghost use Rattle.canary_cli.specs.Performed.{IsTurnedAway, IsGivenUp, unopened_status};
-ghost use Rattle.canary_cli.specs.Performed.{MayTell, AsksForOneThatTells, IsAsked, IsOfRecords};
-ghost use Rattle.canary_cli.specs.Performed.{limits_of, unclear_of, IsOwn};
-ghost use Rattle.canary_cli.specs.declared.unclear.Unclear.{Unclear as WhatIsUnclear};
+ghost use Rattle.canary_cli_words.specs.Unclear.{unclear_of};
+ghost use Rattle.canary_cli_words.specs.declared.unclear.Unclear.{Unclear as WhatIsUnclear};
 ghost use Rattle.canary_cli_words.specs.declared.words.Program.{Program as AnyProgram};
+ghost use Rattle.canary_cli_desk.specs.Run.{MayTell};
+ghost use Rattle.canary_cli.specs.Performed.{outcome_of, status_of, checked_of};
+ghost use Rattle.canary_cli.specs.Performed.{IsPipedTo, IsRun, IsRunTo, IsTold};
+ghost use Rattle.canary_cli.specs.Performed.{IsTurnedAway, IsGivenUp, unopened_status};
+ghost use Rattle.canary_cli.specs.Performed.{AsksForOneThatTells, AsksNoDesk, IsChecked, IsNoClient};
 
-use crate::argo::argo;
-use crate::check::check;
-use crate::fault_place::FaultPlace;
-use crate::file::backup::{backup, backup_each};
-use crate::file::export::export;
-use crate::file::history::history;
-use crate::file::import::import;
-use crate::file::migrate::migrate;
-use crate::file::open::DeskFile;
-use crate::file::page::page;
-use crate::file::status::status;
-use crate::file::succeed::succeed;
-use crate::file::{pipe, serve};
-use crate::given::{drawing, file_of, file_or_none, text_of};
-use crate::unclear::{Unclear, unclear_of};
-use canary_agent::agent::agent;
 use canary_base::lists::Text;
-use canary_base::moments::Moment;
-use canary_cli_words::words::{AskedLimits, ClientCall, Program, WordsFault, read_words};
-use canary_client::ask::ask;
-use canary_client::due::{Sought, due};
-use canary_client::get::get;
+use canary_cli_client::argo::argo;
+use canary_cli_client::call::ask_desk;
+use canary_cli_client::check::{Checked, check};
+use canary_cli_client::exit::ManifestExit;
+use canary_cli_desk::fault_place::FaultPlace;
+use canary_cli_desk::run as desk;
+use canary_cli_desk::run::Terminals;
+use canary_cli_words::unclear::{Unclear, unclear_of};
+use canary_cli_words::words::{Program, WordsFault, read_words};
 use canary_client::outcome as client;
-use canary_client::send::send;
-use canary_client::watch::{WatchOptions, watch};
-use canary_listen::limits::Limits;
-use canary_once::clock::StepClock;
-use canary_once::memory::MemoryBook;
-use canary_programs::fault::{Fault, done_of};
+use canary_programs::fault::Fault;
 use canary_programs::show::show;
 use std::alloc::Global;
 use std::io::{self, ErrorKind, Read, Write};
@@ -74,15 +58,6 @@ pub enum ProgramExit {
     Unclear(Unclear),
     /// A client of a desk ended so.
     Asked(client::ClientExit),
-}
-
-/// Which of the process's streams are terminals.
-#[derive(Clone, Copy, Debug, PartialEq, Eq)]
-pub struct Terminals {
-    /// Standard output.
-    pub output: bool,
-    /// Standard error.
-    pub errors: bool,
 }
 
 /// Runs a command line, the words after the program's name, on this input, output and error
@@ -274,13 +249,16 @@ fn run_clear<R: Read, W: Write, F: Write>(
     ensures quiet { (MayTell program → ⊥) → errors.new ≡ errors.old }
 {
     match program {
-        Program::Ask(asked) => run_client(rt, asked, input, output, errors, terminals.output),
-        program => run_own(rt, &program, input, output, errors, terminals),
+        Program::Ask(asked) => {
+            let outcome = ask_desk(rt, asked, input, output, errors, terminals.output);
+            Ok(ProgramExit::Asked(outcome))
+        }
+        program => run_unasked(rt, &program, input, output, errors, terminals),
     }
 }
 
-// Runs a program that is no client of a desk.
-fn run_own<R: Read, W: Write, F: Write>(
+// Runs a program that asks no desk.
+fn run_unasked<R: Read, W: Write, F: Write>(
     rt: &HostRuntime,
     program: &Program,
     input: &mut R,
@@ -288,236 +266,46 @@ fn run_own<R: Read, W: Write, F: Write>(
     errors: &mut F,
     terminals: Terminals,
 ) -> Result<ProgramExit, Fault>
-    requires { IsOwn program.now }
+    requires { AsksNoDesk program.now }
     ensures ran { IsRun (R.remaining input.old) (R.remaining input.new)
         (W.contents output.old) (W.contents output.new) program.now result }
     ensures quiet { (MayTell program.now → ⊥) → errors.new ≡ errors.old }
 {
-    let shows = terminals.errors;
     match program {
-        Program::Pipe {
-            at,
-            step,
-            db,
-            cache,
-        } => run_pipe(rt, *at, *step, db, *cache, input, output, errors, shows),
-        Program::Serve {
-            listen,
-            db,
-            cache,
-            connections,
-            limits,
-        } => {
-            let desk = (listen.as_str(), file_or_none(db, *cache));
-            done(serve(rt, desk, *connections, *limits, output, errors, shows))
-        }
-        Program::Import { db, cache, csv } => {
-            let file = file_of(db, *cache);
-            done(import(rt, file, csv.as_str(), input, output, errors, shows))
-        }
         Program::Check {
             file,
             request,
             strict,
-        } => check(rt, file, request, *strict, output, errors),
-        Program::Argo { files, out, json } => { argo(rt, files, out, *json, input, output, errors) }
-        Program::Backup {
-            db,
-            copy,
-            every,
-            keep,
-        } => done(copied(rt, db.as_str(), copy.as_str(), *every, *keep)),
-        _ => run_on_records(rt, program, output, errors, terminals),
+        } => run_check(rt, file, request, *strict, output, errors),
+        Program::Argo { files, out, json } => {
+            found(argo(rt, files, out, *json, input, output, errors))
+        }
+        program => done(desk::run(rt, program, input, output, errors, terminals)),
     }
 }
 
-// Shows what is in the file of a desk's records, or makes it one of this version, or makes a new
-// one of it.
-fn run_on_records<W: Write, F: Write>(
+// Checks the manifests in the file of the name `file`, or the request's body in that of the name
+// `request`, whichever was given.
+fn run_check<W: Write, F: Write>(
     rt: &HostRuntime,
-    program: &Program,
+    file: &Option<Text>,
+    request: &Option<Text>,
+    strict: bool,
     output: &mut W,
     errors: &mut F,
-    terminals: Terminals,
 ) -> Result<ProgramExit, Fault>
-    requires { IsOfRecords program.now }
+    ensures checked { IsChecked (W.contents output.old) (W.contents output.new) result }
+    ensures client { IsNoClient result }
 {
-    let shows = terminals.errors;
-    match program {
-        Program::History { db, service } => {
-            let (db, service) = (db.as_str(), service.as_str());
-            done(history(rt, db, service, output, errors, shows))
-        }
-        Program::Export {
-            db,
-            caller,
-            service,
-        } => {
-            let (db, caller, service) = (db.as_str(), caller.as_str(), service.as_str());
-            done(export(rt, db, caller, service, output, errors, shows))
-        }
-        Program::Status {
-            db,
-            watch,
-            json,
-            prometheus,
-        } => {
-            let drawing = drawing(*watch, *json, *prometheus, terminals);
-            done(status(rt, db.as_str(), drawing, output, errors, shows))
-        }
-        Program::Page {
-            db,
-            out,
-            watch,
-            json,
-        } => {
-            let (db, out, json) = (db.as_str(), out.as_str(), text_of(json));
-            done(page(rt, db, out, json, *watch, output, errors, shows))
-        }
-        Program::Migrate { db, dry_run } => {
-            done(migrate(rt, db.as_str(), *dry_run, output, errors, shows))
-        }
-        Program::Succeed { db, new } => {
-            done(succeed(rt, db.as_str(), new.as_str(), output, errors, shows))
-        }
-        _ => unreachable!(),
-    }
+    let checked = match (file, request) {
+        (Some(file), _) => Checked::Manifest(file.as_str()),
+        (None, Some(body)) => Checked::Body(body.as_str()),
+        (None, None) => return Ok(ProgramExit::Unclear(Unclear::Checked)),
+    };
+    found(check(rt, checked, strict, output, errors))
 }
 
-// Asks a desk.
-fn run_client<R: Read, W: Write, F: Write>(
-    rt: &HostRuntime,
-    asked: ClientCall,
-    input: &mut R,
-    output: &mut W,
-    errors: &mut F,
-    is_terminal: bool,
-) -> Result<ProgramExit, Fault>
-    ensures { IsAsked (R.remaining input.old) (R.remaining input.new) asked }
-{
-    let outcome = client_outcome(rt, asked, input, output, errors, is_terminal);
-    Ok(ProgramExit::Asked(outcome))
-}
-
-// How a client of a desk ends.
-fn client_outcome<R: Read, W: Write, F: Write>(
-    rt: &HostRuntime,
-    asked: ClientCall,
-    input: &mut R,
-    output: &mut W,
-    errors: &mut F,
-    is_terminal: bool,
-) -> client::ClientExit
-    ensures { IsAsked (R.remaining input.old) (R.remaining input.new) asked }
-{
-    match asked {
-        ClientCall::Do(call) => ask(rt, call, output, errors, is_terminal),
-        ClientCall::Get {
-            desk,
-            service,
-            part,
-        } => get(rt, &desk, &service, &part, output, errors, is_terminal),
-        ClientCall::Watch {
-            desk,
-            until,
-            json,
-            forever,
-            service,
-        } => {
-            let manner = WatchOptions {
-                until,
-                is_json: json,
-                is_forever: forever,
-            };
-            watch(rt, &desk, &service, &manner, output, errors)
-        }
-        ClientCall::Send { desk, csv } => send(rt, &desk, &csv, input, output, errors),
-        ClientCall::Due {
-            desk,
-            wait,
-            late,
-            services,
-        } => {
-            let sought = Sought { waits: wait, late };
-            due(rt, &desk, &services, sought, output, errors, is_terminal)
-        }
-        ClientCall::Agent(call) => agent(rt, call, input, output, errors, is_terminal),
-    }
-}
-
-// Answers a stream, over the desk in a file if there is one.
-fn run_pipe<R: Read, W: Write, F: Write>(
-    rt: &HostRuntime,
-    at: Moment,
-    step: Moment,
-    db: &Option<Text>,
-    cache: Option<u64>,
-    input: &mut R,
-    output: &mut W,
-    errors: &mut F,
-    shows: bool,
-) -> Result<ProgramExit, Fault>
-    ensures ran { IsRun (R.remaining input.old) (R.remaining input.new)
-        (W.contents output.old) (W.contents output.new)
-        (Program.Pipe at step db.now cache) result }
-    ensures quiet { (MayTell (Program.Pipe at step db.now cache) → ⊥)
-        → errors.new ≡ errors.old }
-{
-    match db {
-        None => done(pipe(rt.alloc(), at, step, input, output)),
-        Some(db) => {
-            let file = file_of(db, cache);
-            done(pipe::pipe(rt, at, step, file, input, output, errors, shows))
-        }
-    }
-}
-
-// A copy of the records, or one each time after so many seconds, of which so many are kept.
-fn copied(
-    rt: &HostRuntime,
-    db: &str,
-    copy: &str,
-    every: Option<u64>,
-    keep: Option<u64>,
-) -> Result<(), Fault> {
-    match every {
-        None => backup(rt, db, copy),
-        Some(seconds) => backup_each(rt, db, copy, seconds, keep),
-    }
-}
-
-// The limits of a listener: those that were asked for, and the others as by default.
-fn limits_of(asked: AskedLimits) -> Limits
-    ensures { result ≡ limits_of asked }
-{
-    let standard = Limits::DEFAULT;
-    Limits {
-        message_seconds: asked.read_timeout.unwrap_or(standard.message_seconds),
-        idle_seconds: asked.idle_timeout.unwrap_or(standard.idle_seconds),
-        clients: asked.max_clients.unwrap_or(standard.clients),
-        owed_bytes: asked.max_unsent.unwrap_or(standard.owed_bytes),
-        unsent_total_bytes: asked
-            .max_unsent_total
-            .unwrap_or(standard.unsent_total_bytes),
-    }
-}
-
-// Serves clients on an address, over the desk in a file if there is one.
-fn serve<W: Write, F: Write>(
-    rt: &HostRuntime,
-    desk: (&str, Option<DeskFile<'_>>),
-    connections: Option<u64>,
-    limits: AskedLimits,
-    output: &mut W,
-    errors: &mut F,
-    shows: bool,
-) -> Result<(), Fault> {
-    let (listen, file) = desk;
-    let limits = limits_of(limits);
-    serve::serve(rt, listen, file, connections, limits, output, errors, shows)
-}
-
-// What comes of a program that finds nothing.
+// What comes of a program of the desk.
 fn done(ended: Result<(), Fault>) -> Result<ProgramExit, Fault>
     ensures { result ≡ outcome_of ended }
 {
@@ -527,21 +315,15 @@ fn done(ended: Result<(), Fault>) -> Result<ProgramExit, Fault>
     }
 }
 
-// Answers HTTP from `input` on `output`, with records in memory. The first message is at `at`, and
-// each later one `step` seconds after the one before it.
-fn pipe<R: Read, W: Write>(
-    alloc: Global,
-    at: Moment,
-    step: Moment,
-    input: &mut R,
-    output: &mut W,
-) -> Result<(), Fault>
-    ensures { IsPiped (R.remaining input.old) (R.remaining input.new)
-        (W.contents output.old) (W.contents output.new) at step result }
+// What comes of a program that reads manifests.
+fn found(ended: Result<ManifestExit, Fault>) -> Result<ProgramExit, Fault>
+    ensures { result ≡ checked_of ended }
 {
-    let mut clock = StepClock::new(at, step);
-    let mut book = MemoryBook::new(alloc);
-    done_of(canary_wire::serve::serve(alloc, input, output, &mut clock, &mut book))
+    match ended {
+        Ok(ManifestExit::Done) => Ok(ProgramExit::Done),
+        Ok(ManifestExit::Findings) => Ok(ProgramExit::Findings),
+        Err(fault) => Err(fault),
+    }
 }
 
 // The status of what was done, with the line of a fault on `errors`, and what it is about.

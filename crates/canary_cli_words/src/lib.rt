@@ -20,5 +20,6 @@ mod client_help;
 mod commands;
 mod help;
 pub mod process;
+pub mod unclear;
 mod values;
 pub mod words;

@@ -20,7 +20,7 @@ use crate::values::{
 use canary_base::error::Memory;
 use canary_base::lists::{Listed, Text};
 use canary_base::moments::Moment;
-use canary_page_html::shown::{TextKind, shown};
+use canary_shown::text::{TextKind, shown};
 use clap::error::ErrorKind;
 use clap::{ArgMatches, Error};
 use std::alloc::{AllocError, Global};

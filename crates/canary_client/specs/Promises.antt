@@ -5,8 +5,8 @@ use Rattle.canary_plan.specs.declared.command.Command.{Command}
 use Rattle.canary_canonical.specs.Texts.{command_text}
 use Rattle.canary_manifest.specs.Commands.{body_reading}
 use Rattle.canary_manifest.specs.Readings.{readable}
-use Rattle.canary_page_html.specs.Showing.{shown}
-use Rattle.canary_page_html.specs.declared.shown.TextKind.TheVariants.{Json}
+use Rattle.canary_shown.specs.Showing.{shown}
+use Rattle.canary_shown.specs.declared.text.TextKind.TheVariants.{Json}
 use Rattle.canary_client_journal.specs.declared.entry.Asked.{Asked}
 use Rattle.canary_client_journal.specs.declared.entry.SettledNumber.{SettledNumber}
 use Rattle.canary_client_journal.specs.declared.entry.Wish.{Wish}

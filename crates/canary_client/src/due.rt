@@ -10,7 +10,7 @@ use canary_base::names::Name;
 use canary_cli_words::words::AskedDesk;
 use canary_client_journal::network::Network;
 use canary_decimal::shown::Shown;
-use canary_page_html::shown::{TextKind, shown};
+use canary_shown::text::{TextKind, shown};
 use serde_json::Value;
 use std::alloc::Global;
 use std::io::Write;

@@ -5,7 +5,7 @@
 //! What comes of a call is its `ClientExit`, whose number is the exit status. What the desk and the
 //! network do, no clause says.
 //!
-//! In use (canary_cli, src/perform.rt):
+//! In use (canary_cli_client, src/call.rt):
 //!
 //!     ClientCall::Send { desk, csv } => send(rt, &desk, &csv, input, output, errors),
 #![tactic(auto)]

@@ -8,7 +8,7 @@ use canary_base::lists::Text;
 use canary_client_journal::entry::EntryRefusal;
 use canary_client_journal::kept::KeepFault;
 use canary_client_journal::settle::Unsettled;
-use canary_page_html::shown::{TextKind, shown};
+use canary_shown::text::{TextKind, shown};
 use std::alloc::{AllocError, AllocFailed, Global};
 use std::io::Write;
 

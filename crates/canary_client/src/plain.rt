@@ -1,12 +1,12 @@
 //! Replies as people and scripts see them: nothing that came from a server is a command of a
 //! terminal.
 ghost use Rattle.std.specs.Prelude.{◌≡◌, string_bytes, IfOk};
-ghost use Rattle.canary_page_html.specs.Showing.{shown};
-ghost use Rattle.canary_page_html.specs.declared.shown.TextKind.TheVariants.{Json};
+ghost use Rattle.canary_shown.specs.Showing.{shown};
+ghost use Rattle.canary_shown.specs.declared.text.TextKind.TheVariants.{Json};
 
 use crate::run_line::run_line;
 use canary_base::error::Memory;
-use canary_page_html::shown::{TextKind, shown};
+use canary_shown::text::{TextKind, shown};
 use serde_json::Value;
 use std::alloc::Global;
 

@@ -4,7 +4,8 @@
 
 mod streams;
 
-use canary_cli::perform::{Terminals, give_up, perform, refuse};
+use canary_cli::perform::{give_up, perform, refuse};
+use canary_cli_desk::run::Terminals;
 use canary_cli_words::process::words_of;
 use std::io::IsTerminal;
 use std::process::ExitCode;

@@ -5,7 +5,7 @@
 //! judges a desk's. Any fault leaves the database as it was. All this if the connection is usable
 //! then: its disk did not fail.
 //!
-//! In use (canary_cli, src/file/migrate.rt):
+//! In use (canary_cli_desk, src/migrate.rt):
 //!
 //!     let upgraded = upgrade(rt, file, check.again(), &mut shown);
 //!     shown.end();

@@ -1,4 +1,3 @@
 mod PieceLemmas
 mod EscapeLemmas
 mod LinkLemmas
-mod ShownLemmas

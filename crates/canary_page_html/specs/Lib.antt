@@ -1,3 +1,2 @@
 pub mod Escaping
 pub mod Pages
-pub mod Showing

@@ -4,7 +4,6 @@ ghost use Rattle.std.specs.List.{list_all};
 ghost use Rattle.canary_page_html.specs.declared.element.Attribute.{Attribute};
 ghost use Rattle.canary_page_html.specs.Escaping.{escaped, is_harmless};
 ghost use Rattle.canary_page_html.specs.Pages.{attribute_name};
-ghost use Rattle.canary_page_html.specs.Showing.{NoneIsAMark, PlainIsItself};
 
 /// An escaped text has no `<`, no `>`, no quote and no control byte, whatever the text is.
 pub fn escaping()
@@ -15,11 +14,4 @@ pub fn escaping()
 /// page itself.
 pub fn links()
     ensures none_elsewhere { (a : Attribute) → attribute_name a ≢ codes "href" }
-{}
-
-/// No character of a shown text is a mark, whatever the text is, and a text without marks is shown
-/// as itself.
-pub fn showing()
-    ensures no_mark { NoneIsAMark }
-    ensures itself { PlainIsItself }
 {}

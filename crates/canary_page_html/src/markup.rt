@@ -5,10 +5,10 @@ ghost use Rattle.canary_page_html.specs.Pages.{bytes_of, IsOfPieces};
 
 use crate::element::{Attribute, Element};
 use crate::piece::{HtmlContext, Piece, place_after};
-use crate::shown::{TextKind, shown};
 use crate::style::STYLE;
 use canary_base::error::Memory;
 use canary_base::moments::Moment;
+use canary_shown::text::{TextKind, shown};
 use itoa::Buffer;
 use std::alloc::Global;
 use std::marker::Model;

@@ -6,9 +6,9 @@
 //! `answer` do what canary_files, canary_page and canary_wire say of theirs, and `serve_clients`
 //! gets from the desk before to the desk after as canary_listen says. Each fault has its line.
 //!
-//! In use (canary_cli, src/file/work.rt):
+//! In use (canary_cli_desk, src/history.rt):
 //!
-//!     BookTask::History { service } => write_history(alloc, book, service, output),
+//!     write_history(rt.alloc(), book, self.service, &mut self.output)
 //!
 //! An overview is the services of a desk, and their open runs, as two tables for people, as JSON
 //! for programs, or in the text format of Prometheus. No contract says what it has. Services stand
@@ -18,6 +18,7 @@
 //! newline, as each other one that has a line.
 #![tactic(auto)]
 
+pub mod drafts;
 pub mod export;
 pub mod fault;
 pub mod history;

@@ -2,7 +2,7 @@
 use Rattle.std.proofs.Common.{◌&&◌, ℕ, List, ◌++◌, sym, ap₂, ◌∙◌}
 use Rattle.std.proofs.lemmas.List.Folds.{list_all-append}
 use Rattle.std.proofs.lemmas.Str.{encodes-append}
-use Rattle.canary_page_html.specs.Showing.{is_plain}
+use Rattle.canary_shown.specs.Showing.{is_plain}
 use Rattle.canary_provider.specs.Texts.{IsShown}
 
 pub both_shown : (a b : List ℕ) → IsShown a → IsShown b → IsShown (a ++ b)

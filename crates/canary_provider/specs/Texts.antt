@@ -1,7 +1,7 @@
 -- Texts of others, as a terminal shows them.
 use Rattle.std.specs.Prelude.{◌≡◌, ℕ, true, List, encode_utf8_all}
 use Rattle.std.specs.List.{list_all}
-use Rattle.canary_page_html.specs.Showing.{is_plain}
+use Rattle.canary_shown.specs.Showing.{is_plain}
 
 -- no character of the text is a mark, which a terminal takes for more than a character
 abbrev pub IsShown : List ℕ → Type 0

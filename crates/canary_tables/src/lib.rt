@@ -6,14 +6,11 @@
 //! are those of sound contents alone; a fault hands back the connection or its store, with the
 //! database as it was. No contract says what `open` opens.
 //!
-//! In use (canary_cli, src/file/open.rt):
+//! In use (canary_cli_desk, src/work.rt):
 //!
-//!     let opened = TableBook::open(rt, file, &check, &mut shown);
+//!     let opened = TableBook::open(rt, file.name, &check, &mut shown);
 //!     shown.end();
-//!     match opened {
-//!         Ok(book) => Ok(book),
-//!         Err(fault) => Err(fault_of(fault)),
-//!     }
+//!     on_opened(rt, place, opened, work, errors, is_terminal)
 #![tactic(auto)]
 
 pub mod adopt;

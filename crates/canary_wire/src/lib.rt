@@ -6,7 +6,7 @@
 //! moment. Of a `Conversation` with one client all its turns say the same, whatever other clients
 //! are answered between them.
 //!
-//! In use (canary_cli, src/perform.rt):
+//! In use (canary_cli_desk, src/run.rt):
 //!
 //!     let mut clock = StepClock::new(at, step);
 //!     let mut book = MemoryBook::new(alloc);

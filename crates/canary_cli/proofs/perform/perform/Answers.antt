@@ -2,7 +2,8 @@ use Rattle.std.proofs.Common.{rules, ◌≡◌, ◌∙◌, Err, ap, inl, inr, re
 use Rattle.canary_wire.specs.declared.serve.ServeFault.TheVariants.{Memory as NoMemory}
 use Rattle.canary_programs.specs.declared.fault.Fault.TheVariants.{Memory}
 use Rattle.canary_cli_words.specs.declared.words.Program.TheVariants.{Check}
-use Rattle.canary_cli.specs.Performed.{unclear_of, IsRunTo}
+use Rattle.canary_cli_words.specs.Unclear.{unclear_of}
+use Rattle.canary_cli.specs.Performed.{IsRunTo}
 use Rattle.canary_cli.proofs.Checked.{written}
 use Rattle.canary_cli.proofs.TurnedAway.{only_memory}
 use Rattle.canary_cli.proofs.perform.perform.Goals as goal
