@@ -99,7 +99,7 @@ class Loop:
             "desk": ["canary", "serve", "--listen", self.at("desk"), "--db", "desk.db"],
             "traffic": [sys.executable, HERE / "traffic.py", self.port["web"], REQUESTS],
             "agent": ["canary", "agent", "--journals", "journals", self.manifests],
-            "follower": [OPERATIONS / "follow-haproxy", "web", "socket", "web"],
+            "follower": [OPERATIONS / "follow-haproxy", "web", "socket", "web", "web.state"],
         }[name]
 
     def start(self, name):
@@ -137,6 +137,7 @@ class Loop:
     def write_files(self):
         text = (OPERATIONS / "follow.haproxy.cfg").read_text(encoding="utf-8")
         for old, new in (("/run/haproxy/admin.sock", "unix@socket"),
+                         ("/var/lib/canary-follow", self.folder),
                          ("bind :8081", f"bind {self.at('web')}"),
                          ("127.0.0.1:9101", self.at("v1")), ("127.0.0.1:9102", self.at("v2"))):
             text = text.replace(old, str(new))

@@ -7,7 +7,8 @@ from world import Wrong, expect
 
 # Each program with its words, and calls of it that are invalid.
 CALLS = {
-    "follow-haproxy SERVICE SOCKET BACKEND": ("", "web", "web socket", "web socket web more"),
+    "follow-haproxy SERVICE SOCKET BACKEND [STATE]":
+        ("", "web", "web socket", "web socket web state more"),
     "follow-nginx SERVICE FILE [NGINX..]": ("", "web"),
     "notify SERVICE FILE": ("", "web", "web file more"),
     "report SERVICE": ("", "web shop", "a b c d e f g h i j"),

@@ -1,5 +1,6 @@
 """The followers of examples/operations with real proxies: what they set beside the desk's weight,
 and what stays when the desk, the proxy or the follower is away: parts of proxies.py."""
+import collections
 import contextlib
 import json
 import os
@@ -10,7 +11,7 @@ import threading
 import time
 
 from parts import (
-    OPERATIONS, HAProxy, Nginx, children_of, filled, follower, is_alive, lasts, speaking, version,
+    OPERATIONS, HAProxy, Nginx, answer, children_of, filled, follower, is_alive, lasts, speaking, version,
     want_shares,
 )
 from silence import variables
@@ -61,6 +62,7 @@ def haproxy(folder):
     port = free_port()
     with version("v1") as first, version("v2") as second:
         text = filled("follow.haproxy.cfg", ("/run/haproxy/admin.sock", folder / "socket"),
+                      ("/var/lib/canary-follow", folder),
                       ("bind :8081", f"bind 127.0.0.1:{port}"),
                       ("127.0.0.1:9101", f"127.0.0.1:{first}"),
                       ("127.0.0.1:9102", f"127.0.0.1:{second}"))
@@ -70,6 +72,42 @@ def haproxy(folder):
 
 def words_for(proxy):
     return "follow-haproxy", "web", proxy.folder / "socket", "web"
+
+
+@contextlib.contextmanager
+def reloading(folder, ports):
+    """HAProxy by follow.haproxy.cfg as a service runs it, whose reloads lose no connection, before
+    two versions at these ports."""
+    port = free_port()
+    text = filled("follow.haproxy.cfg", ("/run/haproxy/admin.sock", folder / "socket"),
+                  ("/var/lib/canary-follow", folder), ("bind :8081", f"bind 127.0.0.1:{port}"),
+                  ("127.0.0.1:9101", f"127.0.0.1:{ports[0]}"),
+                  ("127.0.0.1:9102", f"127.0.0.1:{ports[1]}"))
+    with HAProxy(folder, port, text, is_master=True) as proxy:
+        yield proxy
+
+
+class Load:
+    """So many requests a second, each on a connection of its own; and who answered them."""
+
+    def __init__(self, port, rate):
+        self.port, self.rate, self.is_over, self.found = port, rate, False, collections.Counter()
+        self.thread = threading.Thread(target=self.go_on, daemon=True)
+
+    def go_on(self):
+        begun, count = time.monotonic(), 0
+        while not self.is_over:
+            self.found[answer(self.port)] += 1
+            count += 1
+            time.sleep(max(0, begun + count / self.rate - time.monotonic()))
+
+    def __enter__(self):
+        self.thread.start()
+        return self
+
+    def __exit__(self, *_):
+        self.is_over = True
+        self.thread.join(LONGEST)
 
 
 def want_weights(row, proxy, first, second):
@@ -165,6 +203,57 @@ def try_follower_streams(world):
             with unheard(row, folder, spoken, *words_for(proxy)) as started:
                 want_weights(row, proxy, 65, 35)
                 expect(f"{row}: it goes on", started.poll(), None)
+
+
+def try_haproxy_reloads(world):
+    """HAProxy has its weights as it reloads, also while the follower is away: under 40 requests a
+    second none goes to a version that runs no longer, and none is refused."""
+    folder = world.place("haproxy-reloads")
+    with version("v2") as second, reloading(folder, (free_port(), second)) as proxy:
+        words = (*words_for(proxy), folder / "web.state")
+        spoken = said_after(folder, [line(weight=100)])
+        with follower(folder, spoken, *words):
+            wait_until("v2 has all", lambda: proxy.weights() == {"v1": 0, "v2": 100}, LONGEST)
+            wait_until("the state is kept", lambda: weights_kept(folder) == ["0", "100"], LONGEST)
+        with Load(proxy.port, 40) as load:
+            for count in range(1, 6):
+                proxy.reload()
+                wait_until(f"reload {count}", lambda: proxy.weights() == {"v1": 0, "v2": 100},
+                           LONGEST)
+            wait_until("40 requests", lambda: sum(load.found.values()) >= 40, LONGEST)
+        expect("who answered", list(load.found), ["v2"])
+
+
+def weights_kept(folder):
+    """The weights in the file of HAProxy's state, if it is there."""
+    with contextlib.suppress(FileNotFoundError):
+        rows = (folder / "web.state").read_text(encoding="utf-8").splitlines()
+        return [row.split()[7] for row in rows if row[:1].isdigit() and len(row.split()) > 7]
+    return None
+
+
+def try_haproxy_states(world):
+    """The file of HAProxy's state takes the place of a link and of a FIFO; a folder that is not
+    there is said, and the weights are set all the same."""
+    folder = world.place("haproxy-states")
+    (folder / "other").write_text("other", encoding="utf-8")
+    os.mkfifo(folder / "fifo")
+    os.symlink("other", folder / "link")
+    with haproxy(folder) as proxy:
+        spoken = said_after(folder, [line()])
+        for name in ("link", "fifo"):
+            with follower(folder, spoken, *words_for(proxy), folder / name):
+                want_weights(name, proxy, 65, 35)
+                wait_until(f"{name}: a file", lambda name=name: not (folder / name).is_symlink()
+                           and (folder / name).is_file(), LONGEST)
+        expect("where the link led", (folder / "other").read_text(encoding="utf-8"), "other")
+        proxy.ask("set server web/v2 weight 50")
+        none = folder / "none" / "state"
+        with follower(folder, spoken, *words_for(proxy), none) as (started, said):
+            want_weights("no folder", proxy, 65, 35)
+            wait_until("no folder is said", lambda: "FileNotFoundError" in said(), LONGEST)
+            lasts("it goes on", lambda: started.poll() is None)
+        expect("no part stays", [it for it in os.listdir(folder) if it.startswith(".state")], [])
 
 
 EVIL = "\u001b[2J\u202e"

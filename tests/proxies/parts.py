@@ -103,15 +103,33 @@ class Proxy:
 
 
 class HAProxy(Proxy):
-    """HAProxy by such a configuration. If that has a runtime socket, it is the file `socket`."""
+    """HAProxy by such a configuration. If that has a runtime socket, it is the file `socket`. With a
+    master it reloads as systemd has it do."""
 
-    def __init__(self, folder, port, text):
+    def __init__(self, folder, port, text, is_master=False):
         super().__init__(folder, port)
-        self.has_socket = "stats socket" in text
+        self.has_socket, self.is_master = "stats socket" in text, is_master
         (folder / "haproxy.cfg").write_text(text, encoding="utf-8")
 
     def words(self):
-        return ["haproxy", "-db", "-f", str(self.folder / "haproxy.cfg")]
+        mode = ["-W"] if self.is_master else []
+        return ["haproxy", *mode, "-db", "-f", str(self.folder / "haproxy.cfg")]
+
+    def workers(self):
+        """The processes of the present worker and of those that end."""
+        return set(children_of(self.process))
+
+    def reload(self):
+        """Reloads, and waits until a new worker is there. The master ignores the signal until it
+        is ready itself."""
+        before = self.workers()
+
+        def has_new_worker():
+            self.process.send_signal(signal.SIGUSR2)
+            return self.workers() - before
+
+        wait_until("a new worker", has_new_worker, 40, .5)
+        wait_until("it is ready", self.is_ready, 40)
 
     def is_ready(self):
         """It listens on its runtime socket a little later than on its port."""

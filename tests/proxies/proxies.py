@@ -19,6 +19,8 @@ from world import World  # pylint: disable=wrong-import-position
 NEEDS = {
     "try_haproxy": {"haproxy"},
     "try_haproxy_words": {"haproxy"},
+    "try_haproxy_reloads": {"haproxy"},
+    "try_haproxy_states": {"haproxy"},
     "try_follower_streams": {"haproxy"},
     "try_lying_proxies": set(),
     "try_nginx": {"nginx"},
