@@ -29,6 +29,10 @@ class Ended(Stopped):
     """Nothing more is wanted."""
 
 
+class Waits(Stopped):
+    """There is no time left to begin what may wait."""
+
+
 def copied(crate, parts, room, texts, gone):
     """Copies a crate's source to the folder `room`, with these texts and without the folders."""
     for part in parts:

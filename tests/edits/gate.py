@@ -2,7 +2,9 @@
 import argparse
 import collections
 import concurrent.futures
+import contextlib
 import functools
+import itertools
 import os
 import pathlib
 import signal
@@ -11,7 +13,9 @@ import tempfile
 import time
 
 import checks
+import kept
 import kit
+import parts
 import planting
 import selftest
 import shares
@@ -22,8 +26,13 @@ from trial import Trial
 
 # How much longer a bug in a definition takes, which has a check of its own.
 OWN_CHECK = 6
-# What came of a crate: how many bugs were tried, the seconds of a processor, and each complaint.
-Came = collections.namedtuple("Came", "tried seconds complaints")
+# The minutes by the clock after which a landing begins nothing that may wait, and nothing at all;
+# and those after which a run of all bugs begins nothing.
+MINUTES, AT_MOST, FOR_ALL = 20, 75, 600
+# What came of a crate: how many bugs were tried, the refusals that are kept, the bugs that wait,
+# the seconds of a processor, and each complaint.
+Came = collections.namedtuple("Came", "tried kept waiting seconds complaints",
+                              defaults=(0, 0, (), 0.0, ()))
 # What is tried, by name: the libraries below the crate have to be there.
 Task = collections.namedtuple("Task", "name crate call")
 
@@ -33,17 +42,18 @@ def words_given(words):
     which = made.add_mutually_exclusive_group(required=True)
     which.add_argument("--landing", action="store_true", help="whether its turn has been taken")
     which.add_argument("--take-turn", action="store_true", help="takes it")
-    which.add_argument("--turn", action="store_true", help="tries the named bugs and the share")
+    which.add_argument("--turn", action="store_true", help="tries those of this landing")
     which.add_argument("--all", action="store_true", help="tries all")
     made.add_argument("--beside", metavar="FOLDER",
                       help="beside the rt ci of which tests/proofs/watched tells there")
     made.add_argument("--lanes", type=int, help="so many checks at a time")
     made.add_argument("--limit", type=int, default=1800, help="processor seconds of a check")
-    made.add_argument("--minutes", type=int, default=0, help="of the clock, for all")
+    made.add_argument("--minutes", type=int, default=0, help="of the clock, for what may wait")
     made.add_argument("crates", nargs="*", metavar="CRATE", help="the bugs of these alone")
     given = made.parse_intermixed_args(words)
     given.lean = True
-    given.minutes = given.minutes or (600 if given.all else 75)
+    given.minutes = given.minutes or (FOR_ALL if given.all else MINUTES)
+    given.at_most = given.minutes if given.all else max(given.minutes, AT_MOST)
     return given
 
 
@@ -53,79 +63,90 @@ class Gate:
 
     def __init__(self, root, rt, given, room):
         self.root, self.kit_rt, self.given = root, rt, given
-        self.named = shares.named_in(root)
-        self.number = 0 if given.all else shares.turn_of(root)[0]
+        self.landing = None if given.all else shares.Landing(root)
         self.crates = {it.name: it for it in rt.rtlib.crates_below(root)}
         if unknown := set(given.crates) - self.crates.keys():
             sys.exit(f"tests/edits/run: there is no crate {min(unknown)}")
-        self.kept = room if given.beside else None
+        self.room = room if given.beside else None
         self.libraries = (BuiltBeside(self.crates.values(), given.beside, f"{room}/libraries")
                           if given.beside else Built(self.crates.values()))
-        self.lanes = Lanes(rt, given.lanes, given.minutes, bool(given.beside))
+        self.lanes = Lanes(rt, given.lanes, given.minutes, given.at_most, bool(given.beside))
+        self.keys = kept.Keys(rt, root, given.limit)
+        self.store = kept.Store(kept.place(rt), blind=given.all)
 
-    def is_tried(self, crate, edit):
-        share = shares.share_of(crate) == self.number % shares.SHARES
-        return self.given.all or share or f"{crate}/{edit}" in self.named
+    def bugs(self):
+        """How long the trial of each planted bug is likely to take, by its crate and name: that of
+        one in a function is 1."""
+        found = {}
+        for crate in self.given.crates or self.crates:
+            files = sorted(pathlib.Path(f"{self.crates[crate].folder}/planted").glob("*.edit"))
+            found[crate] = {it.stem: OWN_CHECK if "file: specs/" in it.read_text("utf-8") else 1
+                            for it in files}
+        return found
 
-    def with_bugs(self):
-        """The crates with planted bugs that are tried, those that are likely to take longest first.
-        """
-        found = [it for it in self.crates.values() if os.path.isdir(f"{it.folder}/planted")]
-        wanted = self.given.crates or [it.name for it in found]
-        lengths = {it: self.length(it) for it in found if it.name in wanted}
-        return sorted((it for it in lengths if lengths[it]), key=lengths.get, reverse=True)
-
-    def length(self, crate):
-        """How long the trials of a crate are likely to take: what a bug in a function does is 1."""
-        folder = pathlib.Path(f"{crate.folder}/planted")
-        tried = [it for it in folder.glob("*.edit") if self.is_tried(crate.name, it.stem)]
-        return sum(OWN_CHECK if "file: specs/" in it.read_text("utf-8") else 1 for it in tried)
+    def parts(self):
+        """The parts of what is tried, in their order, by their crates."""
+        if self.given.all:
+            found = parts.everything(self.bugs())
+        else:
+            found = parts.chosen(self.landing, shares.named_in(self.root), self.bugs())
+        crates = collections.defaultdict(list)
+        for it in found:
+            crates[it.crate].append(it)
+        return crates
 
     def tasks(self):
         """All that is tried, in its order: the trials themselves first."""
         made = [Task("the trials themselves", self.crates[selftest.CRATE], self.try_itself)]
-        for rank, it in enumerate(self.with_bugs(), 1):
-            made.append(Task(it.name, it, functools.partial(self.try_crate, it, rank)))
+        for name, found in self.parts().items():
+            crate = self.crates[name]
+            made.append(Task(name, crate, functools.partial(self.try_crate, crate, found)))
         return made
 
     def trial(self, crate, rank, folder="out"):
         logs = f"{self.root}/tests/edits/{folder}"
         turn = functools.partial(self.lanes.turn, rank)
-        return Trial(planting.with_never(crate), self.kit_rt, logs, self.given, turn, self.kept)
+        return Trial(planting.with_never(crate), self.kit_rt, logs, self.given, turn, self.room)
 
-    def try_crate(self, crate, rank):
-        """Tries those bugs of a crate whose turn it is, beside a function as it is."""
-        trial = self.trial(crate, rank)
+    def turns(self, part):
+        """How each check of a part gets its turn. A part that has begun no longer waits."""
+        may_wait = itertools.chain([part.may_wait], itertools.repeat(False))
+        return lambda: self.lanes.turn(part.rank, next(may_wait))
+
+    def try_crate(self, crate, found):
+        """Tries these parts of a crate's bugs, each beside a function as it is."""
+        trial = self.trial(crate, found[0].rank)
         every = planting.edits_in(f"{crate.folder}/planted", trial.source, self.kit_rt)
-        edits = [it for it in every if self.is_tried(crate.name, it.name)]
         functions = sorted({it for edit in every if edit.stays_inside for it in edit.changed})
-        left = f"{verdicts.UNTRIED}: no verdict"
-        try:
-            if self.given.all:
+        tries = parts.Tries(crate, trial, self.store, self.keys, self.turns)
+        if self.given.all:
+            with contextlib.suppress(checks.Stopped):
                 trial.look_at_all(functions)
-            # Another one each time that the crate's turn comes. A function in a cycle of calls has
-            # no proof beside a bug in that cycle.
-            turns = self.number // shares.SHARES
-            single = [it for it in functions if not it[1].cycle]
-            also = single[turns % len(single) :][:1] if single else ()
-            trial.run(edits, () if self.given.all else also)
-        except checks.Ended:
-            left = None
-        except checks.Stopped as why:
-            left = f"{verdicts.UNTRIED}: {why}"
-        complaints = [f"{crate.name}/{name}: {verdict}, {how}: {said}"
-                      for name, (verdict, how, said) in trial.verdicts.items()
-                      if verdict not in verdicts.GOOD]
-        complaints += [f"{crate.name}/{it.name}: {left}"
-                       for it in edits if left and it.name not in trial.verdicts]
-        print(f"{crate.name}: {trial.told()}", flush=True)
-        return Came(len(edits), trial.seconds, complaints)
+        with contextlib.suppress(checks.Ended):
+            for it in found:
+                tries.run(it, {edit.name: edit for edit in every}, self.beside(functions))
+        said = f"{len(tries.kept)} kept, {len(tries.waiting)} wait: {trial.told()}"
+        print(f"{crate.name}: {said}", flush=True)
+        waiting = [f"{crate.name}/{it}" for it in tries.waiting]
+        return Came(len(tries.tried), len(tries.kept), waiting, trial.seconds, tries.complaints())
+
+    def beside(self, functions):
+        """The function that is looked at as it is beside a crate's bugs, another one at each
+        landing. One in a cycle of calls has no proof beside a bug in that cycle."""
+        single = [it for it in functions if not it[1].cycle]
+        if self.given.all or not single:
+            return ()
+        at = self.landing.number % len(single)
+        return (single[at],)
 
     def try_itself(self):
-        """Tries the trials themselves, by bugs of which is known what they come to."""
+        """Tries the trials themselves, by bugs of which is known what they come to. Only then the
+        refusals of this run are kept."""
         trial = self.trial(self.crates[selftest.CRATE], 0, "out/itself")
         complaints = selftest.complaints_of(trial, self.root, self.kit_rt)
-        return Came(0, trial.seconds, complaints)
+        if not complaints:
+            self.store.trust()
+        return Came(seconds=trial.seconds, complaints=complaints)
 
     def tell(self, complaints):
         """Tells complaints at once, beside proofs on standard error too."""
@@ -140,10 +161,10 @@ class Gate:
             lacking = self.libraries.lacking(task.crate)
             came = no_library(task.name, lacking) if lacking else task.call()
         except checks.Ended:
-            came = Came(0, 0, [])
+            came = Came()
         except (Exception, SystemExit) as error:  # pylint: disable=broad-exception-caught
             why = f"the trials ended: {type(error).__name__}: {error}"
-            came = Came(0, 0, [f"{task.name}: {why}"])
+            came = Came(complaints=[f"{task.name}: {why}"])
         self.tell(came.complaints)
         return came
 
@@ -167,18 +188,27 @@ def in_lanes(gate):
 
 def no_library(name, lacking):
     """What came of bugs for whose trial these libraries are missing."""
-    return Came(0, 0, [f"{name}: not tried: these libraries are not built: {' '.join(lacking)}"])
+    why = f"not tried: these libraries are not built: {' '.join(lacking)}"
+    return Came(complaints=[f"{name}: {why}"])
 
 
 def told(gate, came, seconds):
     """The line that says what was tried."""
-    tried = sum(it.tried for it in came)
-    share = f"the {len(gate.named)} named ones and share {gate.number % shares.SHARES} of 0 to 3"
-    which = "all" if gate.given.all else share
+    which = f"landing {gate.landing.number}" if gate.landing else "all"
+    known = sum(it.kept for it in came)
+    counts = [f"{sum(it.tried for it in came)} planted bugs tried ({which})",
+              f"{known} kept from earlier runs on this machine",
+              f"{sum(len(it.waiting) for it in came)} wait for their turn"]
     used = f"{sum(it.seconds for it in came):.0f} s of a processor"
     if gate.given.beside:
         used += f", of which {gate.lanes.beside:.0f} beside the proofs"
-    return f"{tried} planted bugs tried ({which}), {used}; {seconds:.0f} s by the clock"
+    return f"{', '.join(counts)}; {used}; {seconds:.0f} s by the clock"
+
+
+def name_waiting(came):
+    """Names each bug that waits for its turn."""
+    for name in (it for one in came for it in one.waiting):
+        print(f"tests/edits/run: {name}: it waits for its turn", flush=True)
 
 
 def end_by_signals(lanes):
@@ -198,11 +228,15 @@ def try_bugs(root, given, room):
     os.chdir(root)
     rt.rtlib.guarded()
     gate, begun = Gate(root, rt, given, room), time.monotonic()
+    if not gate.store.folder:
+        print("tests/edits/run: no folder can keep refusals, so each bug is tried", flush=True)
     end_by_signals(gate.lanes)
     came = in_lanes(gate)
+    gate.store.forget()
+    name_waiting(came)
     count = sum(len(it.complaints) for it in came)
     print(f"tests/edits/run: {told(gate, came, time.monotonic() - begun)}: "
-          f"{f'{count} complaints' if count else 'each is refused'}")
+          f"{f'{count} complaints' if count else 'each one tried is refused'}")
     return 1 if count else 0
 
 

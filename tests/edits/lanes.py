@@ -66,26 +66,33 @@ class Turn:
 
 
 class Lanes:
-    """The checks that run, and those that wait for a turn, of which the lowest rank is first."""
+    """The checks that run, and those that wait for a turn, of which the lowest rank is first. After
+    so many `minutes` by the clock none begins that may wait for another landing, and after
+    `at_most` none at all."""
 
-    def __init__(self, rt, most, minutes, is_beside):
-        self.kit_rt, self.most, self.minutes = rt, most or rt.processors(), minutes
-        self.is_beside, self.is_ended, self.until = is_beside, False, None
+    def __init__(self, rt, most, minutes, at_most, is_beside):
+        self.kit_rt, self.most = rt, most or rt.processors()
+        self.minutes, self.at_most = minutes, at_most
+        self.is_beside, self.is_ended, self.begun = is_beside, False, None
         self.changed = threading.Condition()
         self.waiting, self.running, self.beside = [], [], 0.0
         if not is_beside:
             self.begin_clock()
 
     def begin_clock(self):
-        self.until = time.monotonic() + 60 * self.minutes
+        self.begun = time.monotonic()
+
+    def is_after(self, minutes):
+        """Whether so many minutes have passed. None pass beside proofs."""
+        return self.begun is not None and time.monotonic() > self.begun + 60 * minutes
 
     @contextlib.contextmanager
-    def turn(self, rank):
+    def turn(self, rank, may_wait=False):
         """Waits until a check of this rank may run."""
         with self.changed:
             self.waiting.append(rank)
             try:
-                while not self.may_run(rank):
+                while not self.may_run(rank, may_wait):
                     # What is free of the memory changes with no word.
                     self.changed.wait(1)
             finally:
@@ -100,10 +107,12 @@ class Lanes:
                 self.beside += turn.beside
                 self.changed.notify_all()
 
-    def may_run(self, rank):
+    def may_run(self, rank, may_wait):
         if self.is_ended:
             raise checks.Ended("the trials were ended")
-        if self.until and time.monotonic() > self.until:
+        if may_wait and self.is_after(self.minutes):
+            raise checks.Waits("it waits for its turn")
+        if self.is_after(self.at_most):
             raise checks.Stopped("there was no time left")
         most = min(self.most, BESIDE) if self.is_beside else self.most
         if rank > min(self.waiting) or len(self.running) >= most:

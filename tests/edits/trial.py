@@ -1,6 +1,7 @@
 """Tries planted bugs of one crate, many in one check: see tests/edits/together."""
 import collections
 import contextlib
+import itertools
 import os
 import time
 
@@ -41,6 +42,8 @@ class Trial:
         self.room = kept or f"{crate.folder}/out"
         self.checks, self.seconds, self.memory = 0, 0.0, 0
         self.verdicts, self.is_done = {}, False
+        # The logs of what tries many bugs have a number each.
+        self.numbers = itertools.count(1)
         # The laws that have to be proved as they are, and whether a check said that they are.
         self.laws, self.are_laws_proved = (), False
         for folder in (self.logs, self.kept) if given.lean else (self.logs,):
@@ -112,10 +115,10 @@ class Trial:
         nothing clear. It gives those of which these checks tell nothing clear either; those that
         are proved there; and those of `also`, if none was looked at."""
         left, proved = edits, []
-        for number in range(ROUNDS):
+        for _ in range(ROUNDS):
             tried, left = left, []
             for first in range(0, len(tried), LOT):
-                lot, log = tried[first : first + LOT], f"at-once-{number}-{first}"
+                lot, log = tried[first : first + LOT], f"at-once-{next(self.numbers)}"
                 rest, more, also = self.try_at_once(lot, also, log)
                 left, proved = left + rest, proved + more
             if len(left) == len(tried):
@@ -241,7 +244,8 @@ class Trial:
         if self.laws and not self.are_laws_proved:
             lines = self.check_some("laws", [], laws=self.source.laws)
             verdict, said = verdicts.of_all(lines)
-            if verdict != verdicts.PROVED:
+            self.are_laws_proved = verdict == verdicts.PROVED
+            if not self.are_laws_proved:
                 self.settle("the laws as they are", verdicts.UNSOUND, "alone", said)
 
     def run(self, edits, also=()):
@@ -253,13 +257,13 @@ class Trial:
         if self.is_lean:
             left, proved, also = self.try_in_lots(left, also)
         unclear = [(it, "") for it in proved]
-        for number, group in enumerate(planting.grouped(left), 1):
+        for group in planting.grouped(left):
             beside = self.unchanged(also, group)
             if self.is_lean and len(group) == 1 and not beside:
                 # A check of it alone, which need not be run twice.
                 unclear.append((group[0], ""))
             else:
-                unclear += self.try_group(group, number, beside)
+                unclear += self.try_group(group, next(self.numbers), beside)
             also = ()
         for edit, why in unclear:
             self.try_alone(edit, why)
