@@ -7,12 +7,11 @@ is 1 if there are any.
 - README.md is short, and so are the cells of its tables
 - no document speaks of what is not in the repository
 - what a person runs of tests/ stands in docs/TESTING.md or docs/PROVING.md
-- no document for developers passes its lines (LINES) by more than a tenth
 - the examples of the library crates are those of their callers (lib_examples.py)
 - names of crates and of code are there (names.py), and so are those of the tables "Where"
   (where.py), of docs/CHANGING.md (changing.py) and of the listener's page (listener.py)
 - the tables of crates have the contracts of the crates' pages (index.py)
-- the gate runs each script of tests/ (suites.py)"""
+- the gate runs each script of tests/, and each crate has some (suites.py)"""
 import os
 import pathlib
 import re
@@ -41,16 +40,6 @@ FOREIGN = re.compile(r"\bshared/|\b[Ii]ssues? #?\d+")
 README_LINES = 199
 CELL_COLUMNS = 140
 NAMING = ("docs/TESTING.md", "docs/PROVING.md")
-# The lines of each document for developers. Cut as much as you add: docs/PROVING.md says what
-# belongs where.
-LINES = {
-    "docs/ARCHITECTURE.md": 260,
-    "docs/CHANGING.md": 320,
-    "docs/DECISIONS.md": 515,
-    "docs/PROOFS.md": 65,
-    "docs/PROVING.md": 440,
-    "bench/README.md": 400,
-}
 
 
 def files_of(root):
@@ -121,13 +110,6 @@ def faults_of_readme(page):
             yield "README.md", number, f"a cell of {len(cell)} columns, more than {CELL_COLUMNS}"
 
 
-def faults_of_lines(root, pages):
-    for name, lines in LINES.items():
-        count = pages[root / name].text.count("\n")
-        if count * 10 > lines * 11:
-            yield name, count, f"it has {count} lines, more than a tenth above {lines}"
-
-
 def faults_of_words(name, page):
     for number, line in enumerate(page.text.split("\n"), 1):
         for word in FOREIGN.findall(line):
@@ -168,7 +150,6 @@ def faults_of(root):
             yield from faults_of_paths(root, name, comments_of(file), ends)
     yield from faults_of_readme(pages[root / "README.md"])
     yield from faults_of_tests(root, files, pages)
-    yield from faults_of_lines(root, pages)
     yield from names.faults_of(root, files, pages)
     for checks in (changing, index, lib_examples, listener, suites, where):
         yield from checks.faults_of(root)
