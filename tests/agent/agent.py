@@ -23,7 +23,7 @@ import silence
 import streams
 import web
 from turns import LATE, PASSED, WRONG, Watch, end_by_signals, is_for_time, parts_of
-from world import Late, World, running, slowness
+from world import Late, World, factor_of, running, slowness
 
 # The parts that are left out without these tools.
 PARTS_WITH = {"prometheus": ("try_releases", "try_kills"),
@@ -125,7 +125,9 @@ def given():
 
 def main():
     words = given()
-    world = World(os.path.realpath(words.program), words.folder, words.all, words.seed)
+    program = os.path.realpath(words.program)
+    factor = factor_of(program)
+    world = World(program, words.folder, words.all, words.seed, factor)
     left_out = [name for tool in os.environ.get("CHECK_WITHOUT", "").split()
                 for name in PARTS_WITH.get(tool, ())]
     names = [name for name in PARTS if name in (words.parts or PARTS) and name not in left_out]
@@ -138,7 +140,8 @@ def main():
         # once more, alone, in a folder of its own, with the time that such a machine takes.
         again = os.path.join(words.folder, "again")
         os.mkdir(again)
-        world = World(world.program, again, words.all, words.seed, slowness(MOST_SLOW))
+        slow = factor * slowness(MOST_SLOW)
+        world = World(program, again, words.all, words.seed, slow)
         print(f"agent: again, with {world.slowness} times the seconds: {' '.join(late)}",
               file=sys.stderr, flush=True)
         statuses |= try_all(world, late, 1)

@@ -33,6 +33,7 @@ MANIFEST = (b'{"kind":"Rollout","metadata":{"name":"web"},"spec":{"strategy":{"c
             b'{"steps":[{"pause":{}}]}}}}')
 ROWS = (b"caller,number,service,run,metric,ordinal,taken,result,failure\n"
         b"agent,1,web,1,m,1,%d,5,\n" % B)
+VERSIONS = (b"canary 0.1.0\n", b"canary 0.1.0 (unproved)\n")
 
 
 def rows_of(name):
@@ -119,6 +120,16 @@ def try_help(program, _):
             if lines_of(part) not in done.stdout:
                 raise Wrong(f"{words}: no {part!r} in {done.stdout.decode()}")
     return len(rows)
+
+
+def try_version(program, _):
+    """The version: also of the quick program, which says that it is unproved."""
+    for word in ("--version", "-V"):
+        done, left = run_unread(program, [word])
+        expect(word, (done.returncode, done.stderr, left), (0, b"", len(REQUEST)))
+        if done.stdout not in VERSIONS:
+            raise Wrong(f"{word}: {done.stdout}")
+    return 2
 
 
 def try_ends(program, _):
@@ -347,8 +358,8 @@ def try_terminals(program, folder):
     return terminals.try_terminals(program, lambda: new_place(program, folder))
 
 
-PARTS = (try_cases, try_mistakes, try_help, try_ends, try_faulty_streams, try_programs,
-         try_longest, try_warnings, try_serving, try_name, try_building, try_terminals,
+PARTS = (try_cases, try_mistakes, try_help, try_version, try_ends, try_faulty_streams,
+         try_programs, try_longest, try_warnings, try_serving, try_name, try_building, try_terminals,
          *STREAM_PARTS, *FILE_PARTS, *CLOSED_PARTS, *CALL_PARTS, *CLOSED_CALL_PARTS)
 
 

@@ -60,7 +60,7 @@ def script_of(lines, port, provider):
 def run_session(world, name, document, heading):
     """What the lines of a document print in a new folder, and what they say."""
     place, port, provider = world.place(name), free_port(), free_port()
-    (place / "canary-unproved").symlink_to(world.program)
+    (place / "canary-quick").symlink_to(world.program)
     (place / "examples").symlink_to(ROOT / "examples")
     with process_group(
             ["bash", "-c", script_of(code_of(document, heading), port, provider)], cwd=place,

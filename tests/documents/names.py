@@ -22,7 +22,7 @@ PUBLIC = re.compile(r"^pub mod (\w+)$")
 EXCEPTIONS = "docs/ARCHITECTURE.md"
 SOURCES = ("crates", "tests", "bench", "examples", ".ci")
 # Programs that are built beside the crates.
-PROGRAMS = {"canary_unproved"}
+PROGRAMS = {"canary_quick"}
 # A text of `status --prometheus` with all families.
 FAMILIES = "tests/page/textfile.prom"
 # Names of the kit, of systems, of programs by others, and names that a document makes up.

@@ -76,8 +76,7 @@ try_odd_files() {
     [ ! -e "$work/none" ] || fail "$row: a missing measurement file makes a file"
 }
 
-# As many rows as an import and the client take, and one more, none of which can be read. A program
-# without proofs takes minutes.
+# As many rows as an import and the client take, and one more, none of which can be read.
 try_many_rows() {
     local limit=600
     row='many rows'

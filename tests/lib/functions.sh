@@ -86,7 +86,7 @@ number_of_commit() {
 
 program=$root/crates/canary_desk/out/canary_desk
 # The same, built without proofs.
-unproved_program=$root/crates/canary_desk/out/canary_unproved
+quick_program=$root/out/canary_quick
 
 # The crates of which the program $1 is built; crates.txt has the lowest first.
 crates_of_program() {

@@ -127,6 +127,12 @@ def slowness(most):
     return min(most, max(1, round((time.monotonic() - clock) / .2)))
 
 
+def factor_of(program):
+    """How many times the seconds of a proved program this one needs: 2 if it is unproved."""
+    said = subprocess.run([program, "--version"], capture_output=True, check=True, timeout=60)
+    return 2 if b"unproved" in said.stdout else 1
+
+
 class World:
     """The program that is tried, and a folder for the files of each part. Intervals and patience of
     parts that are about seconds are `slowness` times what they are else."""
