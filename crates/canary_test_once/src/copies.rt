@@ -3,16 +3,18 @@
 //! were.
 
 use crate::once::RELEASE;
-use crate::rows::{B, command, is_right, moment, name};
+use crate::rows::{B, check, command, found, is_right, made, moment, name};
 use crate::sending::send_story;
 use canary_base::error::Memory;
 use canary_base::lists::Listed;
 use canary_base::moments::Moment;
+use canary_base::names::Name;
 use canary_base::numbers::Number;
 use canary_canonical::command::CanonicalCommand;
 use canary_condition::outcome::Phase;
-use canary_once::book::{Book, Receipt, Settlement};
+use canary_once::book::{Book, BookFault, Receipt, Settlement};
 use canary_once::memory::MemoryBook;
+use canary_plan::command::Command;
 use canary_plan::templates::Templates;
 use canary_release::decide::{Decision, DeskChange, decide};
 use canary_release::effect::{Effect, Recorded};
@@ -20,26 +22,6 @@ use canary_release::reply::Reported;
 use canary_release::service::{Passed, Service};
 use std::alloc::Global;
 use std::process::Abort;
-use std::test::Fail;
-
-/// Copies of the template and of the service that a book has.
-#[derive(Drop)]
-struct Desk {
-    templates: Templates,
-    service: Service,
-}
-
-/// None if memory was refused.
-fn desk_of(alloc: Global, book: &mut MemoryBook) -> Option<Desk> {
-    let templates = book.templates(&[name("t")?]).ok()?.copy(alloc).ok()?;
-    let service = book.service(&name("web")?).ok()??;
-    Some(Desk { templates, service })
-}
-
-fn released(rt: &impl Abort, alloc: Global) -> Result<Desk, Memory> {
-    let mut book = send_story(rt, alloc, RELEASE);
-    desk_of(alloc, &mut book).ok_or(Memory)
-}
 
 /// A report of a failure, which leaves the run open, and its reply.
 const FAILED: &str = concat!(
@@ -52,43 +34,37 @@ const REPLY: &str = concat!(
     r#""verdict":"Running","weight":10}"#
 );
 
-/// What the report comes to; none if memory was refused.
-fn decided(alloc: Global, desk: &Desk) -> Option<Decision> {
-    let at = moment("60")?;
-    let asked = command(alloc, FAILED)?;
-    decide(alloc, &desk.templates, Some(&desk.service), at, &asked).ok()
+/// What the report comes to.
+fn decided(
+    alloc: Global,
+    templates: Option<&Templates>,
+    service: &Service,
+    asked: Option<&Command>,
+) -> Result<Decision, Memory> {
+    let (Some(templates), Some(asked), Some(at)) = (templates, asked, moment("60")) else {
+        return Err(Memory);
+    };
+    decide(alloc, templates, Some(service), at, asked)
 }
 
-fn decided_copy(alloc: Global, desk: &Desk) -> Option<Decision> {
-    decided(alloc, desk)?.copy(alloc).ok()
+fn decision_copy(alloc: Global, decision: Option<&Decision>) -> Result<Decision, Memory> {
+    match decision {
+        Some(decision) => decision.copy(alloc),
+        None => Err(Memory),
+    }
 }
 
-fn failed(alloc: Global) -> Option<CanonicalCommand> {
-    CanonicalCommand::of(alloc, &command(alloc, FAILED)?).ok()
-}
-
-/// The report as it is settled; none if memory was refused.
-fn settlement(alloc: Global, decision: Decision) -> Option<Settlement> {
-    let caller = name("ops")?;
-    let number = Number::new(1)?;
-    let command = failed(alloc)?;
-    Some(Settlement {
-        caller,
-        number,
-        receipt: Receipt {
-            command,
-            reply: decision.reply,
-        },
-        change: decision.change,
-    })
-}
-
-fn settlement_copy(alloc: Global, decision: Decision) -> Option<Settlement> {
-    settlement(alloc, decision)?.copy(alloc).ok()
-}
-
-fn settled(alloc: Global, desk: &Desk) -> Option<Settlement> {
-    settlement_copy(alloc, decided_copy(alloc, desk)?)
+/// A copy of what the report comes to, by a copy of the templates.
+fn decided_copy(
+    alloc: Global,
+    templates: Option<&Templates>,
+    service: &Service,
+) -> Result<Decision, Memory> {
+    let asked = command(alloc, FAILED);
+    decision_copy(
+        alloc,
+        made(&decided(alloc, templates, service, asked.as_ref())),
+    )
 }
 
 fn effects(change: &DeskChange) -> &[Effect] {
@@ -114,10 +90,59 @@ fn has_measurement(effects: &[Effect]) -> bool {
     false
 }
 
-fn is_settled(copy: &Settlement) -> bool {
-    copy.receipt.reply.body.as_str() == REPLY
-        && copy.receipt.command.text() == FAILED
-        && has_measurement(effects(&copy.change))
+fn is_settled(copy: Option<&Settlement>) -> Option<bool> {
+    let copy = copy?;
+    let is_receipt = copy.receipt.reply.body.as_str() == REPLY
+        && copy.receipt.command.text() == FAILED;
+    Some(is_receipt && has_measurement(effects(&copy.change)))
+}
+
+/// The command of the report as it is kept.
+fn failed(alloc: Global, asked: Option<&Command>) -> Result<CanonicalCommand, Memory> {
+    match asked {
+        Some(asked) => CanonicalCommand::of(alloc, asked),
+        None => Err(Memory),
+    }
+}
+
+/// Whether the report has a copy as it is settled.
+fn is_copied(
+    alloc: Global,
+    (caller, number): (Name, Number),
+    command: CanonicalCommand,
+    decision: Decision,
+) -> Option<bool> {
+    let Decision { reply, change } = decision;
+    let settlement = Settlement {
+        caller,
+        number,
+        receipt: Receipt { command, reply },
+        change,
+    };
+    is_settled(made(&settlement.copy(alloc)))
+}
+
+fn is_decision_copied(
+    alloc: Global,
+    by: (Name, Number),
+    templates: Option<&Templates>,
+    service: &Service,
+) -> Option<bool> {
+    let command = failed(alloc, command(alloc, FAILED).as_ref()).ok()?;
+    match decided_copy(alloc, templates, service) {
+        Ok(decision) => is_copied(alloc, by, command, decision),
+        Err(_) => None,
+    }
+}
+
+fn is_settlement_copied(
+    alloc: Global,
+    templates: Option<&Templates>,
+    service: Option<&Service>,
+) -> Option<bool> {
+    let by = (name("ops")?, Number::new(1)?);
+    let (templates, service) = (templates?, service?);
+    is_decision_copied(alloc, by, made(&templates.copy(alloc)), service)
 }
 
 /// Whether the service stands in the analysis of step 1, at its second run.
@@ -125,47 +150,79 @@ fn stands(service: &Service) -> bool {
     service.step() == 1 && service.run_count() == 2 && service.open_runs().len() == 1
 }
 
-fn is_passed(passed: &Passed) -> bool {
-    stands(&passed.service) && passed.service.last().get() == B + 90
+fn is_passed(copy: Option<&Passed>) -> Option<bool> {
+    let passed = copy?;
+    Some(stands(&passed.service) && passed.service.last().get() == B + 90)
 }
 
-fn passed(alloc: Global, service: &Service) -> Option<Passed> {
-    service.passed(alloc, Moment::new(B + 90)?).ok()
+fn is_copy_passed(alloc: Global, passed: Option<&Passed>) -> Option<bool> {
+    is_passed(made(&passed?.copy(alloc)))
 }
 
-fn passed_copied(alloc: Global, web: &Service) -> Option<bool> {
-    Some(is_passed(&passed(alloc, web)?.copy(alloc).ok()?))
+fn is_passed_copied(alloc: Global, service: Option<&Service>) -> Option<bool> {
+    let at = Moment::new(B + 90)?;
+    is_copy_passed(alloc, made(&service?.passed(alloc, at)))
 }
 
-fn reported_copied(alloc: Global) -> Option<bool> {
+fn is_reported(copy: Option<&Reported>) -> Option<bool> {
+    let copy = copy?;
+    Some(copy.run == 2 && copy.phases.as_slice().len() == 1)
+}
+
+fn is_report_copied(alloc: Global) -> Option<bool> {
     let phases = Listed::of(Vec::from_slice(alloc, &[Phase::Error]).ok()?);
     let reported = Reported {
         phases,
         run: 2,
         verdict: Phase::Running,
     };
-    let copy = reported.copy(alloc).ok()?;
-    Some(copy.run == 2 && copy.phases.as_slice().len() == 1)
+    is_reported(made(&reported.copy(alloc)))
 }
 
-fn of_copy(alloc: Global, desk: &Desk, call: u32) -> Option<bool> {
+/// What `of_desk` copies, in its order.
+const CALLS: &str = "\
+a settlement
+a service that is passed
+a report";
+
+fn of_desk(
+    alloc: Global,
+    templates: Option<&Templates>,
+    service: Option<&Service>,
+    call: usize,
+) -> Option<bool> {
     match call {
-        0 => Some(is_settled(&settled(alloc, desk)?)),
-        1 => passed_copied(alloc, &desk.service),
-        _ => reported_copied(alloc),
+        0 => is_settlement_copied(alloc, templates, service),
+        1 => is_passed_copied(alloc, service),
+        _ => is_report_copied(alloc),
     }
 }
 
-fn check_copies(rt: &impl Abort, alloc: Global, desk: &Desk) {
-    for call in 0..3 {
-        let first = of_copy(alloc, desk, call);
-        assert!(rt; is_right(first, of_copy(alloc, desk, call)), "{call}");
+fn of_templates(
+    alloc: Global,
+    book: &mut MemoryBook,
+    templates: Result<&Templates, &BookFault>,
+    call: usize,
+) -> Option<bool> {
+    let web = name("web")?;
+    of_desk(alloc, templates.ok(), found(&book.service(&web)), call)
+}
+
+/// Whether a call makes a copy, of the template and the service that the book has.
+fn of_copy(alloc: Global, book: &mut MemoryBook, call: usize) -> Option<bool> {
+    let template = name("t")?;
+    let templates = book.templates(&[template]);
+    of_templates(alloc, book, templates.as_ref(), call)
+}
+
+fn check_copies(rt: &impl Abort, alloc: Global, book: &mut MemoryBook) {
+    for (call, what) in CALLS.lines().enumerate() {
+        let first = of_copy(alloc, book, call);
+        check(rt, is_right(first, of_copy(alloc, book, call)), what);
     }
 }
 
 #[test]
-fn of_copies(rt: HostRuntime) -> Result<(), Fail> {
-    let desk = released(&rt, rt.alloc())?;
-    check_copies(&rt, rt.alloc(), &desk);
-    Ok(())
+fn of_copies(rt: HostRuntime) {
+    check_copies(&rt, rt.alloc(), &mut send_story(&rt, rt.alloc(), RELEASE));
 }

@@ -1,9 +1,8 @@
 //! What texts are read as, by rows that Python's fractions gave; and what is shown of numbers.
-use canary_base::error::Memory;
+use crate::rows::{check, cut, is_right};
 use canary_decimal::reading::{Reading, read};
-use canary_decimal::shown::Shown;
+use canary_decimal::shown::{Shown, Units};
 use std::alloc::Global;
-use std::test::Fail;
 
 // A text, its multiple of 10^-6, and its constant; `-` stands for none.
 const ROWS: &str = "\
@@ -74,14 +73,14 @@ Infinity - -
 NaN1 - -
 ";
 
-// The multiple of 10^-6 for a text, and its constant.
-fn said(alloc: Global, text: &str) -> Result<(Option<i64>, Option<i64>), Memory> {
-    match read(alloc, text)? {
-        Some(Reading::Number(decimal)) => Ok((
+// The multiple of 10^-6 for a text, and its constant; none if memory was refused.
+fn said(alloc: Global, text: &str) -> Option<(Option<i64>, Option<i64>)> {
+    match read(alloc, text).ok()? {
+        Some(Reading::Number(decimal)) => Some((
             Some(decimal.to_multiple(6)),
             decimal.to_constant(6),
         )),
-        _ => Ok((None, None)),
+        _ => Some((None, None)),
     }
 }
 
@@ -90,25 +89,35 @@ fn number(word: &str) -> Option<i64> {
     word.parse::<i64>().ok()
 }
 
-// Whether a row holds.
-fn holds(alloc: Global, row: &str) -> Result<bool, Memory> {
-    let mut words = row.split(' ');
-    let (Some(text), Some(multiple), Some(constant)) = (words.next(), words.next(), words.next())
-    else {
-        return Ok(false);
-    };
+// Whether a row holds; none if memory was refused.
+fn holds(alloc: Global, row: &str) -> Option<bool> {
+    let (text, told) = cut(row, ' ');
+    let (multiple, constant) = cut(told, ' ');
     let (has_multiple, has_constant) = said(alloc, text)?;
-    Ok(has_multiple == number(multiple) && has_constant == number(constant))
+    Some(has_multiple == number(multiple) && has_constant == number(constant))
 }
 
-// What a text says that is no decimal.
-fn word_of(alloc: Global, text: &str) -> Result<u8, Memory> {
-    match read(alloc, text)? {
-        Some(Reading::NotANumber) => Ok(1),
-        Some(Reading::Infinite) => Ok(2),
-        Some(Reading::MinusInfinite) => Ok(3),
-        _ => Ok(0),
+// Texts that are no decimal, each after the number of what it says.
+const WORDS: &str = "\
+1 NaN
+2 Inf
+2 +Inf
+3 -Inf
+0 ";
+
+// What a text says that is no decimal; none if memory was refused.
+fn word_of(alloc: Global, text: &str) -> Option<i64> {
+    match read(alloc, text).ok()? {
+        Some(Reading::NotANumber) => Some(1),
+        Some(Reading::Infinite) => Some(2),
+        Some(Reading::MinusInfinite) => Some(3),
+        _ => Some(0),
     }
+}
+
+fn says(alloc: Global, row: &str) -> Option<bool> {
+    let (word, text) = cut(row, ' ');
+    Some(word_of(alloc, text) == number(word))
 }
 
 // A label, a place of a list or `-`, and a number that is reported there; then the name and text
@@ -181,33 +190,31 @@ rate.e6. - 12 rate.e6. 12
 
 // Whether a row of labels holds.
 fn shows(row: &str) -> bool {
-    let mut words = row.split(' ');
-    let (Some(label), Some(place), Some(reported)) = (words.next(), words.next(), words.next())
-    else {
-        return false;
-    };
-    let (Some(name), Some(text), Some(reported)) = (words.next(), words.next(), number(reported))
-    else {
-        return false;
-    };
+    let (label, told) = cut(row, ' ');
+    let (place, told) = cut(told, ' ');
+    let (reported, told) = cut(told, ' ');
+    let (name, text) = cut(told, ' ');
     let shown = Shown::or_whole(label);
-    let written = shown.units.text(place.parse::<u64>().ok(), reported);
-    shown.name == name && written.as_str() == text
+    shown.name == name && is_shown(shown.units, place, reported, text)
+}
+
+fn is_shown(units: Units, place: &str, reported: &str, text: &str) -> bool {
+    let Some(reported) = number(reported) else {
+        return false;
+    };
+    units.text(place.parse::<u64>().ok(), reported).as_str() == text
 }
 
 #[test]
-fn rows(rt: HostRuntime) -> Result<(), Fail> {
+fn rows(rt: HostRuntime) {
     let alloc = rt.alloc();
     for row in ROWS.lines() {
-        assert!(rt; holds(alloc, row)?);
+        check(&rt, is_right(holds(alloc, row), holds(alloc, row)), row);
     }
     for row in SHOWN.lines() {
-        assert!(rt; shows(row));
+        check(&rt, shows(row), row);
     }
-    assert!(rt; word_of(alloc, "NaN")? == 1);
-    assert!(rt; word_of(alloc, "Inf")? == 2);
-    assert!(rt; word_of(alloc, "+Inf")? == 2);
-    assert!(rt; word_of(alloc, "-Inf")? == 3);
-    assert!(rt; word_of(alloc, "")? == 0);
-    Ok(())
+    for row in WORDS.lines() {
+        check(&rt, is_right(says(alloc, row), says(alloc, row)), row);
+    }
 }

@@ -1,6 +1,7 @@
 //! The calls that no program makes: each is the other half of one that the programs call, or one
 //! reader among those of a type.
 
+use crate::rows::{check, is_right};
 use canary_base::lists::Text;
 use canary_base::moments::Moment;
 use canary_condition::condition::ConditionFault;
@@ -62,8 +63,12 @@ fn is_handed_on(alloc: Global) -> Option<bool> {
 #[test]
 fn other_halves(rt: HostRuntime) {
     let alloc = rt.alloc();
-    assert!(rt; are_phases());
-    assert!(rt; are_faults());
-    assert!(rt; are_tallies() == Some(true));
-    assert!(rt; is_handed_on(alloc).or(is_handed_on(alloc)) == Some(true));
+    check(&rt, are_phases(), "phases");
+    check(&rt, are_faults(), "faults");
+    check(&rt, are_tallies() == Some(true), "tallies");
+    check(
+        &rt,
+        is_right(is_handed_on(alloc), is_handed_on(alloc)),
+        "a text",
+    );
 }

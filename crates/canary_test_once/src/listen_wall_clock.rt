@@ -1,10 +1,9 @@
 //! The machine's clock, if it falls, is beyond the limits, or cannot be read.
-use crate::rows::cut;
+use crate::rows::{check, cut};
 use canary_listen::wall_clock::WallClock;
 use canary_once::clock::Clock;
 use std::cell::Cell;
 use std::io::{self, ErrorKind};
-use std::test::Fail;
 use std::time::{self, Duration};
 
 // A machine whose clock reads so many seconds, or fails.
@@ -38,7 +37,7 @@ const MOMENTS: &str = "\
 5 5";
 
 #[test]
-fn tells_the_machines_moment(rt: HostRuntime) -> Result<(), Fail> {
+fn tells_the_machines_moment(rt: HostRuntime) {
     let machine = Machine {
         seconds: Cell::new(None),
     };
@@ -46,10 +45,10 @@ fn tells_the_machines_moment(rt: HostRuntime) -> Result<(), Fail> {
     for row in MOMENTS.lines() {
         let (read, told) = cut(row, ' ');
         machine.seconds.set(read.parse::<u64>().ok());
-        assert!(rt;
+        check(
+            &rt,
             Some(clock.now().get()) == told.parse::<u64>().ok(),
-            "{row}"
+            row,
         );
     }
-    Ok(())
 }

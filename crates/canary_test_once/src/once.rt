@@ -2,15 +2,18 @@
 //! of measurements, which no request or query asks for; and what it answers. Each test holds as
 //! well if any one allocation is refused.
 
-use crate::rows::{B, event, is_right, moment, name};
+use crate::rows::{B, check, cut, event, found, is_right, made, moment, name};
 use crate::sending::{answer, has_status, parts, send_story, settled};
+use canary_base::moments::Moment;
 use canary_base::numbers::Number;
-use canary_once::book::Book;
+use canary_once::book::{Book, Receipt};
 use canary_once::event::{Answer, Event};
 use canary_once::memory::MemoryBook;
 use canary_once::post::post;
+use canary_once::record::RunRecord;
 use canary_once::view::view;
 use canary_release::effect::Recorded;
+use canary_release::service::Service;
 use canary_release::state::ReleaseState;
 use std::alloc::Global;
 use std::process::Abort;
@@ -57,25 +60,29 @@ fn word(state: ReleaseState) -> &'static str {
     }
 }
 
+fn stands(service: Option<&Service>, state: &str, at: Moment) -> Option<bool> {
+    let service = service?;
+    Some(word(service.state()) == state && service.last() == at && service.entered() == at)
+}
+
 /// Whether the service web is left so; none if memory was refused.
 fn is_left(book: &mut MemoryBook, told: &str) -> Option<bool> {
     let (state, after) = told.split_once(' ')?;
     let at = moment(after)?;
-    let service = book.service(&name("web")?).ok()??;
-    Some(word(service.state()) == state && service.last() == at && service.entered() == at)
+    let web = name("web")?;
+    stands(found(&book.service(&web)), state, at)
 }
 
 fn check_left(rt: &impl Abort, book: &mut MemoryBook, told: &str) {
     let first = is_left(book, told);
-    assert!(rt; is_right(first, is_left(book, told)), "{told}");
+    check(rt, is_right(first, is_left(book, told)), told);
 }
 
 #[test]
 fn what_stories_leave(rt: HostRuntime) {
     for story in STORIES.split("\n\n") {
-        let (told, rows) = story.split_once('\n').unwrap_or(("", story));
-        let mut book = send_story(&rt, rt.alloc(), rows);
-        check_left(&rt, &mut book, told);
+        let (told, rows) = cut(story, '\n');
+        check_left(&rt, &mut send_story(&rt, rt.alloc(), rows), told);
     }
 }
 
@@ -139,55 +146,104 @@ const ABORTED: &str = r#"200 ops 5 0 {"abort":{"service":"web"}}"#;
 
 const NOT_ABORTED: &str = r#"422 ops 5 0 {"abort":{"service":"web"}}"#;
 
+fn answer_by_kind(alloc: Global, book: &mut MemoryBook, event: &Event) -> Answer {
+    match event {
+        Event::Query { moment, query } => view(alloc, book, *moment, query),
+        Event::Request(it) => post(alloc, book, it.moment, it.caller, it.number, &it.command),
+    }
+}
+
+fn has_answer(
+    alloc: Global,
+    book: &mut MemoryBook,
+    event: Option<&Event>,
+    status: u16,
+) -> Option<bool> {
+    has_status(Some(&answer_by_kind(alloc, book, event?)), status)
+}
+
 /// Whether a row is answered by the function for its kind; none if memory was refused.
 fn is_answered(alloc: Global, book: &mut MemoryBook, row: &str) -> Option<bool> {
     let (status, asked) = parts(row)?;
-    let answer = match event(alloc, asked)? {
-        Event::Query { moment, query } => view(alloc, book, moment, &query),
-        Event::Request(it) => post(alloc, book, it.moment, it.caller, it.number, &it.command),
-    };
-    has_status(&answer, status)
+    has_answer(alloc, book, event(alloc, asked).as_ref(), status)
 }
 
 /// Whether a row's answer among others has its status, and so has its copy; none if memory was
 /// refused.
 fn is_copied(alloc: Global, book: &mut MemoryBook, row: &str) -> Option<bool> {
     let (status, asked) = parts(row)?;
-    let answer = answer(alloc, book, asked)?;
-    is_copy(&answer, &answer.copy(alloc).ok()?, status)
+    has_copy(alloc, answer(alloc, book, asked).as_ref(), status)
 }
 
-fn is_copy(answer: &Answer, copy: &Answer, status: u16) -> Option<bool> {
-    Some(has_status(answer, status)? && copy.status() == status && copy.body() == answer.body())
+fn has_copy(alloc: Global, answer: Option<&Answer>, status: u16) -> Option<bool> {
+    let answer = answer?;
+    is_copy(answer, made(&answer.copy(alloc)), status)
+}
+
+fn is_copy(answer: &Answer, copy: Option<&Answer>, status: u16) -> Option<bool> {
+    let copy = copy?;
+    let is_status = has_status(Some(answer), status)?;
+    Some(is_status && copy.status() == status && copy.body() == answer.body())
 }
 
 /// Whether the receipt of the start has a copy; none if memory was refused.
 fn has_receipt(alloc: Global, book: &mut MemoryBook) -> Option<bool> {
-    let kept = book.receipt(&name("ops")?, Number::new(3)?).ok()??;
-    let copy = kept.copy(alloc).ok()?;
+    let (caller, number) = (name("ops")?, Number::new(3)?);
+    is_receipt_copied(alloc, found(&book.receipt(&caller, number)))
+}
+
+fn is_receipt_copied(alloc: Global, kept: Option<&Receipt>) -> Option<bool> {
+    let kept = kept?;
+    is_receipt(kept, made(&kept.copy(alloc)))
+}
+
+fn is_receipt(kept: &Receipt, copy: Option<&Receipt>) -> Option<bool> {
+    let copy = copy?;
     Some(copy.command.is_same(&kept.command) && copy.reply.status.code() == 200)
 }
 
 /// Whether the first run has a copy; none if memory was refused.
 fn has_record(alloc: Global, book: &mut MemoryBook) -> Option<bool> {
-    let run = book.run(&name("web")?, Number::new(1)?).ok()??;
-    let copy = run.copy(alloc).ok()?;
+    let (web, number) = (name("web")?, Number::new(1)?);
+    is_run_copied(alloc, found(&book.run(&web, number)))
+}
+
+fn is_run_copied(alloc: Global, run: Option<&RunRecord>) -> Option<bool> {
+    is_first_run(made(&run?.copy(alloc)))
+}
+
+fn is_first_run(copy: Option<&RunRecord>) -> Option<bool> {
+    let copy = copy?;
     let is_closed = copy.number == 1 && copy.step == Some(1) && copy.closed.is_some();
     Some(is_closed && copy.started.get() == B && copy.tallies.as_slice().len() == 1)
 }
 
+/// Whether an event has a copy; none if memory was refused.
 fn is_event(alloc: Global) -> Option<bool> {
-    match event(alloc, r#"ops 5 0 {"abort":{"service":"web"}}"#)?
-        .copy(alloc)
-        .ok()?
-    {
+    let asked = r#"ops 5 0 {"abort":{"service":"web"}}"#;
+    is_event_copied(alloc, event(alloc, asked).as_ref())
+}
+
+fn is_event_copied(alloc: Global, event: Option<&Event>) -> Option<bool> {
+    is_request(made(&event?.copy(alloc)))
+}
+
+fn is_request(copy: Option<&Event>) -> Option<bool> {
+    match copy? {
         Event::Request(request) => Some(request.number.get() == 5),
         Event::Query { .. } => Some(false),
     }
 }
 
+/// What the calls of `of_book` try, in their order.
+const CALLS: &str = "\
+the copy of a receipt
+the copy of a run
+how many requests are settled
+the copy of an event";
+
 /// The calls on the book, once the rows are answered.
-fn of_book(alloc: Global, book: &mut MemoryBook, call: u32) -> Option<bool> {
+fn of_book(alloc: Global, book: &mut MemoryBook, call: usize) -> Option<bool> {
     match call {
         0 => has_receipt(alloc, book),
         1 => has_record(alloc, book),
@@ -214,34 +270,49 @@ fn page(book: &mut MemoryBook, from: u64, most: u32) -> Option<(usize, (u32, u32
 
 fn check_row(rt: &impl Abort, alloc: Global, book: &mut MemoryBook, row: &str) {
     let first = is_answered(alloc, book, row);
-    assert!(rt; is_right(first, is_answered(alloc, book, row)), "{row}");
+    check(rt, is_right(first, is_answered(alloc, book, row)), row);
     let first = is_copied(alloc, book, row);
-    assert!(rt; is_right(first, is_copied(alloc, book, row)), "{row}");
+    check(rt, is_right(first, is_copied(alloc, book, row)), row);
+}
+
+/// Whether a page from a place on, of so many measurements at most, is so.
+fn check_page(
+    rt: &impl Abort,
+    book: &mut MemoryBook,
+    (from, most): (u64, u32),
+    told: (usize, (u32, u32), (u32, u32)),
+    what: &str,
+) {
+    let found = page(book, from, most).or(page(book, from, most));
+    check(rt, found == Some(told), what);
+}
+
+fn check_pages(rt: &impl Abort, book: &mut MemoryBook) {
+    let (first, second) = ((1, 1), (2, 1));
+    check_page(rt, book, (0, 256), (2, first, second), "a page of all");
+    check_page(rt, book, (1, 1), (1, second, second), "the last page");
+    let none = (0, (0, 0), (0, 0));
+    check_page(rt, book, (u64::MAX, u32::MAX), none, "a page past the last");
 }
 
 fn check_book(rt: &impl Abort, alloc: Global, book: &mut MemoryBook, last: &str) {
-    for (from, most, told) in [
-        (0, 256, (2, (1, 1), (2, 1))),
-        (1, 1, (1, (2, 1), (2, 1))),
-        (u64::MAX, u32::MAX, (0, (0, 0), (0, 0))),
-    ] {
-        let found = page(book, from, most).or(page(book, from, most));
-        assert!(rt; found == Some(told), "{from} {most}");
-    }
+    check_pages(rt, book);
     for row in ASKED.lines() {
         check_row(rt, alloc, book, row);
     }
     check_row(rt, alloc, book, last);
-    for call in 0..4 {
+    for (call, what) in CALLS.lines().enumerate() {
         let first = of_book(alloc, book, call);
-        assert!(rt; is_right(first, of_book(alloc, book, call)), "{call}");
+        check(rt, is_right(first, of_book(alloc, book, call)), what);
     }
+}
+
+fn check_story(rt: &impl Abort, alloc: Global, story: &str, last: &str) {
+    check_book(rt, alloc, &mut send_story(rt, alloc, story), last);
 }
 
 #[test]
 fn of_books(rt: HostRuntime) {
-    for (story, last) in [(TWO_RUNS, NOT_ABORTED), (RELEASE, ABORTED)] {
-        let mut book = send_story(&rt, rt.alloc(), story);
-        check_book(&rt, rt.alloc(), &mut book, last);
-    }
+    check_story(&rt, rt.alloc(), TWO_RUNS, NOT_ABORTED);
+    check_story(&rt, rt.alloc(), RELEASE, ABORTED);
 }

@@ -7,10 +7,12 @@ use canary_base::moments::Moment;
 use canary_base::names::Name;
 use canary_base::numbers::Number;
 use canary_canonical::reading::from_canonical;
+use canary_once::book::BookFault;
 use canary_once::event::{Event, Query, Request};
 use canary_plan::command::Command;
 use std::alloc::Global;
 use std::fmt::Display;
+use std::process::Abort;
 
 /// 2026-01-01T00:00:00Z
 pub(crate) const B: u64 = 1_767_225_600;
@@ -19,6 +21,28 @@ pub(crate) const B: u64 = 1_767_225_600;
 /// more than one allocation is refused.
 pub(crate) fn is_right(first: Option<bool>, second: Option<bool>) -> bool {
     first.or(second) == Some(true) && second.or(first) == Some(true)
+}
+
+/// Ends the test if a row does not hold.
+pub(crate) fn check(rt: &impl Abort, is_so: bool, row: &str) {
+    assert!(rt; is_so, "{row}");
+}
+
+/// What a call made, where it stands: a large value costs the check least if it is not moved. None
+/// if memory was refused.
+pub(crate) fn made<T>(made: &Result<T, Memory>) -> Option<&T> {
+    match made {
+        Ok(made) => Some(made),
+        Err(_) => None,
+    }
+}
+
+/// What a book found, where it stands; none if that is nothing, or if memory was refused.
+pub(crate) fn found<T>(found: &Result<Option<T>, BookFault>) -> Option<&T> {
+    match found {
+        Ok(Some(found)) => Some(found),
+        _ => None,
+    }
 }
 
 /// What a call counts for that answered a fault: none if that is `Memory`, and else it is wrong.
@@ -85,14 +109,7 @@ pub(crate) fn event(alloc: Global, asked: &str) -> Option<Event> {
     }
 }
 
-fn is_printed<T: Display>(alloc: Global, value: &T, words: &str) -> Result<bool, Memory> {
-    Ok(format!(in alloc; "{value}")?.as_str() == words)
-}
-
-/// Whether the value is printed so; it is printed again if memory was refused.
-pub(crate) fn says<T: Display>(alloc: Global, value: &T, words: &str) -> Result<bool, Memory> {
-    match is_printed(alloc, value, words) {
-        Ok(is_so) => Ok(is_so),
-        Err(_) => is_printed(alloc, value, words),
-    }
+/// Whether the value is printed so; none if memory was refused.
+pub(crate) fn says<T: Display>(alloc: Global, value: &T, words: &str) -> Option<bool> {
+    Some(format!(in alloc; "{value}").ok()?.as_str() == words)
 }

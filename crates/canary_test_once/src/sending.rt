@@ -3,13 +3,14 @@
 //!
 //! A row is the status of its answer, and what is sent (rows.rt).
 
-use crate::rows::{event, name, refused};
+use crate::rows::{check, event, made, name, refused};
 use canary_once::book::{Book, BookFault};
-use canary_once::event::Answer;
+use canary_once::event::{Answer, Event};
 use canary_once::memory::MemoryBook;
 use canary_once::run::run;
 use std::alloc::Global;
 use std::process::Abort;
+use std::slice;
 
 /// The status of a row, and what it sends.
 pub(crate) fn parts(row: &str) -> Option<(u16, &str)> {
@@ -17,18 +18,25 @@ pub(crate) fn parts(row: &str) -> Option<(u16, &str)> {
     Some((status.parse().ok()?, asked))
 }
 
-/// Whether an answer has this status; none if it is 503 for memory.
-pub(crate) fn has_status(answer: &Answer, status: u16) -> Option<bool> {
-    match answer {
+/// Whether an answer has this status; none if it is 503 for memory, or if there is none.
+pub(crate) fn has_status(answer: Option<&Answer>, status: u16) -> Option<bool> {
+    match answer? {
         Answer::Replied(reply) => Some(reply.status.code() == status),
         Answer::Unavailable(fault) => refused(*fault == BookFault::Memory),
     }
 }
 
+fn answer_to(alloc: Global, book: &mut MemoryBook, event: Option<&Event>) -> Option<Answer> {
+    run(alloc, book, slice::from_ref(event?)).ok()?.pop()
+}
+
+fn answer_to_copy(alloc: Global, book: &mut MemoryBook, event: Option<&Event>) -> Option<Answer> {
+    answer_to(alloc, book, made(&event?.copy(alloc)))
+}
+
 /// The answer to a copy of what is asked, or none if memory was refused before it.
 pub(crate) fn answer(alloc: Global, book: &mut MemoryBook, asked: &str) -> Option<Answer> {
-    let event = event(alloc, asked)?.copy(alloc).ok()?;
-    run(alloc, book, &[event]).ok()?.pop()
+    answer_to_copy(alloc, book, event(alloc, asked).as_ref())
 }
 
 /// How many requests of the caller ops are settled.
@@ -39,7 +47,7 @@ pub(crate) fn settled(book: &mut MemoryBook) -> Option<u32> {
 /// Whether the answer to a row has its status; none if memory was refused.
 fn is_answered(alloc: Global, book: &mut MemoryBook, row: &str) -> Option<bool> {
     let (status, asked) = parts(row)?;
-    has_status(&answer(alloc, book, asked)?, status)
+    has_status(answer(alloc, book, asked).as_ref(), status)
 }
 
 /// Whether a row is answered with its status, at once or when it is sent once more since memory was
@@ -57,7 +65,7 @@ fn is_sent(alloc: Global, book: &mut MemoryBook, row: &str, again: &mut u32) -> 
 fn send_rows(rt: &impl Abort, alloc: Global, book: &mut MemoryBook, story: &str) {
     let mut again = 0;
     for row in story.lines() {
-        assert!(rt; is_sent(alloc, book, row, &mut again), "{row}");
+        check(rt, is_sent(alloc, book, row, &mut again), row);
     }
 }
 

@@ -1,6 +1,5 @@
 //! Conversations: the turns of clients whose bytes come in pieces, and who read slowly.
-use crate::rows::name;
-use canary_base::error::Memory;
+use crate::rows::{check, cut, is_right, name};
 use canary_base::moments::Moment;
 use canary_once::book::Book;
 use canary_once::clock::StepClock;
@@ -10,7 +9,6 @@ use std::alloc::Global;
 use std::io;
 use std::io::{ErrorKind, Read, Write};
 use std::process::Abort;
-use std::test::Fail;
 
 // A service, a start, a promotion that comes twice, a number ahead, and a query.
 const STREAM: &str = concat!(
@@ -171,7 +169,7 @@ struct Ran {
 }
 
 // A clock that ticks by a second.
-fn seconds() -> StepClock {
+pub(crate) fn seconds() -> StepClock {
     let start = Moment::new(1_767_225_600).unwrap();
     StepClock::new(start, Moment::new(1).unwrap())
 }
@@ -185,12 +183,11 @@ struct Desk {
     writer: Outgoing,
 }
 
-// A new one, of which a write takes so many bytes.
-fn new_desk(alloc: Global, max_unsent: usize, size: usize) -> Result<Desk, Memory> {
-    let routes = Routes::new(alloc)?;
-    Ok(Desk {
-        talk: Conversation::new(alloc, max_unsent)?,
+// One in which nothing was said, of which a write takes so many bytes.
+fn desk_of(alloc: Global, routes: Routes, talk: Conversation, size: usize) -> Desk {
+    Desk {
         routes,
+        talk,
         book: MemoryBook::new(alloc),
         writer: Outgoing {
             bytes: Vec::new(alloc),
@@ -198,42 +195,126 @@ fn new_desk(alloc: Global, max_unsent: usize, size: usize) -> Result<Desk, Memor
             calls: 0,
             writes: 0,
         },
-    })
+    }
 }
 
+// A new one; none if memory was refused.
+fn new_desk(alloc: Global, max_unsent: usize, size: usize) -> Option<Desk> {
+    let talk = Conversation::new(alloc, max_unsent).ok()?;
+    Some(desk_of(alloc, Routes::new(alloc).ok()?, talk, size))
+}
+
+// What is tried of a conversation.
+#[derive(Clone, Copy)]
+enum Trial<'a> {
+    // The stream is answered in pieces of this size, with no more owed than that and one reply.
+    Answers {
+        size: usize,
+        most: usize,
+    },
+    // Messages that come at once go out by so many writes, in no more than so many turns.
+    Writes {
+        stream: &'a str,
+        pace: Paced,
+        writes: usize,
+        turns: u32,
+    },
+    // So many replies come at first, at this pace, and so many once each query is answered.
+    Waits {
+        stream: &'a str,
+        pace: Paced,
+        replies: (usize, usize),
+    },
+    // It waits for more of its client, or not, after this, while no history is answered.
+    ReadsOn {
+        stream: &'a str,
+        is_so: bool,
+    },
+    // Each new request has a reply, and is settled if that accepts it.
+    Settles,
+    // It is open at first, and stands so after it has answered these bytes.
+    Stands {
+        stream: &'a str,
+        stage: ConversationState,
+    },
+}
+
+// What each call answers of such a conversation is none if memory was refused.
 impl Desk {
-    // Takes turns to the end of the conversation, so many at most.
-    fn run(
+    fn shows(&mut self, alloc: Global, trial: Trial) -> Option<bool> {
+        match trial {
+            Trial::Answers { size, most } => self.answers(alloc, size, most),
+            Trial::Writes {
+                stream,
+                pace,
+                writes,
+                turns,
+            } => self.writes(alloc, stream, pace, (writes, turns)),
+            Trial::Waits {
+                stream,
+                pace,
+                replies,
+            } => Some(self.replies_in_turn(alloc, stream, pace) == replies),
+            Trial::ReadsOn { stream, is_so } => Some(self.reads_on(alloc, stream)? == is_so),
+            Trial::Settles => self.settles(alloc),
+            Trial::Stands { stream, stage } => Some(self.stands(alloc, stream, stage)),
+        }
+    }
+
+    fn turn(
         &mut self,
         alloc: Global,
         reader: &mut Incoming,
+        now: &mut StepClock,
         pace: Paced,
-        most: u32,
-    ) -> Result<Ran, Memory> {
-        let (mut now, mut pace) = (seconds(), pace);
+    ) -> Wants {
+        let mut pace = pace;
+        self.talk.turn(
+            alloc,
+            &self.routes,
+            reader,
+            &mut self.writer,
+            now,
+            &mut self.book,
+            &mut pace,
+        )
+    }
+
+    // Takes turns to the end of the conversation, so many at most.
+    fn run(&mut self, alloc: Global, reader: &mut Incoming, pace: Paced, most: u32) -> Option<Ran> {
+        let mut now = seconds();
         let mut unsent = 0;
         for turns in 0..most {
-            let wants = self.talk.turn(
-                alloc,
-                &self.routes,
-                reader,
-                &mut self.writer,
-                &mut now,
-                &mut self.book,
-                &mut pace,
-            );
+            let wants = self.turn(alloc, reader, &mut now, pace);
             unsent = unsent.max(self.talk.unsent_bytes());
             match wants {
-                Wants::Close(Cause::Memory) => return Err(Memory),
-                Wants::Close(Cause::EndOfInput) => return Ok(Ran { unsent, turns }),
+                Wants::Close(Cause::Memory) => return None,
+                Wants::Close(Cause::EndOfInput) => return Some(Ran { unsent, turns }),
                 Wants::Close(_) => break,
                 _ => {}
             }
         }
-        Ok(Ran {
+        Some(Ran {
             unsent,
             turns: most,
         })
+    }
+
+    fn answers(&mut self, alloc: Global, size: usize, most: usize) -> Option<bool> {
+        let ran = self.run(alloc, &mut reading(STREAM, size, 0), FAR, MAX_TURNS)?;
+        let is_bounded = ran.unsent < most.max(1).saturating_add(300) && ran.turns < MAX_TURNS;
+        Some(is_bounded && self.writer.bytes.as_slice() == REPLIES.as_bytes())
+    }
+
+    fn writes(
+        &mut self,
+        alloc: Global,
+        stream: &str,
+        pace: Paced,
+        (writes, turns): (usize, u32),
+    ) -> Option<bool> {
+        let ran = self.run(alloc, &mut reading(stream, 100_000, 1), pace, MAX_TURNS)?;
+        Some(self.writer.writes == writes && ran.turns <= turns)
     }
 
     // How many replies there are after ten turns more, which take all that is sent at once.
@@ -241,77 +322,145 @@ impl Desk {
         let _ = self.run(alloc, reader, pace, 10);
         count_of(&self.writer.bytes, "HTTP/1.1 ")
     }
+
+    // How many replies there are after some turns, first at this pace and then while each query is
+    // answered.
+    fn replies_in_turn(&mut self, alloc: Global, stream: &str, pace: Paced) -> (usize, usize) {
+        let mut reader = reading(stream, 1000, 1);
+        let before = self.replies(alloc, &mut reader, pace);
+        (before, self.replies(alloc, &mut reader, FAR))
+    }
+
+    fn reads_on(&mut self, alloc: Global, stream: &str) -> Option<bool> {
+        self.run(alloc, &mut reading(stream, 1000, 1), CHEAP, 1)?;
+        let wants = self.turn(alloc, &mut reading("", 1, 0), &mut seconds(), CHEAP);
+        Some(wants == Wants::Read)
+    }
+
+    // How many requests are settled.
+    fn settled(&mut self) -> Option<usize> {
+        Some(self.book.settled(&name("ops")?).ok()? as usize)
+    }
+
+    fn settles(&mut self, alloc: Global) -> Option<bool> {
+        self.writer.bytes.reserve(1_000).ok()?;
+        let replies = self.replies(alloc, &mut reading(NEW, 1000, 1), FAR);
+        let accepted = count_of(&self.writer.bytes, "HTTP/1.1 200 OK");
+        Some(replies == 2 && self.settled()? == accepted)
+    }
+
+    fn stands(&mut self, alloc: Global, stream: &str, stage: ConversationState) -> bool {
+        let before = self.talk.stage();
+        self.replies(alloc, &mut reading(stream, 1000, 1), FAR);
+        before == ConversationState::Open && self.talk.stage() == stage
+    }
 }
 
-// Whether the stream is answered in these pieces, with no more owed than that and one reply.
-fn is_answered(alloc: Global, size: usize, out: usize, most: usize) -> Result<bool, Memory> {
-    let mut desk = new_desk(alloc, most, out)?;
-    let ran = desk.run(alloc, &mut reading(STREAM, size, 0), FAR, MAX_TURNS)?;
-    let is_bounded = ran.unsent < most.max(1).saturating_add(300) && ran.turns < MAX_TURNS;
-    Ok(is_bounded && desk.writer.bytes.as_slice() == REPLIES.as_bytes())
+// Whether a new conversation shows that, in which so much may be owed, and of which a write takes
+// so many bytes.
+fn shows(alloc: Global, max_unsent: usize, size: usize, trial: Trial) -> Option<bool> {
+    match &mut new_desk(alloc, max_unsent, size) {
+        Some(desk) => desk.shows(alloc, trial),
+        None => None,
+    }
 }
 
-// Asked again if a reply may say that memory was refused.
-#[test]
-fn answers_in_any_pieces(rt: HostRuntime) -> Result<(), Fail> {
-    let alloc = rt.alloc();
-    for size in [1usize, 7, 50, 1000, 100_000] {
-        for out in [1usize, 50, 100_000] {
-            for most in [0usize, 1, 300, 16_384] {
-                assert!(rt;
-                    is_answered(alloc, size, out, most)? || is_answered(alloc, size, out, most)?
-                );
-            }
+// Ends the test if a call is wrong that was made again: one that is refused memory, or whose
+// replies may say that it was, is right the second time.
+fn check_either(rt: &impl Abort, first: Option<bool>, second: Option<bool>, row: &str) {
+    check(rt, first == Some(true) || second == Some(true), row);
+}
+
+fn check_trial(rt: &impl Abort, alloc: Global, trial: Trial, row: &str) {
+    let first = shows(alloc, 16_384, 1_000, trial);
+    check_either(rt, first, shows(alloc, 16_384, 1_000, trial), row);
+}
+
+// How many replies begin so; the text has 15 bytes at most.
+fn count_of(replies: &[u8], text: &str) -> usize {
+    let mut count: usize = 0;
+    for window in replies.windows(15) {
+        if window.starts_with(text.as_bytes()) {
+            count = count.saturating_add(1);
         }
     }
-    Ok(())
+    count
+}
+
+// Sizes of what is read, of what a write takes, and of what may be owed.
+const READ: &str = "1 7 50 1000 100000";
+
+const TAKEN: &str = "1 50 100000";
+
+const OWED: &str = "0 1 300 16384";
+
+// Whether the stream is answered with these sizes.
+fn is_answered_in(alloc: Global, read: &str, taken: &str, owed: &str) -> Option<bool> {
+    let (size, most) = (read.parse().ok()?, owed.parse().ok()?);
+    let trial = Trial::Answers { size, most };
+    shows(alloc, most, taken.parse().ok()?, trial)
+}
+
+fn check_pieces(rt: &impl Abort, alloc: Global, read: &str, taken: &str) {
+    for owed in OWED.split(' ') {
+        let first = is_answered_in(alloc, read, taken, owed);
+        check_either(rt, first, is_answered_in(alloc, read, taken, owed), read);
+    }
+}
+
+#[test]
+fn answers_in_any_pieces(rt: HostRuntime) {
+    for read in READ.split(' ') {
+        for taken in TAKEN.split(' ') {
+            check_pieces(&rt, rt.alloc(), read, taken);
+        }
+    }
 }
 
 // So many messages take 5 turns of 64, and 4 of 65.
 const MESSAGES: usize = 260;
 
-// Whether messages that come at once go out by so many writes, in no more than so many turns.
-fn is_written(
-    alloc: Global,
-    stream: &str,
-    pace: Paced,
-    writes: usize,
-    turns: u32,
-) -> Result<bool, Memory> {
-    let mut desk = new_desk(alloc, 1_000_000, 1_000_000)?;
-    let ran = desk.run(alloc, &mut reading(stream, 100_000, 1), pace, MAX_TURNS)?;
-    Ok(desk.writer.writes == writes && ran.turns <= turns)
+fn put_messages(stream: &mut String) -> Option<()> {
+    for _ in 0..MESSAGES {
+        stream.push_str("GET /nope HTTP/1.1\r\n\r\n").ok()?;
+    }
+    Some(())
+}
+
+fn messages(alloc: Global) -> Option<String> {
+    let mut stream = String::new(alloc);
+    put_messages(&mut stream)?;
+    Some(stream)
+}
+
+fn is_written(alloc: Global, pace: Paced, writes: usize, turns: u32) -> Option<bool> {
+    let stream = messages(alloc)?;
+    let trial = Trial::Writes {
+        stream: &stream,
+        pace,
+        writes,
+        turns,
+    };
+    shows(alloc, 1_000_000, 1_000_000, trial)
 }
 
 // Whether 260 messages at once go out by one write a turn, if it takes 64 a turn.
-fn is_written_by_turns(alloc: Global, stream: &str) -> Result<bool, Memory> {
-    is_written(alloc, stream, FAR, 5, 8)
+fn is_written_by_turns(alloc: Global) -> Option<bool> {
+    is_written(alloc, FAR, 5, 8)
 }
 
 // Whether each of 260 messages has a turn of its own, if a turn goes on with no other.
-fn is_written_one_by_one(alloc: Global, stream: &str) -> Result<bool, Memory> {
-    is_written(alloc, stream, ONE_BY_ONE, MESSAGES, MAX_TURNS)
-}
-
-fn put_messages(stream: &mut String) -> Result<(), Memory> {
-    for _ in 0..MESSAGES {
-        stream.push_str("GET /nope HTTP/1.1\r\n\r\n")?;
-    }
-    Ok(())
-}
-
-fn check_many(rt: &impl Abort, alloc: Global, stream: &str) -> Result<(), Fail> {
-    assert!(rt; is_written_by_turns(alloc, stream)? || is_written_by_turns(alloc, stream)?);
-    assert!(rt; is_written_one_by_one(alloc, stream)? || is_written_one_by_one(alloc, stream)?);
-    Ok(())
+fn is_written_one_by_one(alloc: Global) -> Option<bool> {
+    is_written(alloc, ONE_BY_ONE, MESSAGES, MAX_TURNS)
 }
 
 #[test]
-fn answers_many_at_once(rt: HostRuntime) -> Result<(), Fail> {
+fn answers_many_at_once(rt: HostRuntime) {
     let alloc = rt.alloc();
-    let mut stream = String::new(alloc);
-    put_messages(&mut stream)?;
-    check_many(&rt, alloc, stream.as_str())
+    let first = is_written_by_turns(alloc);
+    check_either(&rt, first, is_written_by_turns(alloc), "by turns");
+    let first = is_written_one_by_one(alloc);
+    check_either(&rt, first, is_written_one_by_one(alloc), "one by one");
 }
 
 // A request and a query.
@@ -321,32 +470,18 @@ const TICK_AND_QUERY: &str = concat!(
     "\r\nGET /services/web HTTP/1.1\r\n\r\n"
 );
 
-// How many replies a conversation has after some turns, first at this pace and then while each
-// query is answered.
-fn replies_before_and_after(
-    alloc: Global,
-    stream: &str,
-    pace: Paced,
-) -> Result<(usize, usize), Memory> {
-    let mut desk = new_desk(alloc, 16_384, 1_000)?;
-    let mut reader = reading(stream, 1000, 1);
-    let before = desk.replies(alloc, &mut reader, pace);
-    Ok((before, desk.replies(alloc, &mut reader, FAR)))
-}
-
 #[test]
-fn queries_wait(rt: HostRuntime) -> Result<(), Fail> {
-    assert!(rt; replies_before_and_after(rt.alloc(), TICK_AND_QUERY, WAITING)? == (1, 2));
-    Ok(())
+fn queries_wait(rt: HostRuntime) {
+    let trial = Trial::Waits {
+        stream: TICK_AND_QUERY,
+        pace: WAITING,
+        replies: (1, 2),
+    };
+    check_trial(&rt, rt.alloc(), trial, TICK_AND_QUERY);
 }
 
-// A query, and the begin of one that is a history, or seems to be one.
-const BEFORE_HISTORY: &str = "GET /services/web HTTP/1.1\r\n\r\n\r\nGET ";
-
-// What stands after its target.
-const AFTER_HISTORY: &str = " HTTP/1.1\r\n\r\n";
-
-// Targets, each with how many of two replies come while no history is answered.
+// Targets of a query that follows another one, each with how many of two replies come while no
+// history is answered.
 const TARGETS: &str = "1 /services/web/history
 1 /services/web/history?x=/y
 1 /services/-/history
@@ -358,51 +493,48 @@ const TARGETS: &str = "1 /services/web/history
 2 /services/a/b/history
 2 /services/web?/history";
 
+// A query, and one of this target, which is that of a history, or seems to be.
+fn queries(alloc: Global, target: &str) -> Option<String> {
+    let first = "GET /services/web HTTP/1.1\r\n\r\n\r\n";
+    format!(in alloc; "{first}GET {target} HTTP/1.1\r\n\r\n").ok()
+}
+
 // Whether a query of this target waits, if it is to, while no history is answered.
-fn waits_as(alloc: Global, row: &str) -> Result<bool, Memory> {
-    let Some((replies, target)) = row.split_once(' ') else {
-        return Ok(false);
+fn waits_as(alloc: Global, row: &str) -> Option<bool> {
+    let (before, target) = cut(row, ' ');
+    let stream = queries(alloc, target)?;
+    let replies = if before == "1" { (1, 2) } else { (2, 2) };
+    let trial = Trial::Waits {
+        stream: &stream,
+        pace: CHEAP,
+        replies,
     };
-    let mut stream = String::new(alloc);
-    stream.push_str(BEFORE_HISTORY)?;
-    stream.push_str(target)?;
-    stream.push_str(AFTER_HISTORY)?;
-    let wanted = if replies == "1" { (1, 2) } else { (2, 2) };
-    Ok(replies_before_and_after(alloc, stream.as_str(), CHEAP)? == wanted)
+    shows(alloc, 16_384, 1_000, trial)
 }
 
 #[test]
-fn histories_wait(rt: HostRuntime) -> Result<(), Fail> {
+fn histories_wait(rt: HostRuntime) {
     for row in TARGETS.lines() {
-        assert!(rt; waits_as(rt.alloc(), row)?);
+        let first = waits_as(rt.alloc(), row);
+        check_either(&rt, first, waits_as(rt.alloc(), row), row);
     }
-    Ok(())
-}
-
-// Whether a conversation waits for more of its client after this, while no history is answered.
-fn is_read_on(alloc: Global, stream: &str) -> Result<bool, Memory> {
-    let mut desk = new_desk(alloc, 16_384, 1_000)?;
-    desk.run(alloc, &mut reading(stream, 1000, 1), CHEAP, 1)?;
-    let (mut now, mut pace) = (seconds(), CHEAP);
-    let mut reader = reading("", 1, 0);
-    let wants = desk.talk.turn(
-        alloc,
-        &desk.routes,
-        &mut reader,
-        &mut desk.writer,
-        &mut now,
-        &mut desk.book,
-        &mut pace,
-    );
-    Ok(wants == Wants::Read)
 }
 
 // A part of a history does not wait for its turn, so the time for the rest of it goes on.
 #[test]
-fn parts_of_histories_are_read_on(rt: HostRuntime) -> Result<(), Fail> {
-    assert!(rt; is_read_on(rt.alloc(), "GET /services/web/history HTTP/1.1\r\nHost: ")?);
-    assert!(rt; !is_read_on(rt.alloc(), "GET /services/web/history HTTP/1.1\r\n\r\n")?);
-    Ok(())
+fn parts_of_histories_are_read_on(rt: HostRuntime) {
+    let stream = "GET /services/web/history HTTP/1.1\r\nHost: ";
+    let part = Trial::ReadsOn {
+        stream,
+        is_so: true,
+    };
+    check_trial(&rt, rt.alloc(), part, stream);
+    let stream = "GET /services/web/history HTTP/1.1\r\n\r\n";
+    let whole = Trial::ReadsOn {
+        stream,
+        is_so: false,
+    };
+    check_trial(&rt, rt.alloc(), whole, stream);
 }
 
 // The requests of STREAM that are new, and settled as they come once.
@@ -414,56 +546,27 @@ const NEW: &str = concat!(
     r#"{"start":{"service":"web","version":"v2"}}"#
 );
 
-// How many replies begin so; the text has 15 bytes at most.
-fn count_of(replies: &[u8], text: &str) -> usize {
-    replies
-        .windows(15)
-        .filter(|window| window.starts_with(text.as_bytes()))
-        .count()
-}
-
-fn check_new(rt: &impl Abort, alloc: Global, desk: &mut Desk) -> Result<(), Fail> {
-    desk.writer.bytes.reserve(1_000)?;
-    let replies = desk.replies(alloc, &mut reading(NEW, 1000, 1), FAR);
-    let Ok(settled) = desk.book.settled(&name("ops").ok_or("a name")?) else {
-        return Err("a count".into());
-    };
-    assert!(rt; replies == 2);
-    assert!(rt; count_of(&desk.writer.bytes, "HTTP/1.1 200 OK") == settled as usize);
-    Ok(())
-}
-
 // Each request has a reply, and is settled if that accepts it, wherever memory is refused.
 #[test]
-fn settles_nothing_unanswered(rt: HostRuntime) -> Result<(), Fail> {
+fn settles_nothing_unanswered(rt: HostRuntime) {
     let alloc = rt.alloc();
-    let mut desk = new_desk(alloc, 16_384, 1_000_000)?;
-    check_new(&rt, alloc, &mut desk)
+    let first = shows(alloc, 16_384, 1_000_000, Trial::Settles);
+    let second = shows(alloc, 16_384, 1_000_000, Trial::Settles);
+    check(&rt, is_right(first, second), "new requests");
 }
 
-// Whether a conversation is open at first, and stands so after it has answered these bytes.
-fn is_at(alloc: Global, stream: &str, stage: ConversationState) -> Result<bool, Memory> {
-    let mut desk = new_desk(alloc, 16_384, 1_000)?;
-    let before = desk.talk.stage();
-    desk.replies(alloc, &mut reading(stream, 1000, 1), FAR);
-    Ok(before == ConversationState::Open && desk.talk.stage() == stage)
-}
-
-// Asked again if memory was refused.
 #[test]
-fn stages_of_conversations(rt: HostRuntime) -> Result<(), Fail> {
-    let alloc = rt.alloc();
-    for (stream, stage) in [
-        (
-            "GET /services/web HTTP/1.1\r\n\r\n",
-            ConversationState::Open,
-        ),
-        (
-            "GET /services/web HTTP/1.1\r\nConnection: close\r\n\r\n",
-            ConversationState::Over,
-        ),
-    ] {
-        assert!(rt; is_at(alloc, stream, stage)? || is_at(alloc, stream, stage)?);
-    }
-    Ok(())
+fn stages_of_conversations(rt: HostRuntime) {
+    let stream = "GET /services/web HTTP/1.1\r\n\r\n";
+    let open = Trial::Stands {
+        stream,
+        stage: ConversationState::Open,
+    };
+    check_trial(&rt, rt.alloc(), open, stream);
+    let stream = "GET /services/web HTTP/1.1\r\nConnection: close\r\n\r\n";
+    let over = Trial::Stands {
+        stream,
+        stage: ConversationState::Over,
+    };
+    check_trial(&rt, rt.alloc(), over, stream);
 }

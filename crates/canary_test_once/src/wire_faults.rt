@@ -1,14 +1,10 @@
-//! A store that fails once under a stream, at each of its calls, and the printed texts of faults.
-use canary_base::error::Memory;
+//! A store that fails once under a stream, at each of its calls.
+use crate::rows::{check, is_right};
+use crate::wire_conversation::seconds;
 use canary_base::lists::Listed;
-use canary_base::moments::Moment;
 use canary_base::names::Name;
 use canary_base::numbers::Number;
-use canary_files::export::ExportFault;
-use canary_files::import::ImportFault;
-use canary_manifest::command::WireFault;
 use canary_once::book::{Book, BookFault, Receipt, Settlement};
-use canary_once::clock::StepClock;
 use canary_once::record::RunRecord;
 use canary_plan::line::Line;
 use canary_plan::templates::Templates;
@@ -16,7 +12,6 @@ use canary_release::effect::Recorded;
 use canary_release::service::Service;
 use canary_wire::serve::{Ended, ServeFault, serve};
 use std::alloc::Global;
-use std::test::Fail;
 
 // A request that is sent twice.
 const STREAM: &str = concat!(
@@ -37,11 +32,11 @@ const REPLIES: &str = concat!(
 );
 
 // A book with nothing settled, whose store fails once, at the call of this number.
-#[derive(Drop)]
+#[derive(Clone, Copy)]
 struct Failing {
     alloc: Global,
-    calls: u32,
-    fails: u32,
+    calls: usize,
+    fails: usize,
 }
 
 impl Failing {
@@ -102,116 +97,56 @@ impl Book for Failing {
 }
 
 // Serves the stream over a store that fails at this call.
-fn serve_failing(alloc: Global, written: &mut Vec<u8>, fails: u32) -> Result<Ended, ServeFault> {
-    let start = Moment::new(1_767_225_600).unwrap();
-    let mut now = StepClock::new(start, Moment::new(1).unwrap());
+fn serve_failing(alloc: Global, written: &mut Vec<u8>, fails: usize) -> Result<Ended, ServeFault> {
     let mut stream = STREAM.as_bytes();
     let mut book = Failing {
         alloc,
         calls: 0,
         fails,
     };
-    serve(alloc, &mut stream, written, &mut now, &mut book)
+    serve(alloc, &mut stream, written, &mut seconds(), &mut book)
 }
 
-// Whether the failure was reported once, and the request was settled as it came again.
-fn went_on(ended: Result<Ended, ServeFault>, written: &[u8]) -> Result<bool, Memory> {
-    let tells_of_memory = written
-        .windows(9)
-        .any(|window| window == "no-memory".as_bytes());
-    if ended == Err(ServeFault::Memory) || tells_of_memory {
-        return Err(Memory);
+fn tells_of_memory(written: &[u8]) -> bool {
+    for window in written.windows(9) {
+        if window == "no-memory".as_bytes() {
+            return true;
+        }
     }
-    Ok(ended == Ok(Ended::EndOfInput) && written == REPLIES.as_bytes())
+    false
 }
 
-fn goes_on(alloc: Global, fails: u32) -> Result<bool, Memory> {
-    let mut written = Vec::with_capacity(alloc, 1_000)?;
+// Whether the failure was reported once, and the request was settled as it came again; none if
+// memory was refused.
+fn went_on(ended: Result<Ended, ServeFault>, written: &[u8]) -> Option<bool> {
+    if ended == Err(ServeFault::Memory) || tells_of_memory(written) {
+        return None;
+    }
+    Some(ended == Ok(Ended::EndOfInput) && written == REPLIES.as_bytes())
+}
+
+fn goes_on(alloc: Global, fails: usize) -> Option<bool> {
+    let mut written = Vec::with_capacity(alloc, 1_000).ok()?;
     let ended = serve_failing(alloc, &mut written, fails);
-    went_on(ended, written.as_slice())
+    went_on(ended, &written)
 }
 
-// A promotion asks for the count of its caller, the service and the templates, and is settled.
+// What a promotion asks of a book, in that order.
+const CALLS: &str = "\
+the count of its caller
+the service
+the templates
+that it is settled";
+
 #[test]
-fn a_store_that_fails_once(rt: HostRuntime) -> Result<(), Fail> {
+fn a_store_that_fails_once(rt: HostRuntime) {
     let alloc = rt.alloc();
-    for fails in 1u32..5 {
-        assert!(rt; goes_on(alloc, fails)?, "{fails}");
+    for (before, what) in CALLS.lines().enumerate() {
+        let fails = before.saturating_add(1);
+        check(
+            &rt,
+            is_right(goes_on(alloc, fails), goes_on(alloc, fails)),
+            what,
+        );
     }
-    Ok(())
-}
-
-// The faults of bodies and of streams.
-const WIRE_FAULTS: &str = "\
-    the body is no command
-the body asks for what the desk does not do
-out of memory
-the input could not be read
-the output could not be written
-out of memory";
-
-fn says_wire_faults(alloc: Global) -> Result<bool, Memory> {
-    let text = format!(in alloc;
-        "{}\n{}\n{}\n{}\n{}\n{}",
-        WireFault::Unreadable,
-        WireFault::Unsupported,
-        WireFault::Memory,
-        ServeFault::Read,
-        ServeFault::Write,
-        ServeFault::Memory
-    )?;
-    Ok(text.as_str() == WIRE_FAULTS)
-}
-
-#[test]
-fn says_what_went_wrong(rt: HostRuntime) -> Result<(), Fail> {
-    assert!(rt; says_wire_faults(rt.alloc())?);
-    Ok(())
-}
-
-// The faults of an import.
-const IMPORT_FAULTS: &str = "\
-    the input could not be read
-the output could not be written
-out of memory
-the first record is not the header
-the file has too many rows";
-
-fn says_import_faults(alloc: Global) -> Result<bool, Memory> {
-    let text = format!(in alloc;
-        "{}\n{}\n{}\n{}\n{}",
-        ImportFault::Read,
-        ImportFault::Write,
-        ImportFault::Memory,
-        ImportFault::Header,
-        ImportFault::RowsSpent
-    )?;
-    Ok(text.as_str() == IMPORT_FAULTS)
-}
-
-// The faults of an export.
-const EXPORT_FAULTS: &str = "\
-    out of memory
-the store failed
-the output could not be written
-too many measurements
-unknown service";
-
-fn says_export_faults(alloc: Global) -> Result<bool, Memory> {
-    let text = format!(in alloc;
-        "{}\n{}\n{}\n{}\n{}",
-        ExportFault::Memory,
-        ExportFault::Storage,
-        ExportFault::Write,
-        ExportFault::TooMany,
-        ExportFault::UnknownService
-    )?;
-    Ok(text.as_str() == EXPORT_FAULTS)
-}
-
-#[test]
-fn says_why_a_file_ended(rt: HostRuntime) -> Result<(), Fail> {
-    assert!(rt; says_import_faults(rt.alloc())?);
-    assert!(rt; says_export_faults(rt.alloc())?);
-    Ok(())
 }
