@@ -39,7 +39,7 @@ pub(crate) struct Look<'a, W> {
     text: String,
 }
 
-impl<'a, W> Look<'a, W> {
+impl<'a, W: Write> Look<'a, W> {
     /// Of which nothing is shown yet.
     pub(crate) fn of(alloc: Global, sight: Sight<'a>, output: W) -> Look<'a, W> {
         Look {
@@ -52,6 +52,17 @@ impl<'a, W> Look<'a, W> {
     /// The text of a status; empty of a page.
     pub(crate) fn text(&self) -> &str {
         self.text.as_str()
+    }
+
+    /// Has all that was written go out.
+    ///
+    /// # Errors
+    /// `Write` if the output failed.
+    pub(crate) fn flush(&mut self) -> Result<(), Fault> {
+        match self.output.flush() {
+            Ok(()) => Ok(()),
+            Err(_) => Err(Fault::Write),
+        }
     }
 }
 
@@ -110,7 +121,7 @@ impl<W: Write> Work for Look<'_, W> {
 /// `File` if there is no such file, and nothing is made then, or if no copy can be made.
 /// What `with_desk_file` answers, but `InUse` only if the file changes too fast to be copied.
 /// `Write` if the output failed.
-pub(crate) fn look<W: Write, F: Write>(
+pub(crate) fn look_at<W: Write, F: Write>(
     rt: &HostRuntime,
     file: &str,
     sight: &mut Look<'_, W>,

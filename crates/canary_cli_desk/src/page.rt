@@ -1,10 +1,10 @@
 //! `page`: the services of a desk as a page.
-use crate::look::{Look, Sight, look};
+use crate::look::{Look, Sight, look_at};
 use crate::shelf::{Shelf, look_at_folder};
 use canary_backup::copying::Pair;
 use canary_backup::draft::Draft;
 use canary_programs::fault::Fault;
-use std::io::{self, Write};
+use std::io::Write;
 use std::thread;
 use std::time::Duration;
 
@@ -87,8 +87,7 @@ fn draw_to<W: Write, F: Write>(
     is_terminal: bool,
 ) -> Result<(), Fault> {
     if out == STANDARD_OUTPUT {
-        draw_whole(rt, file, sight, output, errors, is_terminal)?;
-        return flushed(output.flush());
+        return draw_whole(rt, file, sight, output, errors, is_terminal);
     }
     if desk.has_name(rt, out)? {
         return Err(Fault::File);
@@ -111,15 +110,8 @@ fn draw_whole<W: Write + Drop, F: Write>(
     is_terminal: bool,
 ) -> Result<(), Fault> {
     let mut sight = Look::of(rt.alloc(), sight, output);
-    look(rt, file, &mut sight, errors, is_terminal)
-}
-
-// What a flush came to: any error of it is `Write`.
-fn flushed(flushed: io::Result<()>) -> Result<(), Fault> {
-    match flushed {
-        Ok(()) => Ok(()),
-        Err(_) => Err(Fault::Write),
-    }
+    look_at(rt, file, &mut sight, errors, is_terminal)?;
+    sight.flush()
 }
 
 // Draws the page into a draft, and gives it its name once it is whole and on the disk.

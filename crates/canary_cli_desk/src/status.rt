@@ -1,5 +1,5 @@
 //! `status`: the services of a desk at a glance.
-use crate::look::{Look, Sight, look};
+use crate::look::{Look, Sight, look_at};
 use canary_programs::fault::Fault;
 use canary_programs::status::{Drawing, draw};
 use std::io::{self, Write};
@@ -43,6 +43,6 @@ fn status_once<W: Write, F: Write>(
     is_terminal: bool,
 ) -> Result<(), Fault> {
     let mut sight = Look::of(rt.alloc(), Sight::Status(drawing), io::sink());
-    look(rt, file, &mut sight, errors, is_terminal)?;
+    look_at(rt, file, &mut sight, errors, is_terminal)?;
     draw(sight.text(), drawing, output)
 }
