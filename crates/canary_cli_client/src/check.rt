@@ -40,7 +40,7 @@ pub fn check<P: Files + AllocGlobal, W: Write, F: Write>(
     output: &mut W,
     errors: &mut F,
 ) -> Result<ManifestExit, Fault>
-    ensures shown { result ≡ Ok ManifestExit.Done
+    ensures { result ≡ Ok ManifestExit.Done
         → Appends (W.contents output.old) (W.contents output.new) (codes "ok\n") }
 {
     match checked {
@@ -58,7 +58,7 @@ fn check_manifest<P: Files + AllocGlobal, W: Write, F: Write>(
     output: &mut W,
     errors: &mut F,
 ) -> Result<ManifestExit, Fault>
-    ensures shown { result ≡ Ok ManifestExit.Done
+    ensures { result ≡ Ok ManifestExit.Done
         → Appends (W.contents output.old) (W.contents output.new) (codes "ok\n") }
 {
     let manifest = read_file(rt, file)?;
@@ -89,7 +89,7 @@ fn check_documents<W: Write, F: Write>(
     output: &mut W,
     errors: &mut F,
 ) -> Result<ManifestExit, Fault>
-    ensures shown { result ≡ Ok ManifestExit.Done
+    ensures { result ≡ Ok ManifestExit.Done
         → Appends (W.contents output.old) (W.contents output.new) (codes "ok\n") }
 {
     let mut found = String::new(alloc);
@@ -155,7 +155,7 @@ fn check_request<P: Files + AllocGlobal, W: Write, F: Write>(
     output: &mut W,
     errors: &mut F,
 ) -> Result<ManifestExit, Fault>
-    ensures shown { result ≡ Ok ManifestExit.Done
+    ensures { result ≡ Ok ManifestExit.Done
         → Appends (W.contents output.old) (W.contents output.new) (codes "ok\n") }
 {
     let body = read_file(rt, file)?;
@@ -170,7 +170,7 @@ fn check_bytes<W: Write, F: Write>(
     output: &mut W,
     errors: &mut F,
 ) -> Result<ManifestExit, Fault>
-    ensures shown { IsCheckShown strict (is_taken manifest.now) (is_attended manifest.now)
+    ensures { IsCheckShown strict (is_taken manifest.now) (is_attended manifest.now)
         (W.contents output.old) (W.contents output.new) result }
 {
     let Ok(findings) = canary_check::check::check(alloc, manifest) else {
@@ -187,7 +187,7 @@ fn check_body<W: Write, F: Write>(
     output: &mut W,
     errors: &mut F,
 ) -> Result<ManifestExit, Fault>
-    ensures shown { IsCheckShown strict (is_request_taken body.now) (is_request_attended body.now)
+    ensures { IsCheckShown strict (is_request_taken body.now) (is_request_attended body.now)
         (W.contents output.old) (W.contents output.new) result }
 {
     let Ok(findings) = canary_check::request::check_request(alloc, body) else {
@@ -204,7 +204,7 @@ fn show_findings<W: Write, F: Write>(
     output: &mut W,
     errors: &mut F,
 ) -> Result<ManifestExit, Fault>
-    ensures shown { (attended : Bool) → (IsTrue findings.is_quiet → IsTrue attended)
+    ensures { (attended : Bool) → (IsTrue findings.is_quiet → IsTrue attended)
         → IsCheckShown strict findings.is_taken attended
         (W.contents output.old) (W.contents output.new) result }
 {
