@@ -1,3 +1,1 @@
-pub mod Opened
 pub mod Performed
-pub mod Watching
