@@ -216,6 +216,20 @@ def try_counted(program, folder):
             fail(f"counted: no row {row!r} in {told!r}")
 
 
+def try_weights(program, folder):
+    """What is said of a share of requests is what the desk asks for: the spoken words of each bar,
+    and the key at the end of the page."""
+    file = os.path.join(folder, "states.db")
+    root = look(run([program, "page", "--db", file, "-"], "weights"), "weights")
+    told = {bar.attributes["aria-label"] for bar in root.all("svg", "bar")}
+    wanted = {f"v2 is to have {percent} percent" for percent in (0, 10, 20, 30, 100)}
+    if told != wanted | {"v1 is to have 100 percent"}:
+        fail(f"weights: the bars say {sorted(told)}")
+    key = root.first("p", "key").text()
+    if "A weight is the share of requests that the desk asks for: no router confirms it." not in key:
+        fail(f"weights: the key is {key!r}")
+
+
 def try_many(program, folder):
     """The page of 200 services begins with an index: first the 40 that wait, as the page has
     them."""
@@ -406,6 +420,7 @@ def main(program, folder, names):
         try_breaking(program, folder)
         try_decimals(program, folder)
         try_counted(program, folder)
+        try_weights(program, folder)
         try_many(program, folder)
         try_twenty(program, folder)
         try_silence(program, folder)

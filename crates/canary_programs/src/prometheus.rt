@@ -54,7 +54,7 @@ impl Families {
             weight: Family::new(
                 alloc,
                 "service_weight_percent",
-                "The weight of the new version, in percent.",
+                "The share of requests that the desk asks for the new version, in percent.",
             ),
             step: Family::new(
                 alloc,

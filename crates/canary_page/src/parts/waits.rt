@@ -34,7 +34,7 @@ pub(crate) fn waits(page: &mut Markup, shown: &ShownService) {
     page.end(Element::Paragraph);
 }
 
-// Why a release was aborted, which version has all traffic now, and what can be said to it.
+// Why a release was aborted, which version is to have all traffic, and what can be said to it.
 fn aborted(page: &mut Markup, service: &Service, lines: &[Line]) {
     match cause_of(lines) {
         Some(run) => {
@@ -45,7 +45,7 @@ fn aborted(page: &mut Markup, service: &Service, lines: &[Line]) {
     }
     page.text(". ");
     page.text(service.stable().as_str());
-    page.text(" has all traffic.");
+    page.text(" is to have all traffic.");
     say(page, "canary do retry ", service.name());
     say_start(page, service.name(), service.stable());
 }
