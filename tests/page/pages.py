@@ -245,7 +245,8 @@ def try_weights(program, folder):
     if told != wanted | {"v1 is to have 100 percent"}:
         fail(f"weights: the bars say {sorted(told)}")
     key = root.first("p", "key").text()
-    if "A weight is the share of requests that the desk asks for: no router confirms it." not in key:
+    note = "A weight is the share of requests that the desk asks for: no router confirms it."
+    if note not in key:
         fail(f"weights: the key is {key!r}")
 
 
@@ -394,7 +395,8 @@ def want_top(program, file, is_told):
     if page.count(b"No desk") != is_told:
         fail(f"{row}: the page says so elsewhere")
     tables = run([program, "status", "--db", file], row)
-    if tables.startswith(NO_DESK + b"\n\nNAME ") != is_told or b"No desk" in tables.split(b"NAME")[1]:
+    head = NO_DESK + b"\n\n" if is_told else b""
+    if not tables.startswith(head + b"NAME ") or tables.count(b"No desk") != is_told:
         fail(f"{row}: status says {tables[:200]}")
     for form in ("--json", "--prometheus"):
         if b"No desk" in run([program, "status", form, "--db", file], row):

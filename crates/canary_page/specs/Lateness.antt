@@ -1,5 +1,5 @@
 -- When a measurement is late.
-use Rattle.std.specs.Prelude.{ℕ, ◌-◌, ◌&&◌, nat_lt, not, Bool, unwrap_or}
+use Rattle.std.specs.Prelude.{ℕ, ◌-◌, ◌&&◌, nat_lt, not, Bool, false, unwrap_or}
 use Rattle.canary_metric.specs.Metrics.{MetricValue}
 use Rattle.canary_metric.specs.Counts.{Counts}
 use Rattle.canary_metric.specs.MetricPhases.{phase_of_counts, is_completed, due_of_counts}

@@ -87,8 +87,8 @@ impl Families {
         }
     }
 
-    /// Adds the samples of a service that was passed to a moment, and of its open runs; and how many
-    /// runs of its last release that is done ended without a measurement.
+    /// Adds the samples of a service that was passed to a moment, and of its open runs; and how
+    /// many runs of its last release that is done ended without a measurement.
     pub(crate) fn add(&mut self, service: &Service, unmeasured: u64) -> Result<(), Memory> {
         let labels = service_label(self.alloc, service.name())?;
         self.add_labelled(labels.as_str(), service)?;
