@@ -169,11 +169,13 @@ fn count_late(service: &Service) -> u64 {
 
 // How many measurements of an open run are late.
 fn count_late_of(run: &OpenRun, now: Moment) -> u64 {
-    let metrics = run.analysis.metrics().iter();
-    metrics
-        .zip(run.tallies.as_slice())
-        .filter(|(metric, tally)| is_measurement_late(metric, tally, run.started, now))
-        .count() as u64
+    let mut count: u64 = 0;
+    for (metric, tally) in run.analysis.metrics().iter().zip(run.tallies.as_slice()) {
+        if is_measurement_late(metric, tally, run.started, now) {
+            count = count.saturating_add(1);
+        }
+    }
+    count
 }
 
 // Adds a cell, unless there was no memory for its text.
