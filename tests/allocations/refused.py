@@ -66,11 +66,14 @@ HISTORY = b"""2026-01-01T00:00:00Z created v1
 2026-01-01T00:00:00Z step 0 setWeight 20
 2026-01-01T00:00:00Z step 1 pause
 """
-STATUS = b"""NAME  STATUS  STEP  WEIGHT          VERSION  STABLE
-web   Paused  1/2   ##-------- 20%  v2       v1
+STATUS = b"""No desk has this file open: no request is answered, and no measurement recorded. \
+Pauses end at their moment all the same.
+
+NAME  STATUS  STEP  WEIGHT          VERSION  STABLE  LATE
+web   Paused  1/2   ##-------- 20%  v2       v1      1
 
 RUN  SERVICE  ANALYSIS    TEMPLATES  METRIC  PHASE    COUNTED  PASSES  DUE
-1    web      background  errs@1     m       Running  2        -       2026-01-01T00:03:00Z
+1    web      background  errs@1     m       Running  2        -       2026-01-01T00:03:00Z late
 """
 
 

@@ -111,7 +111,7 @@ try_missing_files() {
     for name in history export import pipe; do
         [ -s "$work/place/$name" ] || fail "$row: $name makes no file"
         run status --db "$work/place/$name"
-        want_text 'NAME  STATUS  STEP  WEIGHT  VERSION  STABLE
+        want_text "$no_desk"'NAME  STATUS  STEP  WEIGHT  VERSION  STABLE  LATE
 '
     done
     rm -r "$work/place"

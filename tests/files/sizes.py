@@ -19,6 +19,9 @@ MANY, WIDE, LONG = 150, 32, 33_000
 PAGE = 32_768
 LISTENING = re.compile(rb"listening 127\.0\.0\.1:(\d+)\n")
 AT_B_TEXT = "2026-01-01T00:00:00Z"
+# What tables begin with if no desk has the file open.
+NO_DESK = ("No desk has this file open: no request is answered, and no measurement recorded. "
+           "Pauses end at their moment all the same.")
 BEGIN = ["service v1 setWeight:20 pause background:errs", "start v2"]
 TOLD = {"service": "[%s Healthy 2 100]", "start": "[%s Paused 1 20]",
         "abort": "[%s Degraded 1 0]", "retry": "[%s Paused 1 20]"}
@@ -107,11 +110,11 @@ def try_many_services(program, file):
     for name in (names[0], names[-1]):
         want_shown(program, file, row, name, shown(name, 2, [2]))
     # `NAME` is as long as the names, so it gives the columns their width.
-    lines = ["NAME  STATUS  STEP  WEIGHT          VERSION  STABLE"]
-    lines += [f"{name}  Paused  1/2   ##-------- 20%  v2       v1" for name in names]
+    lines = [NO_DESK, "", "NAME  STATUS  STEP  WEIGHT          VERSION  STABLE  LATE"]
+    lines += [f"{name}  Paused  1/2   ##-------- 20%  v2       v1      1" for name in names]
     lines += ["", "RUN  SERVICE  ANALYSIS    TEMPLATES  METRIC  PHASE    COUNTED  PASSES  DUE"]
     lines += [f"2    {name}     background  errs@1     m       Pending  0        -       "
-              f"{AT_B_TEXT}" for name in names]
+              f"{AT_B_TEXT} late" for name in names]
     want(f"{row}: status", run(program, ["status", "--db", file]), "\n".join([*lines, ""]).encode())
     serve(program, file, row, messages)
     run_1 = run(program, [*STILL_AT_B, "--db", file],

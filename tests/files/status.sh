@@ -1,29 +1,36 @@
 # The part of tests/files/run about `status`: `source` it after books.sh.
 
-# The row of a service that time moves.
-moved='NAME  STATUS       STEP  WEIGHT          VERSION  STABLE
-web   Progressing  2/3   ##-------- 20%  v2       v1
+# What tables begin with if no desk has the file open.
+no_desk='No desk has this file open: no request is answered, and no measurement recorded. '\
+'Pauses end at their moment all the same.
+
 '
+
+# The row of a service that time moves, and of which $1 measurements are late.
+moved() {
+    echo "${no_desk}NAME  STATUS       STEP  WEIGHT          VERSION  STABLE  LATE
+web   Progressing  2/3   ##-------- 20%  v2       v1      $1"
+}
 
 # What the table shows of services that do not move as time passes, and then of one that does.
 try_status() {
-    local titles='NAME  STATUS  STEP  WEIGHT  VERSION  STABLE' metric
+    local titles='NAME  STATUS  STEP  WEIGHT  VERSION  STABLE  LATE' metric
     row=status
     run history --db "$work/desk" web
     want_fault unknown-service
     run status --db "$work/desk"
-    want_text "$titles
+    want_text "$no_desk$titles
 "
     make_desk "$work/desk" 1
     put ops 4 "$(service api '')" > "$work/requests"
     serve_file "$work/desk" "$at" < "$work/requests" > "$work/made"
     run status --db "$work/desk"
-    want_text 'NAME  STATUS   STEP  WEIGHT           VERSION  STABLE
-api   Healthy  0/0   ########## 100%  v1       v1
-web   Paused   1/2   ##-------- 20%   v2       v1
+    want_text "$no_desk"'NAME  STATUS   STEP  WEIGHT           VERSION  STABLE  LATE
+api   Healthy  0/0   ########## 100%  v1       v1      -
+web   Paused   1/2   ##-------- 20%   v2       v1      1
 
 RUN  SERVICE  ANALYSIS    TEMPLATES  METRIC  PHASE    COUNTED  PASSES  DUE
-1    web      background  errs@1     m       Running  1        -       2026-01-01T00:01:00Z
+1    web      background  errs@1     m       Running  1        -       2026-01-01T00:01:00Z late
 '
     cp "$work/out" "$work/table"
     run status --db "$work/desk"
@@ -44,11 +51,13 @@ RUN  SERVICE  ANALYSIS    TEMPLATES  METRIC  PHASE    COUNTED  PASSES  DUE
     try_watch_changes
 }
 
-# The table of a file that a desk has open meanwhile.
+# The table of a file that a desk has open meanwhile: it is the same, without the line that no desk
+# has.
 try_status_beside_desk() {
+    tail -n +3 "$work/table" > "$work/served"
     start_desk "$desk_program" --db "$work/desk" || fail "$row: no desk: $(< "$work/errors")"
     run status --db "$work/desk"
-    want 0 "$work/table" ''
+    want 0 "$work/served" ''
     [ -z "$(find "$work" -maxdepth 1 -name 'desk.*')" ] || fail "$row: a copy is left"
     try_planted_links
     stop_desk
@@ -70,7 +79,7 @@ exec '$(readlink -f "$desk_program")' "\$@"
 END
     chmod +x "$work/planting"
     desk_program=$work/planting run status --db "$work/desk"
-    want 0 "$work/table" ''
+    want 0 "$work/served" ''
     [ "$(< "$work/victim")" = kept ] || fail "$row: the file that they lead to has changed"
     [ "$(stat -c %a "$work/victim")" = 600 ] || fail "$row: its mode has changed"
     [ "$(find "$work" -name 'desk.*' -type l | wc -l)" = 2 ] || fail "$row: the links are gone"
@@ -84,7 +93,7 @@ try_status_unmeasured() {
     make_desk "$work/desk" 0
     run status --db "$work/desk"
     last='1    web      background  errs@1     m       Pending  0        -       '
-    [ "$(tail -n 1 "$work/out")" = "${last}2026-01-01T00:00:00Z" ] \
+    [ "$(tail -n 1 "$work/out")" = "${last}2026-01-01T00:00:00Z late" ] \
         || fail "$row: nothing measured: $(< "$work/out")"
 }
 
@@ -99,11 +108,11 @@ try_status_of_decimals() {
     } > "$work/requests"
     step=0 serve_file "$work/desk" "$at" < "$work/requests" > "$work/made"
     run status --db "$work/desk"
-    want_text 'NAME  STATUS       STEP  WEIGHT         VERSION  STABLE
-web   Progressing  0/1   ---------- 0%  v2       v1
+    want_text "$no_desk"'NAME  STATUS       STEP  WEIGHT         VERSION  STABLE  LATE
+web   Progressing  0/1   ---------- 0%  v2       v1      1
 
 RUN  SERVICE  ANALYSIS  TEMPLATES  METRIC        PHASE    COUNTED  PASSES  DUE
-1    web      step 0    rate@1     success-rate  Pending  0        -       2026-01-01T00:00:00Z
+1    web      step 0    rate@1     success-rate  Pending  0        -       2026-01-01T00:00:00Z late
 '
     run status --json --db "$work/desk"
     grep -q '"name":"success-rate.e6f"' "$work/out" || fail "$row: $(< "$work/out")"
@@ -128,10 +137,11 @@ try_status_of_now() {
     } > "$work/requests"
     serve_file "$work/desk" "$at" < "$work/requests" > "$work/made"
     run status --db "$work/desk"
-    want_text "$moved
+    want_text "$(moved 2)
+
 RUN  SERVICE  ANALYSIS  TEMPLATES  METRIC  PHASE    COUNTED  PASSES  DUE
-1    web      step 2    t@2,u@1    a       Pending  0        -       2026-01-01T00:01:00Z
-1    web      step 2    t@2,u@1    b       Pending  0        0/2     2026-01-01T00:01:00Z
+1    web      step 2    t@2,u@1    a       Pending  0        -       2026-01-01T00:01:00Z late
+1    web      step 2    t@2,u@1    b       Pending  0        0/2     2026-01-01T00:01:00Z late
 "
     a='"counted":0,"due":"2026-01-01T00:01:00Z","name":"a","passAfter":null,"passes":0'
     b='"counted":0,"due":"2026-01-01T00:01:00Z","name":"b","passAfter":2,"passes":0'
@@ -161,6 +171,7 @@ canary_service_open_runs{service="web"} 1
 canary_measurement_late_seconds{service="web",run="1",analysis="step 2",metric="a",label="a"} LATE
 canary_measurement_late_seconds{service="web",run="1",analysis="step 2",metric="b",label="b"} LATE
 canary_service_late_seconds{service="web"} LATE
+canary_service_unmeasured_runs{service="web"} 0
 ' $((at + 60))
 }
 
@@ -171,10 +182,11 @@ try_status_after_report() {
         > "$work/requests"
     serve_file "$work/desk" "$((at + 60))" < "$work/requests" > "$work/made"
     run status --db "$work/desk"
-    want_text "$moved
+    want_text "$(moved 1)
+
 RUN  SERVICE  ANALYSIS  TEMPLATES  METRIC  PHASE       COUNTED  PASSES  DUE
 1    web      step 2    t@2,u@1    a       Successful  1        -       -
-1    web      step 2    t@2,u@1    b       Running     1        1/2     2026-01-01T00:02:00Z
+1    web      step 2    t@2,u@1    b       Running     1        1/2     2026-01-01T00:02:00Z late
 "
     a='"counted":1,"due":null,"name":"a","passAfter":null,"passes":1'
     b='"counted":1,"due":"2026-01-01T00:02:00Z","name":"b","passAfter":2,"passes":1'

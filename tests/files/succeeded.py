@@ -18,7 +18,7 @@ from places import (
 from story_words import B, Wrong, answer, command, expect, put, replies
 
 SUCCEEDED = (0, b"succeeded\n", b"")
-HEADER = b"NAME  STATUS  STEP  WEIGHT  VERSION  STABLE\n"
+HEADER = b"NAME  STATUS  STEP  WEIGHT  VERSION  STABLE  LATE\n"
 # What changes of a page as time passes.
 MOMENTS = rb'as it stood at <time .*?</time>|\(\d+ days\)|<text class="tick end".*?</text>'
 # Three templates, of which one has three revisions and one no service; and six services: one that

@@ -186,6 +186,8 @@ def card(article):
         yield f"  say {say}"
     for late in article.all("p", "late"):
         yield f"  late {late.text()}"
+    for spent in article.all("p", "unmeasured"):
+        yield f"  unmeasured {spent.text()}"
     for block in article.inside:
         if "runs" in block.words:
             yield from runs(block)

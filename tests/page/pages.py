@@ -216,6 +216,40 @@ def try_counted(program, folder):
             fail(f"counted: no row {row!r} in {told!r}")
 
 
+# Which measurements of `stories.late` are late, by textfile.LATE and their intervals.
+LATE_METRICS = [("aa-timed", "errors"), ("cc-silent", "errors"), ("dd-pause", "errors"),
+                ("ee-step", "open"), ("gg-once", "once")]
+
+
+def try_late_tables(program, folder):
+    """The tables of `status` have how many measurements of a service are late, and mark each."""
+    file = os.path.join(folder, "late.db")
+    told = run([program, "status", "--db", file], "late tables").decode().split("\n\n")
+    services = {line.split()[0]: line.split()[-1] for line in told[1].splitlines()}
+    wanted = {name: "1" for name, _ in LATE_METRICS} | {"bb-due": "-", "ff-delay": "-"}
+    if services != {"NAME": "LATE"} | wanted:
+        fail(f"late tables: {services}")
+    marked = [line.split() for line in told[2].splitlines() if line.endswith("Z late")]
+    found = [(words[1], words[-6]) for words in marked]
+    if found != LATE_METRICS:
+        fail(f"late tables: marked are {found}")
+
+
+def try_weights(program, folder):
+    """What is said of a share of requests is what the desk asks for: the spoken words of each bar,
+    and the key at the end of the page."""
+    file = os.path.join(folder, "states.db")
+    root = look(run([program, "page", "--db", file, "-"], "weights"), "weights")
+    told = {bar.attributes["aria-label"] for bar in root.all("svg", "bar")}
+    wanted = {f"v2 is to have {percent} percent" for percent in (0, 10, 20, 30, 100)}
+    if told != wanted | {"v1 is to have 100 percent"}:
+        fail(f"weights: the bars say {sorted(told)}")
+    key = root.first("p", "key").text()
+    note = "A weight is the share of requests that the desk asks for: no router confirms it."
+    if note not in key:
+        fail(f"weights: the key is {key!r}")
+
+
 def try_many(program, folder):
     """The page of 200 services begins with an index: first the 40 that wait, as the page has
     them."""
@@ -275,6 +309,18 @@ def try_between(program, folder):
         "2222-01-01T00:00:40Z; 1 run, 1 without a measurement"])
 
 
+def try_promoted(program, folder):
+    """Once a release was promoted although its background was Inconclusive, its card says that
+    nothing is measured beside the steps any more."""
+    want_lines(program, folder, stories.promoted, ("card", "  unmeasured"), [
+        "card aa-promoted Paused v1 → v2 10%",
+        "  unmeasured Nothing is measured beside the steps any more: the background analysis ended "
+        "Inconclusive, the release was promoted, and the desk opens no other run of the background "
+        "in this attempt.",
+        "card bb-again Paused v1 → v2 10%",
+        "card cc-well Paused v1 → v2 10%"])
+
+
 def want_lines(program, folder, story, fronts, wanted):
     """The lines of the outline of a story's page that begin with one of these."""
     file = os.path.join(folder, f"{story.__name__}.db")
@@ -307,12 +353,54 @@ def try_silence(program, folder):
              f"{at_second(at + 4)} (")
     if len(late) != 1 or not late[0].startswith(since):
         fail(f"silence: {late} in place of {since}")
+    with wrong_texts("silence"):
+        samples = textfile.samples_of(text_of(program, file, "silence"))
+        textfile.expect("silence: unmeasured", textfile.unmeasured_of(samples), {"done": 1})
     ended = [line for line in told if "without a measurement" in line]
     run_words = f"Run 1 background, errors@1, {at_second(at + 2)} to {at_second(at + 42)}"
     if len(ended) != 2 or "; 1 run, 1 without a measurement" not in ended[0] or not (
             ended[1].strip().startswith(run_words)
             and ended[1].endswith("Successful ended without a measurement")):
         fail(f"silence: {ended}")
+
+
+# What a page and the tables of `status` say first of a file that no desk has open.
+NO_DESK = (b"No desk has this file open: no request is answered, and no measurement recorded. "
+           b"Pauses end at their moment all the same.")
+
+
+def try_served(program, folder):
+    """The page and the tables of a file say on top that no desk has it open, and do not say so
+    while one has."""
+    file = os.path.join(folder, "states.db")
+    want_top(program, file, True)
+    desk = subprocess.Popen([program, "serve", "--listen", "127.0.0.1:0", "--db", file],
+                            stdout=subprocess.PIPE, stderr=subprocess.DEVNULL)
+    try:
+        desk.stdout.readline()
+        want_top(program, file, False)
+    finally:
+        desk.kill()
+        desk.wait()
+
+
+def want_top(program, file, is_told):
+    """Whether the top of the page, and the first line of the tables, say that no desk has the file
+    open; no other text of `status` says so."""
+    row = f"told that no desk has the file open: {is_told}"
+    page = run([program, "page", "--db", file, "-"], row)
+    top = look(page, row).first("header", "top").first("b", "late")
+    if (top.text().encode() if top else None) != (NO_DESK if is_told else None):
+        fail(f"{row}: the page says {top and top.text()!r}")
+    if page.count(b"No desk") != is_told:
+        fail(f"{row}: the page says so elsewhere")
+    tables = run([program, "status", "--db", file], row)
+    head = NO_DESK + b"\n\n" if is_told else b""
+    if not tables.startswith(head + b"NAME ") or tables.count(b"No desk") != is_told:
+        fail(f"{row}: status says {tables[:200]}")
+    for form in ("--json", "--prometheus"):
+        if b"No desk" in run([program, "status", form, "--db", file], row):
+            fail(f"{row}: status {form} says so")
 
 
 def moment_of_page(out):
@@ -376,11 +464,12 @@ def try_textfile(program, folder):
         textfile.look_at_worked(text)
         textfile.look(text, run([program, "status", "--json", "--db", file], "textfile"))
         textfile.collect(folder, text)
-    file = os.path.join(folder, "two-runs.db")
-    make_desk(program, file, "two runs", stories.two_runs())
-    with wrong_texts("two runs"):
-        textfile.look(text_of(program, file, "two runs"),
-                      run([program, "status", "--json", "--db", file], "two runs"))
+    for row, story in (("two runs", stories.two_runs()), ("unmeasured", stories.unmeasured())):
+        file = os.path.join(folder, f"{row}.db")
+        make_desk(program, file, row, story)
+        with wrong_texts(row):
+            textfile.look_at_case(row, text_of(program, file, row),
+                                  run([program, "status", "--json", "--db", file], row))
     if has_prometheus():
         with wrong_texts("alerts"):
             textfile.look_at_alerts()
@@ -406,11 +495,15 @@ def main(program, folder, names):
         try_breaking(program, folder)
         try_decimals(program, folder)
         try_counted(program, folder)
+        try_late_tables(program, folder)
+        try_weights(program, folder)
         try_many(program, folder)
         try_twenty(program, folder)
         try_silence(program, folder)
         try_days(program, folder)
         try_between(program, folder)
+        try_promoted(program, folder)
+        try_served(program, folder)
         try_watch(program, folder)
         try_faults(program, folder)
         try_textfile(program, folder)

@@ -186,7 +186,7 @@ def try_told(program, folder, make_desk):
     page = subprocess.run([program, "page", "--db", file, "-"], capture_output=True, timeout=LIMIT,
                           check=True).stdout
     want("revised: why it is aborted, on the page",
-         b"Aborted by a command. v1 has all traffic." in page, True)
+         b"Aborted by a command. v1 is to have all traffic." in page, True)
     web = values["web"]
     want("revised: conditions", [one["conditions"] for each in web["runs"]
                                  for one in each["metrics"]], [None] * 4)

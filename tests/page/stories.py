@@ -331,6 +331,45 @@ def ended():
     return desk
 
 
+def unmeasured():
+    """Releases that are done without a measurement: one, after which another one was measured and
+    aborted; one, after which another one was measured and is done; and one with two runs."""
+    desk = Desk()
+    desk.template("errors", metric("errors", successCondition="result < 5"))
+    background = {"templates": [{"templateName": "errors"}]}
+    for name, end in (("aa-aborted", "abort"), ("bb-measured", "promoteFull")):
+        desk.service(name, "v1", [weight(30), pause()], background)
+        desk.start(name, "v2")
+        desk.command("promoteFull", name)
+        desk.start(name, "v3")
+        desk.report(name, 2, "errors", 1)
+        desk.command(end, name)
+    desk.template("smoke", metric("probe", count=3))
+    desk.service("cc-two", "v1", [weight(30), analysis("smoke")], background)
+    desk.start("cc-two", "v2")
+    desk.command("promoteFull", "cc-two")
+    return desk
+
+
+def promoted():
+    """Backgrounds that are closed: Inconclusive, and the release was promoted; the same, and the
+    release was aborted and begun again; and Successful."""
+    desk = Desk()
+    desk.template("smoke", metric("probe", count=3, successCondition="result > 10",
+                                  failureCondition="result < 5"))
+    background = {"templates": [{"templateName": "smoke"}]}
+    for name in ("aa-promoted", "bb-again", "cc-well"):
+        desk.service(name, "v1", [weight(10), pause()], background)
+        desk.start(name, "v2")
+    for name in ("aa-promoted", "bb-again"):
+        desk.report(name, 1, "probe", 7)
+        desk.command("promote", name)
+    desk.command("abort", "bb-again")
+    desk.command("retry", "bb-again")
+    desk.report("cc-well", 1, "probe", 12, 12, 12)
+    return desk
+
+
 def days():
     """A measurement that has been due for a day, and one that has been for a day and a half; a
     pause of four days, and one that has waited for a day and a half."""

@@ -18,7 +18,7 @@ OPERATIONS = os.path.join(HERE, "..", "..", "examples", "operations")
 LIMIT = 60
 WORDS = ("service_info", "service_status", "service_weight_percent", "service_step",
          "service_steps", "service_held", "service_open_runs", "measurement_late_seconds",
-         "service_late_seconds")
+         "service_late_seconds", "service_unmeasured_runs")
 FAMILIES = [f"canary_{word}" for word in WORDS]
 STATUSES = ("Healthy", "Degraded", "Paused", "Progressing")
 # A sample of version 0.0.4 without a timestamp, whose labels need no escapes.
@@ -76,7 +76,8 @@ def without_ending(label):
 
 
 def said_by_values(values):
-    """What a text has to say by `status --json`, but for holds and for how late it is."""
+    """What a text has to say by `status --json`, but for holds, for how late it is and for what was
+    not measured."""
     wanted = {word: {} for word in WORDS}
     metrics = set()
     for value in map(json.loads, values.decode().splitlines()):
@@ -109,6 +110,8 @@ def look(text, values):
     latest = {(name,): max([0, *(late[one] for one in late if one[0] == name)])
               for (name,) in wanted["service_step"]}
     expect("service_late_seconds", family(samples, "canary_service_late_seconds"), latest)
+    expect("what may be unmeasured", set(family(samples, "canary_service_unmeasured_runs")),
+           set(wanted["service_step"]))
     return samples
 
 
@@ -123,6 +126,8 @@ LATE = {
 }
 # Who is held, of `states`.
 HELD = {"states": {"ee-held", "ff-held"}}
+# How many runs of the last release that is done had no measurement, where there are some.
+UNMEASURED = {"ended": {"aa-silent": 1, "bb-old": 1}, "unmeasured": {"aa-aborted": 1, "cc-two": 2}}
 
 
 def look_at_case(name, text, values):
@@ -130,9 +135,16 @@ def look_at_case(name, text, values):
     samples = look(text, values)
     held = family(samples, "canary_service_held")
     expect("who is held", {of for (of,), is_so in held.items() if is_so}, HELD.get(name, set()))
+    expect("unmeasured", unmeasured_of(samples), UNMEASURED.get(name, {}))
     if name in LATE:
         late = family(samples, "canary_measurement_late_seconds")
         expect("late", {(one[0], one[-1]): number for one, number in late.items()}, LATE[name])
+
+
+def unmeasured_of(samples):
+    """The services with runs that had no measurement, each with how many."""
+    found = family(samples, "canary_service_unmeasured_runs")
+    return {of: count for (of,), count in found.items() if count}
 
 
 def worked():

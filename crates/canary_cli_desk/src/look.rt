@@ -6,7 +6,6 @@ use crate::tables::DeskBook;
 use crate::work::{Work, with_desk_file};
 use canary_backup::copying::Pair;
 use canary_backup::folder::OwnCopy;
-use canary_base::moments::Moment;
 use canary_base::names::Name;
 use canary_listen::wall_clock::WallClock;
 use canary_once::book::Book;
@@ -14,7 +13,7 @@ use canary_page::page::View;
 use canary_page::progress::DrawingProgress;
 use canary_programs::fault::Fault;
 use canary_programs::page::draw_page;
-use canary_programs::status::{Drawing, text_of_book};
+use canary_programs::status::{Drawing, StatusView, text_of_book};
 use std::alloc::Global;
 use std::io::Write;
 
@@ -37,6 +36,8 @@ pub(crate) struct Look<'a, W> {
     sight: Sight<'a>,
     output: W,
     text: String,
+    // Whether a desk may have the file open: a copy of it is read then.
+    is_served: bool,
 }
 
 impl<'a, W: Write> Look<'a, W> {
@@ -46,6 +47,7 @@ impl<'a, W: Write> Look<'a, W> {
             sight,
             output,
             text: String::new(alloc),
+            is_served: false,
         }
     }
 
@@ -96,12 +98,23 @@ impl<W: Write> Work for Look<'_, W> {
         let now = WallClock::new(rt).tell();
         match self.sight {
             Sight::Status(drawing) => {
-                self.text = status_of(rt, book, drawing, now)?;
+                let (form, is_served) = (drawing.form, self.is_served);
+                let view = StatusView {
+                    now,
+                    form,
+                    is_served,
+                };
+                self.text = status_of(rt, book, &view)?;
                 Ok(())
             }
             Sight::Page { every, shelf } => {
                 let mut shown = ProgressDisplay::services(rt, errors, is_terminal);
-                let view = View { now, every };
+                let is_served = self.is_served;
+                let view = View {
+                    now,
+                    every,
+                    is_served,
+                };
                 let drawn = page_of(rt, book, view, shelf, &mut self.output, &mut shown);
                 shown.end();
                 drawn
@@ -164,6 +177,7 @@ fn look_at_copy<W: Write, F: Write>(
     is_terminal: bool,
 ) -> Result<(), Fault> {
     let copy = OwnCopy::of(rt, file, "status-copy")?;
+    sight.is_served = true;
     let looked = look_once(rt, copy.database(), sight, errors, is_terminal);
     copy.remove(rt);
     looked
@@ -181,15 +195,14 @@ fn look_once<W: Write, F: Write>(
     with_desk_file(rt, DeskFile::named(file), sight, errors, is_terminal)
 }
 
-// The text of the status of all services, by their names, at that moment.
+// The text of the status of all services, by their names.
 fn status_of<B: DeskBook>(
     rt: &HostRuntime,
     book: &mut B,
-    drawing: Drawing,
-    now: Moment,
+    view: &StatusView,
 ) -> Result<String, Fault> {
     let names = book.names()?;
-    text_of_book(rt.alloc(), book, names.as_slice(), now, drawing.form)
+    text_of_book(rt.alloc(), book, names.as_slice(), view)
 }
 
 // Draws the page of all services, by their names, and then their files.
@@ -215,15 +228,8 @@ fn draw_named<B: Book, W: Write, P: DrawingProgress>(
     output: &mut W,
     progress: &mut P,
 ) -> Result<(), Fault> {
-    let View { now, every } = view;
-    draw_page(
-        rt.alloc(),
-        book,
-        names,
-        View { now, every },
-        output,
-        progress,
-    )?;
+    let now = view.now;
+    draw_page(rt.alloc(), book, names, view, output, progress)?;
     match shelf {
         Some(shelf) => fill(rt, book, names, now, &shelf, progress),
         None => Ok(()),

@@ -1,25 +1,26 @@
 //! What stands around the services of a page.
 use crate::charts::figure::badge;
 use crate::groups::{PlacedService, count_status, count_waiting};
+use crate::jobs::PageSetup;
 use crate::key::key;
+use crate::page::{NO_DESK, View};
 use crate::time::stamp;
-use canary_base::moments::Moment;
 use canary_page_html::element::Element;
 use canary_page_html::markup::Markup;
 use canary_page_html::piece::Piece;
 use canary_release::state::Status;
 
 // The page up to its first part.
-pub(crate) fn head(page: &mut Markup, placed: &[PlacedService], now: Moment, every: Option<u64>) {
+pub(crate) fn head(page: &mut Markup, plan: &PageSetup<'_>) {
     page.add(Piece::Head);
-    if let Some(seconds) = every {
+    if let Some(seconds) = plan.view.every {
         page.add(Piece::Refresh(seconds));
     }
-    title(page, placed);
+    title(page, plan.placed);
     page.add(Piece::Style);
     page.begin(Element::Body);
     page.begin(Element::Main);
-    heading(page, placed, now);
+    heading(page, plan.placed, plan.view);
 }
 
 // Draws the title of the page: how many services are degraded, and how many wait for somebody.
@@ -32,15 +33,16 @@ fn title(page: &mut Markup, placed: &[PlacedService]) {
     page.end(Element::Title);
 }
 
-// Draws the top of the page: its moment, and how many services have each status.
-fn heading(page: &mut Markup, placed: &[PlacedService], now: Moment) {
+// Draws the top of the page: its moment, how many services have each status, and that no desk has
+// the file open, if that is so.
+fn heading(page: &mut Markup, placed: &[PlacedService], view: View) {
     page.open(Element::Header, "top");
     page.begin(Element::Heading1);
     page.text("Canary desk");
     page.end(Element::Heading1);
     page.begin(Element::Paragraph);
     page.text("as it stood at ");
-    stamp(page, now);
+    stamp(page, view.now);
     page.end(Element::Paragraph);
     page.open(Element::List, "chips");
     chip(page, placed, Status::Degraded);
@@ -48,7 +50,17 @@ fn heading(page: &mut Markup, placed: &[PlacedService], now: Moment) {
     chip(page, placed, Status::Progressing);
     chip(page, placed, Status::Healthy);
     page.end(Element::List);
+    if !view.is_served {
+        unserved(page);
+    }
     page.end(Element::Header);
+}
+
+// Says that no desk has the file open.
+fn unserved(page: &mut Markup) {
+    page.begin(Element::Paragraph);
+    page.leaf(Element::Strong, "late", NO_DESK);
+    page.end(Element::Paragraph);
 }
 
 // How many services have that status.

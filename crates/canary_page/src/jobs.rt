@@ -1,8 +1,8 @@
 //! The parts of a page, in order.
 use crate::groups::{PlacedService, count_standing};
+use crate::page::View;
 use crate::shown::AttentionLevel;
 use canary_base::error::Memory;
-use canary_base::moments::Moment;
 use canary_base::names::Name;
 use std::alloc::Global;
 
@@ -89,10 +89,7 @@ impl Drawn {
 #[derive(Clone, Copy)]
 pub(crate) struct PageSetup<'a> {
     pub(crate) placed: &'a [PlacedService],
-    /// The moment to which services are passed.
-    pub(crate) now: Moment,
-    /// The seconds after which the page loads itself anew; none if it does not.
-    pub(crate) every: Option<u64>,
+    pub(crate) view: View,
 }
 
 // The parts of the page of these services.

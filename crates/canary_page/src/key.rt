@@ -3,7 +3,7 @@ use canary_condition::outcome::Phase;
 use canary_page_html::element::{Attribute, Element};
 use canary_page_html::markup::Markup;
 
-/// Draws the paragraph that explains the marks of all charts.
+/// Draws the paragraph that explains the marks of all charts, and what a weight is.
 pub(crate) fn key(page: &mut Markup) {
     page.open(Element::Paragraph, "key");
     mark(page, Phase::Successful);
@@ -17,6 +17,10 @@ pub(crate) fn key(page: &mut Markup) {
     note(
         page,
         "On the axis: a failure, or a result without this number. Times of day are UTC.",
+    );
+    note(
+        page,
+        "A weight is the share of requests that the desk asks for: no router confirms it.",
     );
     page.end(Element::Paragraph);
 }

@@ -21,13 +21,21 @@ use canary_release::service::Passed;
 use std::alloc::Global;
 use std::io::Write;
 
-/// When a page is drawn, and how often it is to be loaded anew.
+/// What a page says on top of a file that no desk has open.
+pub const NO_DESK: &str = concat!(
+    "No desk has this file open: no request is answered, and no measurement recorded. ",
+    "Pauses end at their moment all the same."
+);
+
+/// When a page is drawn, how often it is to be loaded anew, and whether a desk serves its file.
 #[derive(Clone, Copy, Debug, PartialEq, Eq)]
 pub struct View {
     /// The moment to which services are passed.
     pub now: Moment,
     /// The seconds after which the page loads itself anew; none if it does not.
     pub every: Option<u64>,
+    /// Whether a desk may have the file open. If none has, the page says so on top.
+    pub is_served: bool,
 }
 
 /// Draws the services of these names, as they stand at a moment, as one page of HTML (HTML Living
@@ -50,8 +58,7 @@ pub fn draw<W: Write, B: Book, P: DrawingProgress>(
     let placed = placed_of(alloc, book, names, view.now)?;
     let plan = PageSetup {
         placed: placed.as_slice(),
-        now: view.now,
-        every: view.every,
+        view,
     };
     draw_planned(alloc, book, &plan, out, progress)
 }
@@ -129,8 +136,8 @@ fn markup_of<B: Book>(
     ensures stays { Stays (B.state book.old) (B.state book.new) }
 {
     match job {
-        Job::Card(name) => card_of(alloc, book, name, plan.now),
-        Job::Row(name) => row_of(alloc, book, name, plan.now),
+        Job::Card(name) => card_of(alloc, book, name, plan.view.now),
+        Job::Row(name) => row_of(alloc, book, name, plan.view.now),
         _ => Ok(frame_of(alloc, plan, job)),
     }
 }
@@ -140,7 +147,7 @@ fn frame_of(alloc: Global, plan: &PageSetup<'_>, job: &Job) -> Markup {
     let mut page = Markup::new(alloc);
     let placed = plan.placed;
     match job {
-        Job::Head => head(&mut page, placed, plan.now, plan.every),
+        Job::Head => head(&mut page, plan),
         Job::Index => begin_index(&mut page),
         Job::Group(group, count) => begin_group(&mut page, group.name(), *count),
         Job::Link(placed) => link(&mut page, placed),

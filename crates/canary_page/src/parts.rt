@@ -4,7 +4,6 @@ pub(crate) mod attempts;
 pub(crate) mod card;
 pub(crate) mod ended;
 pub(crate) mod history;
-pub(crate) mod late;
 pub(crate) mod run;
 pub(crate) mod table;
 pub(crate) mod track;

@@ -1,8 +1,9 @@
 //! What is shown of a service.
 use crate::charts::chart::Chart;
 use crate::charts::conditions::Conditions;
+use crate::late::is_late;
 use crate::parts::attempts::{Attempt, attempts_of, recent_of};
-use crate::parts::late::is_late;
+use crate::unmeasured::is_unmeasured;
 use canary_base::error::Memory;
 use canary_base::moments::Moment;
 use canary_condition::outcome::Phase;
@@ -37,8 +38,12 @@ impl ShownRun {
 
     // Whether it is closed, and nothing was measured in it.
     pub(crate) fn is_unmeasured(&self) -> bool {
-        let tallies = self.record.tallies.as_slice();
-        self.is_closed() && tallies.iter().all(|tally| tally.measurements() == 0)
+        is_unmeasured(&self.record)
+    }
+
+    // Whether it is the background's, and its verdict is Inconclusive.
+    fn is_inconclusive_background(&self) -> bool {
+        self.record.step.is_none() && self.phase() == Phase::Inconclusive
     }
 
     // Its end, or this moment while it is open.
@@ -72,6 +77,24 @@ pub(crate) struct Attempts {
 }
 
 impl ShownService {
+    // Whether a promotion has let the release go on although the background was Inconclusive: its
+    // run is closed, and no other one opens in this attempt.
+    pub(crate) fn is_background_spent(&self) -> bool {
+        let service = &self.service;
+        service.state() == ReleaseState::InProgress
+            && !service.background_hold()
+            && self.has_inconclusive_background()
+    }
+
+    // Whether the run of the background of the present attempt is closed as Inconclusive.
+    fn has_inconclusive_background(&self) -> bool {
+        match &self.attempts.present {
+            Some(attempt) => self.runs.iter().any(|run| attempt.has_run(run.record.number)
+                && run.is_inconclusive_background()),
+            None => false,
+        }
+    }
+
     // How many runs of an attempt ended without a measurement.
     pub(crate) fn unmeasured(&self, attempt: &Attempt) -> u64 {
         self.runs

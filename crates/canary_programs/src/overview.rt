@@ -5,17 +5,19 @@ use crate::table::Table;
 use canary_base::error::Memory;
 use canary_base::moments::Moment;
 use canary_base::names::{Label, Name};
-use canary_condition::outcome::Phase;
 use canary_decimal::shown::Shown;
 use canary_metric::metric::Metric;
 use canary_metric::tally::Tally;
 use canary_metric::verdict::is_completed;
+use canary_page::late::is_measurement_late;
 use canary_plan::analysis_parts::Revision;
 use canary_release::runs::OpenRun;
 use canary_release::service::Service;
 use std::alloc::Global;
 
-const SERVICE_TITLES: [&str; 6] = ["NAME", "STATUS", "STEP", "WEIGHT", "VERSION", "STABLE"];
+const SERVICE_TITLES: [&str; 7] = [
+    "NAME", "STATUS", "STEP", "WEIGHT", "VERSION", "STABLE", "LATE",
+];
 
 const RUN_TITLES: [&str; 9] = [
     "RUN",
@@ -72,16 +74,17 @@ impl Overview {
         })
     }
 
-    /// Adds a service, passed to a moment, and its open runs.
+    /// Adds a service, passed to a moment, and its open runs. The format of Prometheus also has how
+    /// many runs of its last release that is done ended without a measurement.
     ///
     /// # Errors
     /// `Memory` if an allocation was refused; some of its rows may be there then.
-    pub fn add(&mut self, service: &Service, now: Moment) -> Result<(), Memory> {
+    pub fn add(&mut self, service: &Service, now: Moment, unmeasured: u64) -> Result<(), Memory> {
         let passed = service.passed(self.alloc, now)?;
         match self.form {
             OverviewFormat::Tables => self.add_rows(&passed.service),
             OverviewFormat::Json => add_value(self.alloc, &mut self.values, &passed.service),
-            OverviewFormat::Prometheus => self.families.add(&passed.service),
+            OverviewFormat::Prometheus => self.families.add(&passed.service, unmeasured),
         }
     }
 
@@ -143,7 +146,36 @@ fn add_service_cells(
     push_cell(row, steps_text(alloc, service))?;
     push_cell(row, bar(alloc, service.weight()))?;
     push_cell(row, copied(alloc, service.version().as_str()))?;
-    push_cell(row, copied(alloc, service.stable().as_str()))
+    push_cell(row, copied(alloc, service.stable().as_str()))?;
+    push_cell(row, late_text(alloc, count_late(service)))
+}
+
+// How many measurements of a service are late; `-` if none is.
+fn late_text(alloc: Global, count: u64) -> Result<String, Memory> {
+    if count == 0 {
+        return copied(alloc, "-");
+    }
+    digits(alloc, count)
+}
+
+// How many measurements of the open runs of a service are late, at its last moment.
+fn count_late(service: &Service) -> u64 {
+    let mut count: u64 = 0;
+    for run in service.open_runs() {
+        count = count.saturating_add(count_late_of(run, service.last()));
+    }
+    count
+}
+
+// How many measurements of an open run are late.
+fn count_late_of(run: &OpenRun, now: Moment) -> u64 {
+    let mut count: u64 = 0;
+    for (metric, tally) in run.analysis.metrics().iter().zip(run.tallies.as_slice()) {
+        if is_measurement_late(metric, tally, run.started, now) {
+            count = count.saturating_add(1);
+        }
+    }
+    count
 }
 
 // Adds a cell, unless there was no memory for its text.
@@ -186,9 +218,8 @@ fn add_run(
     run: &OpenRun,
     runs: &mut Table,
 ) -> Result<(), Memory> {
-    let name = service.name();
     for (metric, tally) in run.analysis.metrics().iter().zip(run.tallies.as_slice()) {
-        runs.push(metric_row(alloc, name, run, metric, tally)?)?;
+        runs.push(metric_row(alloc, service, run, metric, tally)?)?;
     }
     Ok(())
 }
@@ -196,14 +227,18 @@ fn add_run(
 // The cells of a metric of an open run.
 fn metric_row(
     alloc: Global,
-    service: Name,
+    service: &Service,
     run: &OpenRun,
     metric: &Metric,
     tally: &Tally,
 ) -> Result<Vec<String>, Memory> {
     let mut row = Vec::new(alloc);
-    add_run_cells(alloc, &mut row, service, run)?;
-    add_metric_cells(alloc, &mut row, run, metric, tally)?;
+    add_run_cells(alloc, &mut row, service.name(), run)?;
+    add_metric_cells(alloc, &mut row, metric, tally)?;
+    push_cell(
+        &mut row,
+        due_text(alloc, run, metric, tally, service.last()),
+    )?;
     Ok(row)
 }
 
@@ -220,20 +255,17 @@ fn add_run_cells(
     push_cell(row, templates_text(alloc, run.analysis.revisions()))
 }
 
-// Adds the other cells of a metric, from its name on.
+// Adds the other cells of a metric, from its name on, but for the last one.
 fn add_metric_cells(
     alloc: Global,
     row: &mut Vec<String>,
-    run: &OpenRun,
     metric: &Metric,
     tally: &Tally,
 ) -> Result<(), Memory> {
-    let phase = tally.phase(metric, false);
     push_cell(row, name_of(alloc, metric.name()))?;
-    push_cell(row, copied(alloc, phase.text()))?;
+    push_cell(row, copied(alloc, tally.phase(metric, false).text()))?;
     push_cell(row, digits(alloc, u64::from(tally.counted())))?;
-    push_cell(row, passes_text(alloc, metric.pass_after(), tally.passes()))?;
-    push_cell(row, due_text(alloc, run, metric, tally, phase))
+    push_cell(row, passes_text(alloc, metric.pass_after(), tally.passes()))
 }
 
 // The name of a metric as people read it: its label, without an ending that says how its numbers
@@ -278,18 +310,22 @@ fn passes_text(alloc: Global, wanted: Option<u32>, passes: u32) -> Result<String
     }
 }
 
-// When the next measurement of a metric is due; `-` if it wants none.
+// When the next measurement of a metric is due, with a word after it if it is late at this moment;
+// `-` if the metric wants none.
 fn due_text(
     alloc: Global,
     run: &OpenRun,
     metric: &Metric,
     tally: &Tally,
-    phase: Phase,
+    now: Moment,
 ) -> Result<String, Memory> {
     let mut text = String::new(alloc);
     match Moment::new(tally.due(metric, run.started)) {
-        Some(moment) if !is_completed(phase) => moment.text(&mut text)?,
+        Some(due) if !is_completed(tally.phase(metric, false)) => due.text(&mut text)?,
         _ => text.push_str("-")?,
+    }
+    if is_measurement_late(metric, tally, run.started, now) {
+        text.push_str(" late")?;
     }
     Ok(text)
 }

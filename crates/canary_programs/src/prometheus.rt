@@ -38,6 +38,7 @@ pub(crate) struct Families {
     open_runs: Family,
     measurement_late: Family,
     late: Family,
+    unmeasured: Family,
 }
 
 impl Families {
@@ -54,7 +55,7 @@ impl Families {
             weight: Family::new(
                 alloc,
                 "service_weight_percent",
-                "The weight of the new version, in percent.",
+                "The share of requests that the desk asks for the new version, in percent.",
             ),
             step: Family::new(
                 alloc,
@@ -78,13 +79,20 @@ impl Families {
                 "service_late_seconds",
                 "The largest canary_measurement_late_seconds of a service; 0 if it has none.",
             ),
+            unmeasured: Family::new(
+                alloc,
+                "service_unmeasured_runs",
+                "How many runs of the last release that is done ended without a measurement.",
+            ),
         }
     }
 
-    /// Adds the samples of a service that was passed to a moment, and of its open runs.
-    pub(crate) fn add(&mut self, service: &Service) -> Result<(), Memory> {
+    /// Adds the samples of a service that was passed to a moment, and of its open runs; and how
+    /// many runs of its last release that is done ended without a measurement.
+    pub(crate) fn add(&mut self, service: &Service, unmeasured: u64) -> Result<(), Memory> {
         let labels = service_label(self.alloc, service.name())?;
-        self.add_labelled(labels.as_str(), service)
+        self.add_labelled(labels.as_str(), service)?;
+        self.unmeasured.add(self.alloc, labels.as_str(), unmeasured)
     }
 
     // Adds the samples of a service with this label, and of its open runs.
@@ -176,7 +184,8 @@ impl Families {
         self.held.add_to(self.alloc, text)?;
         self.open_runs.add_to(self.alloc, text)?;
         self.measurement_late.add_to(self.alloc, text)?;
-        self.late.add_to(self.alloc, text)
+        self.late.add_to(self.alloc, text)?;
+        self.unmeasured.add_to(self.alloc, text)
     }
 }
 

@@ -5,7 +5,7 @@ use crate::charts::numbers::Span;
 use crate::charts::plot::{Frame, axis, curve, outcome, points, thresholds};
 use crate::charts::spot::{Spot, number_text, spot_text};
 use crate::charts::thresholds::Threshold;
-use crate::parts::late::{due_of, late_since};
+use crate::late::{due_of, late_since};
 use crate::time::near;
 use crate::words::metric_name;
 use canary_base::lists::Text;

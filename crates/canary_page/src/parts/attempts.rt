@@ -71,6 +71,11 @@ impl Attempt {
         }
     }
 
+    // Whether it reached its end.
+    fn is_done(&self) -> bool {
+        matches!(self.end, Some((_, Ending::Finished)))
+    }
+
     // Whether its runs are shown, at this moment, after it ended.
     fn is_recent(&self, now: Moment) -> bool {
         match self.end {
@@ -87,6 +92,18 @@ pub(crate) fn attempts_of(alloc: Global, lines: &[Line]) -> Result<Vec<Attempt>,
         note_line(&mut attempts, line)?;
     }
     Ok(attempts)
+}
+
+// The last attempt of a history that reached its end; none if no release is done.
+pub(crate) fn last_done(alloc: Global, lines: &[Line]) -> Result<Option<Attempt>, Memory> {
+    let attempts = attempts_of(alloc, lines)?;
+    Ok(
+        attempts
+            .iter()
+            .rev()
+            .find(|attempt| attempt.is_done())
+            .copied(),
+    )
 }
 
 // Begins an attempt with a start or a retry, and notes any other line in the last one, if any.

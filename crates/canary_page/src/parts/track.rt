@@ -118,7 +118,7 @@ fn names(page: &mut Markup, names: &[Name]) {
     }
 }
 
-// The weight as a bar, and in percent.
+// The weight, which is what the desk asks for, as a bar, and in percent.
 pub(crate) fn bar(page: &mut Markup, service: &Service) {
     let weight = u64::from(service.weight());
     page.open(Element::Span, "weight");
@@ -130,7 +130,7 @@ pub(crate) fn bar(page: &mut Markup, service: &Service) {
     page.attribute(Attribute::Role, "img");
     page.value(Attribute::Spoken);
     page.text(service.version().as_str());
-    page.text(" has ");
+    page.text(" is to have ");
     page.number(weight);
     page.text(" percent");
     page.value_end();

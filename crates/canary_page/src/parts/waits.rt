@@ -1,6 +1,6 @@
 //! What a release waits for, and what can be said to it.
 use crate::charts::figure::counted;
-use crate::parts::late::late_since;
+use crate::late::late_since;
 use crate::shown::{AttentionLevel, ShownService, step_of};
 use crate::time::{near, since, span};
 use crate::words::metric_name;
@@ -19,10 +19,14 @@ use canary_release::service::Service;
 // The most measurements of a run that are named as late.
 const MAX_LATE: u64 = 8;
 
-// What is late, one sentence, and the commands that can be given now.
+// What is late, that nothing is measured beside the steps any more, one sentence, and the commands
+// that can be given now.
 pub(crate) fn waits(page: &mut Markup, shown: &ShownService) {
     let (service, now) = (&shown.service, shown.now);
     late(page, shown);
+    if shown.is_background_spent() {
+        spent(page);
+    }
     page.open(Element::Paragraph, "waits");
     match AttentionLevel::of(service, now) {
         AttentionLevel::Aborted => aborted(page, service, shown.lines.as_slice()),
@@ -34,7 +38,7 @@ pub(crate) fn waits(page: &mut Markup, shown: &ShownService) {
     page.end(Element::Paragraph);
 }
 
-// Why a release was aborted, which version has all traffic now, and what can be said to it.
+// Why a release was aborted, which version is to have all traffic, and what can be said to it.
 fn aborted(page: &mut Markup, service: &Service, lines: &[Line]) {
     match cause_of(lines) {
         Some(run) => {
@@ -45,7 +49,7 @@ fn aborted(page: &mut Markup, service: &Service, lines: &[Line]) {
     }
     page.text(". ");
     page.text(service.stable().as_str());
-    page.text(" has all traffic.");
+    page.text(" is to have all traffic.");
     say(page, "canary do retry ", service.name());
     say_start(page, service.name(), service.stable());
 }
@@ -153,6 +157,15 @@ fn begin_say(page: &mut Markup, words: &str, name: Name) {
     page.open(Element::Code, "say");
     page.text(words);
     page.text(name.as_str());
+}
+
+// A paragraph that says why nothing is measured beside the steps any more.
+fn spent(page: &mut Markup) {
+    page.open(Element::Paragraph, "unmeasured");
+    page.text("Nothing is measured beside the steps any more: the background analysis ended ");
+    page.text("Inconclusive, the release was promoted, and the desk opens no other run of the ");
+    page.text("background in this attempt.");
+    page.end(Element::Paragraph);
 }
 
 // A paragraph for each measurement that is late: which one, and since when it has been due.

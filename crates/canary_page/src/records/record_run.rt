@@ -1,6 +1,6 @@
 //! A run, with its metrics, as a value in JSON.
 use crate::charts::conditions::{conditions_of, spec_in};
-use crate::parts::late::due_of;
+use crate::late::due_of;
 use crate::records::sheet::Sheet;
 use canary_base::error::Memory;
 use canary_base::lists::Text;
