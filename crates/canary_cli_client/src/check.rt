@@ -27,8 +27,8 @@ pub enum Checked<'a> {
     Body(&'a str),
 }
 
-/// Writes `ok` if the desk takes what is checked, and otherwise what it would refuse of it. `errors`
-/// has what it warns of, unless the check is `strict`: each warning is a finding then.
+/// Writes `ok` if the desk takes what is checked, and otherwise what it would refuse of it. What it
+/// warns of goes to `errors`, unless the check is `strict`: each warning is a finding then.
 ///
 /// # Errors
 /// `File` if the file cannot be read; `Memory` if an allocation was refused; `Write` if the output

@@ -7,8 +7,8 @@ use std::thread;
 use std::time::Duration;
 
 /// Draws a table of the services in a file, and of their open runs, or a JSON value for each
-/// service, as they stand at the present moment. No row of it is changed. If a desk has it open, or this process may not write it, a copy is read,
-/// as `look` says.
+/// service, as they stand at the present moment. No row of it is changed. If a desk has it open, or
+/// this process may not write it, a copy is read, as `look_at` says.
 ///
 /// # Errors
 /// `File` if there is no such file, and nothing is made then, or if no copy can be made.

@@ -22,8 +22,8 @@ use sqlite::{Alter, Connection, Error, ErrorCode, Unknown};
 use std::alloc::Global;
 use std::io::Write;
 
-// A desk that goes on in another file: its book, and the names of its templates and of its services,
-// each in their order.
+// A desk that goes on in another file: its book, and the names of its templates and of its
+// services, each in their order.
 #[derive(Drop)]
 struct Succession<A> {
     old: A,
