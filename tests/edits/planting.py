@@ -94,9 +94,9 @@ class Edit:
 
 def with_never(crate):
     """The crate, with checks that allow the function that proves everything, which is one of C."""
-    crate = copy.copy(crate)
-    crate.has_c = True
-    return crate
+    made = copy.copy(crate)
+    made.has_c, made.without_never = True, crate
+    return made
 
 
 def edits_in(folder, source, rt):

@@ -49,11 +49,11 @@ class Trial:
         for folder in (self.logs, self.kept) if given.lean else (self.logs,):
             os.makedirs(folder, exist_ok=True)
 
-    def check(self, log, texts, flags=(), gone=(), kept=None):
-        """Checks the crate with these texts and without the folders `gone`, over what is in the
-        folder `kept`, if it is given. One that is lost is run again, and so is one that fails when
-        its files are taken."""
-        own = log, texts, flags, gone, kept
+    def check(self, log, texts, flags=(), gone=(), kept=None, crate=None):
+        """Checks the crate, or this one in its place, with these texts and without the folders
+        `gone`, over what is in the folder `kept`, if it is given. One that is lost is run again,
+        and so is one that fails when its files are taken."""
+        own = log, texts, flags, gone, kept, crate or self.crate
         while (ran := self.ran(*own)).is_lost:
             pass
         if ran.status == 2:
@@ -62,12 +62,12 @@ class Trial:
         errors = [it for it in ran.lines if ran.status == 2 and it.startswith("rattle: error")]
         return errors or ran.lines
 
-    def ran(self, log, texts, flags, gone, kept, keeps_files=False):
+    def ran(self, log, texts, flags, gone, kept, crate, keeps_files=False):
         """What a check came to."""
         rtlib = self.kit_rt.rtlib
         with self.turn() as turn, checks.room_in(self.room) as room:
-            checks.copied(self.crate, rtlib.PARTS, room, texts, gone)
-            words = self.crate.words(["--jobs", "1", *flags], keeps=False)
+            checks.copied(crate, rtlib.PARTS, room, texts, gone)
+            words = crate.words(["--jobs", "1", *flags], keeps=False)
             words += ["--incremental", kept] if kept else []
             words = [*rtlib.guarded(), rtlib.RATTLE, "check", *words]
             said = f"{self.logs}/{log}.log"
@@ -80,7 +80,8 @@ class Trial:
         """What a check of the whole crate with one bug says."""
         texts = self.source.planted([edit])
         if self.is_lean:
-            return self.check(edit.name, texts)
+            # Nothing is cut off, so nothing calls the function of C.
+            return self.check(edit.name, texts, crate=self.crate.without_never)
         with checks.room_in(self.room) as room:
             kit.link(f"{self.crate.folder}/out/incremental", f"{room}/kept")
             return self.check(edit.name, texts, kept=f"{room}/kept")
