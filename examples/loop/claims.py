@@ -1,11 +1,11 @@
-"""What docs/OPERATIONS.md, "If something dies", says of each part, as functions of a Round of
+"""What docs/NIGHT.md, "If something dies", says of each part, as functions of a Round of
 dying.py: each ends well if what its row says was seen, and by Wrong if not."""
 import datetime
 import pathlib
 
 from loop import Wrong
 
-DOCS = pathlib.Path(__file__).resolve().parents[2] / "docs" / "OPERATIONS.md"
+DOCS = pathlib.Path(__file__).resolve().parents[2] / "docs" / "NIGHT.md"
 TITLE = "## If something dies"
 
 
@@ -57,14 +57,24 @@ def measures_old_share(it):
         raise Wrong("the old share is not measured")
 
 
-def aborts(it, service="web"):
-    """Five failures in a row were reported."""
+def is_aborted(it, service, verdict, counter, count):
+    """The desk aborted by a run with this verdict, whose counter has come to so many."""
     view = it.back[service]
     expect(service, view.status(), "Degraded")
     run = view.run(-1)
-    expect(f"{service}: the verdict", run["verdict"], "Error")
-    expect(f"{service}: errors in a row", run["metrics"][0]["consecutive"], 5)
+    expect(f"{service}: the verdict", run["verdict"], verdict)
+    expect(f"{service}: {counter}", run["metrics"][0][counter], count)
     expect(f"{service}: the last line", view.lines[-1].split(" ", 1)[1], f"abort run {run['run']}")
+
+
+def aborts(it, service="web"):
+    """Five failures in a row were reported."""
+    is_aborted(it, service, "Error", "consecutive", 5)
+
+
+def fails(it, service="web"):
+    """Three measurements failed, one more than the template allows."""
+    is_aborted(it, service, "Failed", "failed", 3)
 
 
 def job_acts_once(it):
@@ -110,6 +120,10 @@ def aborts_beside(it):
     aborts(it, "beside")
 
 
+def fails_beside(it):
+    fails(it, "beside")
+
+
 def measures_beside(it):
     if it.back["beside"].measured() <= it.before["beside"].measured() + 1:
         raise Wrong("beside is not measured")
@@ -148,7 +162,12 @@ CLAIMS = {
         BACKGROUND: [("the release reaches its end, and the run is Successful, also without a"
                       " measurement", ends_unmeasured)]},
     "the provider": {STEP: FAILURES, **SAME},
-    "the router, or all its clients": {STEP: [("as for the provider", aborts)], **SAME},
+    "the router, or all its clients": {
+        STEP: [("their share is NaN, which fails each condition", fails),
+               ("the desk aborts", fails)],
+        PAUSE: [("the same, if a background analysis is open", fails_beside),
+                ("the same, if a background analysis is open", ends_at_its_moment)],
+        BACKGROUND: [("the same", fails_beside)]},
     "the new version": {STEP: [("as for the provider", aborts)], **SAME},
     "the stable version": {
         STEP: [("goes on: the new version alone is measured", measures_on)],

@@ -1,6 +1,6 @@
 """Kills each part of the loop in turn, in the midst of a release: dying.py PROGRAM FOLDER AWAY
 [PART..]. README.md beside it says what it shows. It ends by the status 1 if something is otherwise
-than docs/OPERATIONS.md, "If something dies", has it."""
+than docs/NIGHT.md, "If something dies", has it."""
 import collections
 import contextlib
 import dataclasses
@@ -17,7 +17,7 @@ from claims import expect, want_row
 from journal_rule import journal_of
 from loop import Loop, Wrong, listens, play, shares_of, wait_until
 
-# The row of docs/OPERATIONS.md for each part.
+# The row of docs/NIGHT.md for each part.
 ROWS = {
     "desk": "the desk",
     "agent": "the agent",

@@ -21,6 +21,7 @@ import replies
 import runs
 import silence
 import streams
+import verdicts
 import web
 from turns import LATE, PASSED, WRONG, Watch, end_by_signals, is_for_time, parts_of
 from world import Late, World, factor_of, running, slowness
@@ -47,8 +48,8 @@ CONTEXT = multiprocessing.get_context("fork")
 # The parts that run, by their names.
 parts = {}
 # The long ones first.
-PARTS = parts_of(silence, real, crowd, replies, edits, lines, runs, web, edges, streams, machine,
-                 pauses, order)
+PARTS = parts_of(silence, real, crowd, replies, edits, lines, runs, verdicts, web, edges, streams,
+                 machine, pauses, order)
 
 
 def give_up(*_):

@@ -319,7 +319,7 @@ def try_health_race(world, server):
                 desk.write("regular", "")
                 os.rename(desk.folder / "regular", path)
                 time.sleep(1.2)
-            before = count_measured(desk)["m.e6"]
+            before = count_measured(desk)["m.e6n"]
             wait_measured(desk, before + 2)
         if "openat" not in (desk.folder / "calls").read_text(encoding="utf-8"):
             raise Wrong("the file was not opened")
@@ -419,12 +419,12 @@ def try_dry_run(world, server):
 
 def want_dry(server, output):
     asks, reports = map(json.loads, output.splitlines())
-    expect("what is asked", asks, {"ask": "GET /", "metric": "m.e6", "service": "web",
+    expect("what is asked", asks, {"ask": "GET /", "metric": "m.e6n", "service": "web",
                                    "of": f"127.0.0.1:{server.port}"})
     if not abs(reports.pop("taken") - time.time()) < 60:
         raise Wrong("a moment that is far")
-    expect("what is reported", reports, {"metric": "m.e6", "ordinal": 1, "result": 250000, "run": 1,
-                                         "service": "web"})
+    expect("what is reported", reports, {"metric": "m.e6n", "ordinal": 1, "result": 250000,
+                                         "run": 1, "service": "web"})
 
 
 # Begins a program to which a write past a limit on files is an error, and no signal.
@@ -449,7 +449,7 @@ def try_full_disk(world, server):
         expect(f"said once: {agent.errors()}", agent.errors().count("web: "), 1)
         if len(server.asked) > asked + 6:
             raise Wrong(f"{len(server.asked) - asked} messages in 12 seconds")
-        count = count_measured(desk)["m.e6"]
+        count = count_measured(desk)["m.e6n"]
         resource.prlimit(agent.process.pid, resource.RLIMIT_FSIZE, before)
         wait_measured(desk, count + 3, seconds=80)
         want_once("full disk", measured(desk))
@@ -476,7 +476,7 @@ def try_moved_desk(world, server):
             agent.wait_said("ahead")
             time.sleep(3)
             expect("said once", agent.errors().count("ahead"), 1)
-            expect("nothing is measured", count_measured(desk), {"m.e6": 0})
+            expect("nothing is measured", count_measured(desk), {"m.e6n": 0})
 
 
 def open_up(path):

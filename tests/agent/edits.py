@@ -54,23 +54,23 @@ def try_edited(world):
         web = measured_beside("web", "of")
         with desk_for(world, "edited", template_of(server.port), web) as desk, \
                 agent_of(desk) as agent:
-            wait_more(desk, "p.e6")
+            wait_more(desk, "p.e6n")
             put(desk, listed(template_of(server.port, SEVEN, "new"), web))
             wait_until("the new query", lambda: "/new" in server.targets())
-            wait_more(desk, "p.e6", 3)
+            wait_more(desk, "p.e6n", 3)
             expect("by the label of the run", {each.metric for each in measured(desk)},
-                   {"p.e6", "q.e6"})
+                   {"p.e6n", "q.e6n"})
             results = [each.result for each in measured(desk) if each.result]
             expect("the last one", results[-1], "250001")
             put(desk, listed(template_of(server.port, names=("p",)), web))
-            agent.wait_said("q.e6")
-            before = count_of(desk, "q.e6")
-            wait_more(desk, "p.e6", 3)
-            if count_of(desk, "q.e6") > before + 1:
+            agent.wait_said("q.e6n")
+            before = count_of(desk, "q.e6n")
+            wait_more(desk, "p.e6n", 3)
+            if count_of(desk, "q.e6n") > before + 1:
                 raise Wrong("a metric was measured that is in no file")
             expect("said once", agent.errors().count(NO_PROVIDER), 1)
             put(desk, listed(template_of(server.port), web))
-            wait_more(desk, "q.e6", 3)
+            wait_more(desk, "q.e6n", 3)
             want_once("edited", measured(desk))
 
 
@@ -104,7 +104,7 @@ def try_within_a_second(world):
         second = int(time.time()) * 1_000_000_000
         os.utime(path, ns=(second, second))
         with agent_of(desk) as agent:
-            wait_more(desk, "p.e6")
+            wait_more(desk, "p.e6n")
             text = path.read_text(encoding="utf-8").replace("/old", "/new")
             with open(path, "r+", encoding="utf-8") as file:
                 file.write(text)
@@ -127,12 +127,12 @@ def try_asked_before(world):
                     measured_beside("web", "of")]
 
         with desk_for(world, "asked-before", *manifests_of("a")) as desk, agent_of(desk):
-            wait_more(desk, "p.e6", 1)
+            wait_more(desk, "p.e6n", 1)
             for name in "babababab":
                 time.sleep(1.1)
                 put(desk, listed(*manifests_of(name)))
             # the second of these is asked for by the last file
-            wait_more(desk, "p.e6", 2)
+            wait_more(desk, "p.e6n", 2)
             expect("results", {each.result for each in measured(desk)}, {"250000", "500000"})
 
 
@@ -141,7 +141,7 @@ def put_invalid(desk, agent, row, value):
     file."""
     count = agent.errors().count("manifests.json")
     put(desk, value)
-    wait_more(desk, "p.e6", 3)
+    wait_more(desk, "p.e6n", 3)
     said = agent.errors().count("manifests.json") - count
     if said > 2 or (said < 1 and row in ("no JSON", "arithmetic")):
         raise Wrong(f"{row}: said {said} times: {agent.errors()!r}")
@@ -158,13 +158,13 @@ def try_invalid(world):
         bad["arithmetic"] = listed(template_of(server.port, "result * 2 < 1"), web)
         with desk_for(world, "invalid", template_of(server.port), web) as desk, \
                 agent_of(desk) as agent:
-            wait_more(desk, "p.e6")
+            wait_more(desk, "p.e6n")
             for at, (row, value) in enumerate(bad.items()):
                 expect(f"{row}: used again before", agent.errors().count(USED_AGAIN), at)
                 put_invalid(desk, agent, row, value)
                 put(desk, good)
                 want_used_again(agent, row, at + 1)
-                wait_more(desk, "p.e6", 1)
+                wait_more(desk, "p.e6n", 1)
             want_gone(desk, agent, good, len(bad))
             want_once("invalid", measured(desk))
 
@@ -176,7 +176,7 @@ def want_gone(desk, agent, good, times):
         (desk.folder / "manifests.json").unlink()
         if row == "folder":
             (desk.folder / "manifests.json").mkdir()
-        wait_more(desk, "p.e6", 4)
+        wait_more(desk, "p.e6n", 4)
         said = agent.errors().count("manifests.json") - before
         if row == "gone" and said != 1:
             raise Wrong(f"{row}: said {said} times: {agent.errors()!r}")
@@ -184,7 +184,7 @@ def want_gone(desk, agent, good, times):
             (desk.folder / "manifests.json").rmdir()
         put(desk, good)
         want_used_again(agent, row, times + at)
-        wait_more(desk, "p.e6", 2)
+        wait_more(desk, "p.e6n", 2)
 
 
 def try_new_file(world):
@@ -216,11 +216,11 @@ def try_no_rollout(world):
     with provider(lambda *_: reply("0.25")) as server:
         of, web = template_of(server.port, names=("p",)), measured_beside("web", "of")
         with desk_for(world, "no-rollout", of, web) as desk, agent_of(desk) as agent:
-            wait_more(desk, "p.e6", 1)
+            wait_more(desk, "p.e6n", 1)
             put(desk, listed(of))
-            want_rest("measured no more", lambda: count_of(desk, "p.e6"), 3)
+            want_rest("measured no more", lambda: count_of(desk, "p.e6n"), 3)
             put(desk, listed(of, web))
-            wait_more(desk, "p.e6")
+            wait_more(desk, "p.e6n")
             expect("its errors", but_late(agent.errors()), f"canary: web: {GONE}\n")
 
 
@@ -240,11 +240,11 @@ def want_strange(world, port, row):
         folder.mkdir()
         (folder / "a.json").symlink_to(desk.folder / "manifests.json")
         with agent_of(desk, "manifests") as agent:
-            wait_more(desk, "p.e6", 1)
+            wait_more(desk, "p.e6n", 1)
             plant(folder / "b\x1b[31m.yaml", row)
-            wait_more(desk, "p.e6", 3)
+            wait_more(desk, "p.e6n", 3)
             before = but_late(agent.errors())
-            wait_more(desk, "p.e6", 2)
+            wait_more(desk, "p.e6n", 2)
             expect(f"{row}: said again", but_late(agent.errors()), before)
             want_plain(row, agent.errors(), "\n")
         ended = run_agent(desk, "manifests", options=("--once",), timeout=20)
@@ -280,10 +280,10 @@ def try_names(world):
         other, strange = (os.fsencode(folder) + name
                           for name in (b"/\xff.txt", b"/b\xff\x1b\xc3\xa9.yaml"))
         with open(other, "wb"), agent_of(desk, "manifests") as agent:
-            wait_more(desk, "p.e6", 1)
+            wait_more(desk, "p.e6n", 1)
             expect("another ending", but_late(agent.errors()), "")
             with open(strange, "wb"):
-                wait_more(desk, "p.e6", 4)
+                wait_more(desk, "p.e6n", 4)
             line = "manifests/b\\xff\\x1b\\xc3\\xa9.yaml: the name of this file is not UTF-8"
             expect("said", agent.errors().count(line), 1)
             want_plain("names", agent.errors(), "\n")
@@ -292,7 +292,7 @@ def try_names(world):
                    (WORDS, True))
             os.unlink(strange)
             want_used_again(agent, "no such name", 1)
-            wait_more(desk, "p.e6", 3)
+            wait_more(desk, "p.e6n", 3)
             expect("said once", agent.errors().count("UTF-8"), 1)
         want_each_name(desk, folder)
 
@@ -315,15 +315,15 @@ def try_fifo_instead(world):
         web = measured_beside("web", "of")
         with desk_for(world, "fifo-instead", template_of(server.port, names=("p",)), web) as desk, \
                 agent_of(desk) as agent:
-            wait_more(desk, "p.e6", 1)
+            wait_more(desk, "p.e6n", 1)
             os.mkfifo(desk.folder / "fifo")
             os.replace(desk.folder / "fifo", desk.folder / "manifests.json")
-            wait_more(desk, "p.e6", 5)
+            wait_more(desk, "p.e6n", 5)
             expect("said", agent.errors().count("no regular one any more"), 1)
             put(desk, listed(template_of(server.port, path="new", names=("p",)), web))
             wait_until("the file counts again", lambda: "/new" in server.targets())
             want_used_again(agent, "a FIFO", 1)
-            wait_more(desk, "p.e6", 2)
+            wait_more(desk, "p.e6n", 2)
             want_once("fifo instead", measured(desk))
 
 
@@ -335,7 +335,7 @@ def try_replaced(world):
         web = measured_beside("web", "of")
         with desk_for(world, "replaced", template_of(server.port, names=("p",)), web) as desk, \
                 agent_of(desk) as agent:
-            wait_more(desk, "p.e6", 1)
+            wait_more(desk, "p.e6n", 1)
             good = json.dumps(listed(template_of(server.port, names=("p",)), web))
             until = time.monotonic() + (60 if world.is_whole else 5)
             while time.monotonic() < until:
@@ -344,7 +344,7 @@ def try_replaced(world):
             put(desk, listed(template_of(server.port, path="last", names=("p",)), web))
             wait_until("the last file", lambda: "/last" in server.targets()
                        or agent.must_run())
-            wait_more(desk, "p.e6", 2)
+            wait_more(desk, "p.e6n", 2)
             want_once("replaced", measured(desk))
 
 

@@ -282,7 +282,7 @@ def try_hostile_lines(world):
         for _ in range(300):
             write(b"".join(line + b"\n" for line in HOSTILE[:20]))
         write(b"one m 0.5\r\n")
-        wait_until("after many", lambda: write(b"one m.e6 0.5\n") or time.sleep(.3)
+        wait_until("after many", lambda: write(b"one m.e6n 0.5\n") or time.sleep(.3)
                    or "500000" in reported_of(desk, "one"))
         expect("nothing else is reported", set(reported_of(desk, "one")), {"250000", "500000"})
         found = measured(desk, "asked")

@@ -81,13 +81,13 @@ def try_hindered(world):
         wait_measured(desk, 2)
         agent.hinder(errno.EMFILE, server.port)
         # what was under way may be measured still
-        want_rest("measured no more", lambda: count_measured(desk)["m.e6"], 3)
-        before = count_measured(desk)["m.e6"]
+        want_rest("measured no more", lambda: count_measured(desk)["m.e6n"], 3)
+        before = count_measured(desk)["m.e6n"]
         for number in OWN:
             agent.hinder(number, server.port)
             agent.wait_said(OWN[number])
             time.sleep(1.5)
-            expect(f"{errno.errorcode[number]}: measured", count_measured(desk)["m.e6"], before)
+            expect(f"{errno.errorcode[number]}: measured", count_measured(desk)["m.e6n"], before)
         for word in {*OWN.values()}:
             want_said("hindered", agent, word)
         agent.release()
@@ -136,7 +136,7 @@ def try_hindered_desk(world):
             expect(f"{number}: said", [OWN[number] in line for line in agent.errors().splitlines()
                                        if UNCONNECTED in line].count(True), 1)
         agent.release()
-        before = count_measured(desk)["m.e6"]
+        before = count_measured(desk)["m.e6n"]
         wait_measured(desk, before + 2)
         agent.must_run()
         agent.kill()
@@ -165,7 +165,7 @@ def try_exhausted(world):
         if not 2 <= count <= 2 * seconds:
             raise (Late if count < 2 else Wrong)(f"{count} connections in {seconds} seconds")
         desk.write("manifests.json", listed(*services(server.port, interval="2s")))
-        before = count_measured(desk)["m.e6"]
+        before = count_measured(desk)["m.e6n"]
         wait_measured(desk, before + 2)
         expect("failures", failures_of(desk), [])
         agent.must_run()
@@ -235,12 +235,12 @@ def try_other_provider(world):
             wait_measured(desk, 1)
             agent.hinder(errno.EADDRNOTAVAIL, two.port)
             # what was under way may be measured still
-            want_rest("the second is measured no more", lambda: count_measured(desk)["two.e6"], 4)
+            want_rest("the second is measured no more", lambda: count_measured(desk)["two.e6n"], 4)
             before = count_measured(desk)
-            wait_until("the first", lambda: count_measured(desk)["one.e6"] > before["one.e6"] + 1)
-            expect("the second", count_measured(desk)["two.e6"], before["two.e6"])
+            wait_until("the first", lambda: count_measured(desk)["one.e6n"] > before["one.e6n"] + 1)
+            expect("the second", count_measured(desk)["two.e6n"], before["two.e6n"])
             agent.release()
-            wait_measured(desk, before["one.e6"] + 4)
+            wait_measured(desk, before["one.e6n"] + 4)
             agent.must_run()
             agent.kill()
             expect("failures", failures_of(desk), [])
@@ -264,13 +264,13 @@ def try_beside_slow(world):
                               for name, server, interval in rows))
         with desk_for(world, "beside-slow", of, measured_beside("web", "of")) as desk:
             agent = Hindered(desk, library, errno.EADDRNOTAVAIL, two.port)
-            wait_until("the slow one", lambda: count_measured(desk)["one.e6"] > 1)
-            expect("the other one", count_measured(desk)["two.e6"], 0)
+            wait_until("the slow one", lambda: count_measured(desk)["one.e6n"] > 1)
+            expect("the other one", count_measured(desk)["two.e6n"], 0)
             agent.release()
             wait_measured(desk, 3)
             agent.must_run()
             agent.kill()
-            asked, came = len(one.asked), count_measured(desk)["one.e6"]
+            asked, came = len(one.asked), count_measured(desk)["one.e6n"]
             expect("asked for what came, and at most once more", asked - came in (0, 1), True)
             expect("failures", failures_of(desk), [])
             want_once("beside slow", measured(desk))
@@ -357,7 +357,7 @@ def try_two_addresses(world):
         wait_measured(desk, 1)
         agent.hinder(EAI_AGAIN, 0)
         time.sleep(16)
-        before = count_measured(desk)["m.e6"]
+        before = count_measured(desk)["m.e6n"]
         wait_measured(desk, before + 2)
         expect("failures", failures_of(desk), [])
         expect("said", agent.errors().count(HINDERED), 0)
@@ -459,7 +459,7 @@ def try_no_descriptor(world):
             time.sleep(3)
             expect("said once", agent.errors().count("cannot be read"), 1)
             resource.prlimit(agent.process.pid, resource.RLIMIT_NOFILE, (most, most))
-            before = count_measured(desk)["m.e6"]
+            before = count_measured(desk)["m.e6n"]
             wait_measured(desk, before + 3, seconds=80)
         found = measured(desk)
         expect("failures", [each for each in found if each.failure], [])

@@ -38,9 +38,9 @@ def try_two_runs(world):
         found = measured(desk)
     want_once("two runs", found)
     expect("results", {(each.metric, each.result) for each in found},
-           {(f"{name}.e6", result) for name, result in REPORTED.items()})
+           {(f"{name}.e6n", result) for name, result in REPORTED.items()})
     of_run = {run: {each.metric for each in found if each.run == run} for run in (1, 2)}
     expect("metrics of each run", sorted(map(len, of_run.values())), [1, 1])
-    expect("measurements of the step", sum(each.metric == "within.e6" for each in found), COUNT)
+    expect("measurements of the step", sum(each.metric == "within.e6n" for each in found), COUNT)
     expect("phases, or codes of refusals", {line["phase"] for line in lines}, {"Successful"})
     return f"{len(found)} measurements of two runs"

@@ -68,7 +68,7 @@ def try_slow_metric(world):
             wait_measured(desk, 2)
             found = measured(desk)
             expect("results", {each.result for each in found}, {"250000"})
-            moments = [each.taken for each in found if each.metric == "quick.e6"]
+            moments = [each.taken for each in found if each.metric == "quick.e6n"]
             gaps = [two - one for one, two in zip(moments, moments[1:])]
             if len(gaps) < 5 or max(gaps) > 5:
                 raise Late(f"the quick one was measured at {moments}")
@@ -184,7 +184,7 @@ class Looks:
         """A look found it due or not; since when each did."""
         self.since = (self.since or time.monotonic()) if is_due else None
         if is_due and self.is_reporting:
-            self.desk.do("report", "web", "1", "m.e6", "250000", caller="other",
+            self.desk.do("report", "web", "1", "m.e6n", "250000", caller="other",
                          journal="other.journal")
 
 
@@ -238,7 +238,7 @@ def try_no_file(world):
             desk.write("less.json", {"kind": "List", "items": [template("of", of), made[1]]})
             with agent_of(desk, "less.json") as agent:
                 agent.wait_said("no file has")
-                wait_measured_of(desk, "m.e6", 4)
+                wait_measured_of(desk, "m.e6n", 4)
                 expect("said of it", agent.errors().count("no file has"), 1)
                 expect("it is there still", status(desk), "Paused")
             time.sleep(2)
@@ -246,7 +246,7 @@ def try_no_file(world):
             expect(f"not measured: {ended}", ended.status, REFUSED)
             run_agent(desk, "less.json", options=("--once", "--abort-late", "2"))
             expect("as it is late", status(desk), "Degraded")
-            expect("it was not measured", {each.metric for each in measured(desk)}, {"m.e6"})
+            expect("it was not measured", {each.metric for each in measured(desk)}, {"m.e6n"})
 
 
 def wait_measured_of(desk, label, count):

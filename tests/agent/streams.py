@@ -117,12 +117,12 @@ def try_lines(world):
 def want_json(desk):
     ended = run_agent(desk, options=ONCE)
     lines = sorted(ended.output.splitlines())
-    forms = [r'{"failure":"(?:[^"\\]|\\.)*u001b(?:[^"\\]|\\.)*","metric":"none\.e6",'
+    forms = [r'{"failure":"(?:[^"\\]|\\.)*u001b(?:[^"\\]|\\.)*","metric":"none\.e6n",'
              r'"ordinal":1,"phase":"Error",'
              r'"run":1,"service":"web","taken":\d+}',
-             r'{"metric":"one\.e6","ordinal":1,"phase":"Successful","result":250000,"run":1,'
+             r'{"metric":"one\.e6n","ordinal":1,"phase":"Successful","result":250000,"run":1,'
              r'"service":"web","taken":\d+}',
-             r'{"metric":"two\.e6p2","ordinal":1,"phase":"Failed","result":\[250000,2000000\],'
+             r'{"metric":"two\.e6np2","ordinal":1,"phase":"Failed","result":\[250000,2000000\],'
              r'"run":1,"service":"web","taken":\d+}']
     for line, form in itertools.zip_longest(lines, forms, fillvalue=""):
         if not re.fullmatch(form, line):
@@ -159,7 +159,7 @@ def try_refused(world):
             wait_until("it is asked", lambda: server.asked)
             server.asked.clear()
             count = len(measured(desk))
-            desk.do("report", "web", "1", "m.e6", "500000", caller="other",
+            desk.do("report", "web", "1", "m.e6n", "500000", caller="other",
                     journal="other.journal")
             wait_until("one more", lambda: len(measured(desk)) > count)
             time.sleep(1)

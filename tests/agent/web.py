@@ -67,7 +67,7 @@ def try_decimals(world):
     for at, (text, wanted) in enumerate(DECIMALS.items()):
         for kind in "wp":
             each = found[f"{kind}-{at}"]
-            expect(f"{kind}: {text}", (each.metric, each.result), (f"{kind}-{at}.e16", wanted))
+            expect(f"{kind}: {text}", (each.metric, each.result), (f"{kind}-{at}.e16n", wanted))
     return f"{len(found)} values"
 
 
@@ -232,4 +232,4 @@ def try_refused_providers(world):
                 expect(f"{name}: said", len(said), 1)
             if "secret" in ended.errors:
                 raise Wrong("a password is shown")
-            expect("measured", [each.metric for each in measured(desk)], ["good.e6"])
+            expect("measured", [each.metric for each in measured(desk)], ["good.e6n"])

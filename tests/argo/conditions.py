@@ -1,7 +1,7 @@
 """Conditions of Argo Rollouts, as far as `canary argo` takes them: what they say of a value, what
 an agent has to report for them, and as what it is reported. All of it comes from Argo's text.
 
-A value is a Fraction, NAN, INFINITE, MINUS_INFINITE, NULL, or a list of these."""
+A value is a Fraction, NAN, INFINITE, MINUS_INFINITE, NULL, a Text, or a list of these."""
 import collections
 import functools
 import math
@@ -9,11 +9,16 @@ import re
 from fractions import Fraction
 
 NAN, INFINITE, MINUS_INFINITE, NULL = "NaN", "+Inf", "-Inf", "null"
+INFINITIES = (INFINITE, MINUS_INFINITE)
 # The greatest number that is reported of a decimal, and what is reported in place of no number.
 MOST = 9_223_372_036_854_775_803
 NUMBERS = {NAN: -2 ** 63, MINUS_INFINITE: -2 ** 63 + 1, NULL: -2 ** 63 + 2, INFINITE: 2 ** 63 - 1}
-# What is reported beside decimals, by the letter of a label.
-BESIDE = {"": (), "n": (NAN,), "i": (NAN, INFINITE, MINUS_INFINITE), "s": tuple(NUMBERS)}
+# The same under a label that has no numbers for the infinities alone.
+WITHIN = NUMBERS | {INFINITE: MOST, MINUS_INFINITE: -MOST}
+# What is reported beside decimals, by the letter of a label, and the function that reads a text.
+BESIDE = {"": INFINITIES, "w": INFINITIES, "n": (NAN, *INFINITIES), "t": (NAN, *INFINITIES),
+          "i": (NAN, *INFINITIES), "s": tuple(NUMBERS)}
+TEXTS = {"t": "asFloat", "w": "asInt"}
 LEAST_PLACES = 6
 COMPARISONS = ("==", "!=", "<", "<=", ">", ">=")
 DIGITS = "[0-9][0-9_]*"
@@ -24,6 +29,10 @@ TURNED = {"==": "==", "!=": "!=", "<": ">", "<=": ">=", ">": "<", ">=": "<="}
 # What is looked at: "whole", "length" or the number of a place, the function round it, and the
 # number of a `default`.
 Look = collections.namedtuple("Look", "place function number")
+# A text that a provider gives in place of a number.
+Text = collections.namedtuple("Text", "text")
+FLOAT = re.compile(r"[+-]?([0-9]+\.?[0-9]*|\.[0-9]+)([eE][+-]?[0-9]+)?")
+WORDS = {"nan": NAN, "inf": INFINITE, "infinity": INFINITE}
 
 
 class Fault(Exception):
@@ -59,6 +68,36 @@ def digits_after_point(text):
         return 0
     _, _, after, power = parts_of_number(text)
     return len(after) + max(0, -power)
+
+
+# ---- texts
+
+def parse_float(text):
+    """What Go's ParseFloat reads in a text: a number or a word. Left out are hexadecimal numbers,
+    digits with `_` between them, and numbers from 10^308 on."""
+    sign, word = (text[0], text[1:]) if text[:1] in ("+", "-") else ("", text)
+    found = WORDS.get(word.lower())
+    if found == INFINITE:
+        return MINUS_INFINITE if sign == "-" else INFINITE
+    if found == NAN and not sign:
+        return NAN
+    if not FLOAT.fullmatch(text) or abs(Fraction(text)) >= 10 ** 308:
+        raise Fault
+    return Fraction(text)
+
+
+def parse_int(text):
+    """What Go's ParseInt reads in a text: a whole number of 64 bits."""
+    if not re.fullmatch(r"[+-]?[0-9]+", text) or not -2 ** 63 <= int(text) < 2 ** 63:
+        raise Fault
+    return Fraction(int(text))
+
+
+def in_text(text, function):
+    """What `asFloat` or `asInt` reads in a text; a text alone is compared with no number."""
+    if function not in TEXTS.values():
+        raise Fault
+    return (parse_float if function == "asFloat" else parse_int)(text.text)
 
 
 # ---- reading
@@ -205,7 +244,7 @@ def compared(left, sign, right):
         raise Fault
     if left == NAN:
         return sign == "!="
-    if left in (INFINITE, MINUS_INFINITE):
+    if left in INFINITIES:
         left, right = 1 if left == INFINITE else -1, 0
     return {"==": left == right, "!=": left != right, "<": left < right, "<=": left <= right,
             ">": left > right, ">=": left >= right}[sign]
@@ -231,23 +270,35 @@ class Meaning:
         """What stands in place of null, by the number of a `default`."""
         return self.constant(number)
 
+    @staticmethod
+    def in_text(text, function):
+        return in_text(text, function)
+
+    @staticmethod
+    def whole_of_word(word):
+        """What `asInt` makes of what is no decimal. In Argo that depends on the processor: here an
+        infinity stays one, and NaN is a fault."""
+        if word in INFINITIES:
+            return word
+        raise Fault
+
     def seen(self, look, value):
         """What a comparison sees of a value, by the function round it."""
         found = at_place(look.place, value)
+        if isinstance(found, Text):
+            found = self.in_text(found, look.function)
         if look.function == "default" and found == NULL:
             return self.instead(look.number)
-        if look.function != "asInt":
+        if look.function != "asInt" or found == NULL:
             return found
-        if not isinstance(found, Fraction):
-            raise Fault
-        return self.whole(found)
+        return self.whole(found) if isinstance(found, Fraction) else self.whole_of_word(found)
 
     @staticmethod
     def asked(function, found):
         """What `isNaN` or `isInf` says."""
-        if found == NULL:
+        if found == NULL or isinstance(found, Text):
             raise Fault
-        return found in ((NAN,) if function == "isNaN" else (INFINITE, MINUS_INFINITE))
+        return found in ((NAN,) if function == "isNaN" else INFINITIES)
 
     def joined(self, tree, value):
         """The right side counts only if the left one does not decide."""
@@ -305,6 +356,16 @@ def numbers_of(part):
         yield part[1].number
 
 
+def letter_of(functions):
+    """The letter of a label, by the functions round the values, of which one may be none."""
+    for function, letter in (("default", "s"), ("isInf", "i"), ("isNaN", "n")):
+        if function in functions:
+            return letter
+    if "asInt" in functions:
+        return "" if "" in functions else "w"
+    return "t" if functions == {"asFloat"} else "n"
+
+
 class Form:
     """How the values of a metric with these conditions are reported."""
 
@@ -314,9 +375,8 @@ class Form:
         self.is_list = "whole" not in named
         self.has_length = "length" in named
         self.count = max((place + 1 for place in named if isinstance(place, int)), default=0)
-        functions = {part[1].function for part in parts}
-        self.letter = ("s" if "default" in functions else "i" if "isInf" in functions
-                       else "n" if "isNaN" in functions else "")
+        self.functions = {part[1].function for part in parts if part[1].place != "length"}
+        self.letter = letter_of(self.functions)
         digits = [digits_after_point(number) + 1 for part in parts for number in numbers_of(part)]
         self.places = max([LEAST_PLACES, *digits])
 
@@ -329,10 +389,22 @@ class Form:
             shape = "f" if self.count == 1 else f"p{self.count}"
         return f".e{self.places}{self.letter}{shape}"
 
+    def read(self, value):
+        """A value as it is reported: a text as the number in it, if texts are read."""
+        try:
+            return in_text(value, TEXTS.get(self.letter)) if isinstance(value, Text) else value
+        except Fault:
+            return value
+
     def is_number(self, value):
         """Whether a number is reported of what is no list."""
-        return isinstance(value, Fraction) or (
-            not isinstance(value, list) and value in BESIDE[self.letter])
+        found = self.read(value)
+        return isinstance(found, Fraction) or (
+            isinstance(found, str) and found in BESIDE[self.letter])
+
+    def looked_at(self, value):
+        """The values that are reported, if any are."""
+        return value[:self.count] if isinstance(value, list) else [value]
 
     def cannot_report(self, value):
         """Whether a failure is reported of a value."""
@@ -347,9 +419,9 @@ class Form:
         failure."""
         if self.cannot_report(value):
             return None
+        numbers = [to_number(self.read(one), self) for one in self.looked_at(value)]
         if not self.is_list:
-            return to_number(value, self.places)
-        numbers = [to_number(one, self.places) for one in value[:self.count]]
+            return numbers[0]
         if self.has_length:
             return [len(value), *numbers]
         return numbers[0] if self.count == 1 else numbers
@@ -366,6 +438,13 @@ def multiple(value, places):
     return -number if value < 0 else number
 
 
-def number_of(value, places):
+def number_of_word(word, letter):
+    """The number that is reported of NaN, an infinity or null, under a label with that letter."""
+    return (NUMBERS if letter in ("i", "s") else WITHIN)[word]
+
+
+def number_of(value, form):
     """The number that is reported of a value."""
-    return multiple(value, places) if isinstance(value, Fraction) else NUMBERS[value]
+    if isinstance(value, Fraction):
+        return multiple(value, form.places)
+    return number_of_word(value, form.letter)

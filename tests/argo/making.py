@@ -4,18 +4,31 @@ import math
 from fractions import Fraction
 
 import conditions
-from conditions import COMPARISONS, INFINITE, MINUS_INFINITE, NAN, NULL, Form, digits_after_point
+from conditions import (
+    COMPARISONS, INFINITE, INFINITIES, NAN, NULL, Form, Text, digits_after_point)
 
 # The most digits of a constant, the most of them after the point, and the most of the number that
 # a desk compares with.
 MOST_DIGITS, MOST_AFTER, DESK_DIGITS = 15, 17, 18
-# What the conditions of a metric have beside comparisons of values: `asInt`, `isNaN`, `isInf` and
-# `isNaN`, or `default` round each value.
-KINDS = ["plain", "plain", "plain", "whole", "whole", "nan", "infinite", "infinite", "null", "null"]
+# What the conditions of a metric have beside comparisons of values: `asInt` at some values; it or
+# `asFloat` at each; `asFloat` at each; `isNaN`; `isInf` and `isNaN`; or `default` round each value.
+KINDS = ["plain", "plain", "plain", "whole", "whole", "cut", "cut", "float", "float", "float",
+         "nan", "infinite", "infinite", "null", "null"]
+CUT, READ = ("whole", "cut"), ("cut", "float")
 # Words that are measured: by kind, and in each of them.
-WORDS = {"nan": [NAN], "infinite": [NAN, INFINITE, MINUS_INFINITE],
-         "null": [NULL, NULL, NULL, NAN, INFINITE, MINUS_INFINITE]}
-ANY_WORD = [NAN, INFINITE, MINUS_INFINITE, NULL]
+WORDS = {"nan": [NAN, NAN, *INFINITIES], "null": [NULL, NULL, NULL, NAN, *INFINITIES]}
+ANY_WORD = [NAN, *INFINITIES, NULL, Text("0.5"), Text("7")]
+# How many of the values are words, by kind, and of the others texts, if those are read.
+SHARES, TEXTS = {"nan": 0.25, "infinite": 0.25, "null": 0.25}, 0.5
+# Texts that Go's ParseFloat reads, but no plain decimal, and what it and ParseInt read otherwise,
+# or not.
+WORD_TEXTS = ["NaN", "nan", "NAN", "Inf", "+Inf", "-inf", "Infinity", "-INFINITY", "+infinity"]
+EDGE_TEXTS = ["9223372036854775807", "9223372036854775808", "-9223372036854775808",
+              "-9223372036854775809", "+9223372036854775807", "0", "-0", "+0", "007", "5.", "-.5",
+              "+.5e1", "0e9999", "1e307", "-9.9e307"]
+ODD_TEXTS = ["", " ", "1 ", " 1", "up", "0x10", "1e", "1e+", ".", "+", "-", ".e1", "+-1", "--1",
+             "1.2.3", "1,5", "\u0661", "+nan", "-NaN", "in", "infin", "infinity1", "true", "null",
+             "1e400", "-1e309", "1\n"]
 # Constants of people, and one that just fits a desk.
 USUAL = ["0", "1", "0.95", "0.05", "0.99", "0.999", "95", "-1", "-0.5", "1.5", "500", "100.25",
          "0.950", "300.0", "9223372036854.77", "-9223372036854.7", "9223372036853", "1e-3", ".5",
@@ -73,6 +86,21 @@ def with_lines(rng, text):
 
 
 SPELLINGS = [with_power, with_power, hexadecimal, hexadecimal, without_zero, with_lines]
+
+
+def with_point(_, text):
+    """A whole number with a point behind it."""
+    return text if "." in text else f"{text}."
+
+
+def plain(number):
+    """A decimal without an exponent."""
+    places = 0
+    while (number * 10 ** places).denominator != 1:
+        places += 1
+    digits = str(abs(number) * 10 ** places).rjust(places + 1, "0")
+    sign = "-" if number < 0 else ""
+    return f"{sign}{digits[:-places]}.{digits[-places:]}" if places else sign + digits
 
 
 class Metric:
@@ -141,14 +169,14 @@ class Maker:
     def fits(self, text):
         """Whether a number is held, and a desk's number holds it, or the next whole one."""
         size, after = abs(conditions.exact(text)), digits_after_point(text)
-        most = (size + (self.kind == "whole")) * 10 ** self.most_places()
+        most = (size + (self.kind in CUT)) * 10 ** self.most_places()
         return after <= self.digits and size * 10 ** after < 10 ** MOST_DIGITS and most < 2 ** 63
 
     def made_constant(self):
         rng = self.rng
         after = rng.randint(0, self.digits)
         before = rng.randint(0, max(0, min(MOST_DIGITS - after, DESK_DIGITS - self.most_places())))
-        is_below = rng.random() < (0.5 if self.kind == "whole" else 0.25)
+        is_below = rng.random() < (0.5 if self.kind in CUT else 0.25)
         text = ("-" if is_below else "") + str(rng.randrange(10 ** before))
         most = min(after, MOST_DIGITS)
         return text + (f".{rng.randrange(10 ** most):0{after}}" if after else "")
@@ -178,9 +206,10 @@ class Maker:
         words, chance = self.words_of(place), self.rng.random()
         if self.kind == "null":
             return ["default", "(", *words, ",", self.constant(), ")"]
-        if self.kind == "whole" and chance < 0.6:
+        if self.kind in CUT and chance < 0.6:
             return ["asInt", "(", *words, ")"]
-        return ["asFloat", "(", *words, ")"] if chance > 0.8 else words
+        is_plain = chance < 0.8 and self.kind not in READ
+        return words if is_plain else ["asFloat", "(", *words, ")"]
 
     def bracketed(self, words):
         return ["(", *words, ")"] if self.rng.random() < 0.12 else words
@@ -245,24 +274,42 @@ class Maker:
     # ---- values
 
     def number(self):
-        """A number at a constant, beside one, far away, or anywhere; rarely none."""
+        """A number at a constant, beside one, far away, or anywhere, or a text of such a number;
+        rarely none."""
         rng, kind = self.rng, self.rng.random()
         if kind < 0.04:
             return rng.choice(ANY_WORD) if rng.random() < 0.6 else Fraction(rng.randrange(-9, 10))
-        if kind < 0.25 and self.kind in WORDS:
-            return rng.choice(WORDS[self.kind])
+        if kind < SHARES.get(self.kind, 0.12):
+            return rng.choice(WORDS.get(self.kind, [NAN, *INFINITIES]))
+        found = self.decimal(kind)
+        return self.in_text(found) if self.kind in READ and rng.random() < TEXTS else found
+
+    def decimal(self, kind):
+        rng = self.rng
         if kind < 0.8 and self.constants:
             return self.near(rng.choice(self.constants))
         if kind < 0.9:
             return rng.choice([1, -1]) * Fraction(10) ** rng.randint(-30, 40) * rng.randint(1, 99)
         return Fraction(rng.randrange(-10 ** 9, 10 ** 9), 10 ** rng.randint(0, 12))
 
+    def in_text(self, number):
+        """A text of the number, or rarely another one."""
+        rng, kind = self.rng, self.rng.random()
+        if kind < 0.15:
+            return Text(rng.choice(rng.choice([WORD_TEXTS, EDGE_TEXTS, ODD_TEXTS])))
+        if self.kind == "cut" and kind < 0.7:
+            number = Fraction(math.floor(number))
+        text = plain(number)
+        if kind > 0.8:
+            text = rng.choice([with_power, without_zero, with_point])(rng, text)
+        return Text(f"+{text}" if number >= 0 and rng.random() < 0.15 else text)
+
     def near(self, constant):
         """A number at a constant or beside it, or, where values are cut off, at a whole one."""
         rng = self.rng
-        if self.kind == "whole" and rng.random() < 0.2:
+        if self.kind in CUT and rng.random() < 0.2:
             return rng.choice(NEAR_ZERO)
-        if self.kind == "whole" and rng.random() < 0.7:
+        if self.kind in CUT and rng.random() < 0.7:
             constant = Fraction(math.floor(constant) + rng.choice([-1, 0, 0, 1, 1, 2]))
         step = Fraction(rng.choice(STEPS)) / 10 ** rng.choice([*range(14), 17, 18, 20, 25, 30])
         return constant + step

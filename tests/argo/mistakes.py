@@ -3,12 +3,19 @@ import math
 from fractions import Fraction
 
 import conditions
-from conditions import INFINITE, MINUS_INFINITE, MOST, NAN, NULL, NUMBERS, Form, Meaning
-
-INFINITIES = (INFINITE, MINUS_INFINITE)
+from conditions import (
+    INFINITE, INFINITIES, MINUS_INFINITE, MOST, NAN, NULL, NUMBERS, Fault, Form, Meaning, Text,
+    number_of_word)
 
 
 # ---- of what is meant
+
+def with_zero(value, is_left_out):
+    """A value with 0 in place of what is left out."""
+    if isinstance(value, list):
+        return [Fraction(0) if is_left_out(one) else one for one in value]
+    return Fraction(0) if is_left_out(value) else value
+
 
 class GreaterForAtLeast(Meaning):
     """`>=` read as `>`."""
@@ -42,23 +49,68 @@ class OrBeforeAnd(Meaning):
 
 
 class NotANumberCompared(Meaning):
-    """NaN compared, where nothing asks for it."""
+    """NaN compared, where `asInt` stands beside."""
 
     @staticmethod
     def cannot_report(form, value):
-        asking = Form(())
-        asking.__dict__.update(form.__dict__, letter=form.letter or "n")
-        return asking.cannot_report(value)
+        return form.cannot_report(with_zero(value, lambda one: one == NAN))
 
 
-class InfinityCompared(Meaning):
-    """Infinities compared, where nothing asks for them."""
+class NotANumberAFailure(Meaning):
+    """NaN a failure, where nothing asks for it."""
 
     @staticmethod
     def cannot_report(form, value):
-        asking = Form(())
-        asking.__dict__.update(form.__dict__, letter="s" if form.letter == "s" else "i")
-        return asking.cannot_report(value)
+        is_asked = form.letter in ("i", "s") or "isNaN" in form.functions
+        return form.cannot_report(value) or (not is_asked and NAN in form.looked_at(value))
+
+
+class InfinityAFailure(Meaning):
+    """An infinity a failure, where nothing asks for it."""
+
+    @staticmethod
+    def cannot_report(form, value):
+        is_asked = form.letter in ("i", "s")
+        has_one = any(one in INFINITIES for one in form.looked_at(value))
+        return form.cannot_report(value) or (not is_asked and has_one)
+
+
+class TextAFailure(Meaning):
+    """A text a failure, whatever function stands round it."""
+
+    @staticmethod
+    def cannot_report(form, value):
+        has_one = any(isinstance(one, Text) for one in form.looked_at(value))
+        return form.cannot_report(value) or has_one
+
+
+class TextCutOff(Meaning):
+    """`asInt` of a text the number in it, cut off."""
+
+    @staticmethod
+    def cannot_report(form, value):
+        reading = Form(())
+        reading.__dict__.update(form.__dict__, letter="t" if form.letter == "w" else form.letter)
+        return reading.cannot_report(value)
+
+    @staticmethod
+    def in_text(text, function):
+        return conditions.in_text(text, function and "asFloat")
+
+
+class TextIsZero(Meaning):
+    """A text that is no number as 0."""
+
+    @staticmethod
+    def cannot_report(form, value):
+        return form.cannot_report(with_zero(value, lambda one: isinstance(one, Text)))
+
+    @staticmethod
+    def in_text(text, function):
+        try:
+            return conditions.in_text(text, function)
+        except Fault:
+            return Fraction(0)
 
 
 class NotANumberBelow(Meaning):
@@ -127,13 +179,7 @@ class NullIsZero(Meaning):
     def phase(self, trees, form, value):
         if form.letter == "s":
             return super().phase(trees, form, value)
-        return super().phase(trees, form, without_null(value))
-
-
-def without_null(value):
-    if isinstance(value, list):
-        return [Fraction(0) if one == NULL else one for one in value]
-    return Fraction(0) if value == NULL else value
+        return super().phase(trees, form, with_zero(value, lambda one: one == NULL))
 
 
 class DefaultDropped(Meaning):
@@ -208,10 +254,11 @@ class DigitsUpToLine(Meaning):
 
 
 MEANINGS = (GreaterForAtLeast, RoundedConstant, BothSides, OrBeforeAnd, NotANumberCompared,
-            InfinityCompared, NotANumberBelow, InfinityNotANumber, InfinityAboveAlone,
-            InfinityWithoutSign, AsIntDropped, AsIntFloored, AsIntRounded, NullIsZero,
-            DefaultDropped, DefaultOfZero, DefaultOfNotANumber, HexadecimalAsDecimal,
-            HexadecimalWithoutSign, PowerWithoutSign, PowerLeftOut, DigitsUpToLine)
+            NotANumberAFailure, InfinityAFailure, TextAFailure, TextCutOff, TextIsZero,
+            NotANumberBelow, InfinityNotANumber, InfinityAboveAlone, InfinityWithoutSign,
+            AsIntDropped, AsIntFloored, AsIntRounded, NullIsZero, DefaultDropped, DefaultOfZero,
+            DefaultOfNotANumber, HexadecimalAsDecimal, HexadecimalWithoutSign, PowerWithoutSign,
+            PowerLeftOut, DigitsUpToLine)
 
 
 # ---- of what is reported
@@ -245,30 +292,42 @@ def up_to_infinity(value, places):
     return NUMBERS[INFINITE] if number > 0 else NUMBERS[MINUS_INFINITE]
 
 
-def infinity_as_nan(word, _):
-    return NUMBERS[NAN if word in INFINITIES else word]
+def infinity_as_nan(word, letter):
+    return number_of_word(NAN if word in INFINITIES else word, letter)
 
 
-def infinity_as_most(word, _):
-    return {INFINITE: MOST, MINUS_INFINITE: -MOST}.get(word, NUMBERS[word])
+def infinity_as_most(word, letter):
+    return {INFINITE: MOST, MINUS_INFINITE: -MOST}.get(word) or number_of_word(word, letter)
 
 
-def null_as_nan(word, _):
-    return NUMBERS[NAN if word == NULL else word]
+def infinity_within(word, letter):
+    """An infinity as a number that a constant may reach."""
+    number = number_of_word(word, letter)
+    return number // 10 if word in INFINITIES else number
 
 
-def null_as_zero(word, _):
-    return 0 if word == NULL else NUMBERS[word]
+def nan_as_infinity(word, letter):
+    return number_of_word(INFINITE if word == NAN else word, letter)
+
+
+def null_as_nan(word, letter):
+    return number_of_word(NAN if word == NULL else word, letter)
+
+
+def null_as_zero(word, letter):
+    return 0 if word == NULL else number_of_word(word, letter)
 
 
 DECIMALS = (floored, cut_off, with_a_place_less, without_a_limit, up_to_infinity)
-WORDS = (infinity_as_nan, infinity_as_most, null_as_nan, null_as_zero)
+WORDS = (infinity_as_nan, infinity_as_most, infinity_within, nan_as_infinity, null_as_nan,
+         null_as_zero)
 
 
 def with_mistake(mistake):
     """What is reported of a value, with a mistake in decimals, or in words."""
-    def number_of(value, places):
-        is_wrong = isinstance(value, Fraction) == (mistake in DECIMALS)
-        return mistake(value, places) if is_wrong else conditions.number_of(value, places)
+    def number_of(value, form):
+        if isinstance(value, Fraction) != (mistake in DECIMALS):
+            return conditions.number_of(value, form)
+        return mistake(value, form.places if mistake in DECIMALS else form.letter)
 
     return number_of

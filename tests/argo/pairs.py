@@ -7,6 +7,7 @@ import time
 from fractions import Fraction
 
 import conditions
+import doubles
 import making
 import mistakes
 from asked import Wrong, run
@@ -16,10 +17,15 @@ from story_words import B, put, replies
 METRICS, VALUES, TEMPLATES = 32, 8, 16
 LIMIT, SECONDS, MOST_PAIRS = 1_000_000, 20, 100_000
 PHASES = ("Error", "Failed", "Inconclusive", "Successful")
+# Why Argo may say something else.
+LONG = "differ from Argo by a decimal that is no shortest one"
+FAILURE = "are failures here that Argo judges, as it does not look at what has no number"
+PROCESSOR = "Argo leaves to the processor"
+BESIDE_ARGO = (LONG, FAILURE, PROCESSOR)
 # What the conditions and the values must have.
 FUNCTIONS = ("asFloat", "asInt", "default", "isInf", "isNaN", "len")
 FORMS = (*FUNCTIONS, "(result)", "(number)", "0x", "exponent", "point first", "_",
-         *conditions.NUMBERS)
+         *conditions.NUMBERS, "a text")
 # Of the mistakes that are planted.
 PLANTED_TEMPLATES, MOST_LOTS = 8, 6
 MISTAKES = (*mistakes.MEANINGS, *mistakes.DECIMALS, *mistakes.WORDS)
@@ -116,13 +122,32 @@ class Lot:
         """The pairs of which the desk says something else than that meaning; and how often each
         phase is meant."""
         found, counts = [], collections.Counter()
-        pairs = ((metric, value, phases[at][ordinal][place])
-                 for at, metrics in enumerate(self.metrics) for place, metric in enumerate(metrics)
-                 for ordinal, value in enumerate(metric.values))
-        for metric, value, phase in pairs:
+        for metric, value, phase in self.judged(phases):
             wanted = meaning.phase(metric.trees, metric.form, value)
             counts[wanted] += 1
             if phase != wanted:
+                found.append((metric, value, phase, wanted))
+        return found, counts
+
+    def judged(self, phases):
+        """Each pair with its phase."""
+        return ((metric, value, phases[at][ordinal][place])
+                for at, metrics in enumerate(self.metrics) for place, metric in enumerate(metrics)
+                for ordinal, value in enumerate(metric.values))
+
+    def beside_argo(self, phases):
+        """The pairs of which Argo, with numbers of 64 bits, says something else, though a number
+        was reported and each decimal is a shortest one; and how often it does so otherwise."""
+        found, counts, argo = [], collections.Counter(), doubles.Argo()
+        for metric, value, phase in self.judged(phases):
+            wanted = argo.phase(metric.trees, metric.form, value)
+            if wanted is None:
+                counts[PROCESSOR] += 1
+            elif phase != wanted and metric.form.cannot_report(value):
+                counts[FAILURE] += 1
+            elif phase != wanted and not doubles.has_shortest(metric, value):
+                counts[LONG] += 1
+            elif phase != wanted:
                 found.append((metric, value, phase, wanted))
         return found, counts
 
@@ -135,6 +160,8 @@ def entry(metric, ordinal, taken, number_of):
 
 def shown(value):
     """A value as a person reads it."""
+    if isinstance(value, conditions.Text):
+        return repr(value.text)
     if isinstance(value, list):
         return f"[{', '.join(map(shown, value))}]"
     return f"{value.numerator}/{value.denominator}" if isinstance(value, Fraction) else value
@@ -179,11 +206,12 @@ def forms_of(text):
 
 
 def words_in(metric):
-    """The words that are reported in place of a decimal."""
+    """The words and texts that are reported in place of a decimal."""
     values = [it for it in metric.values if not metric.form.cannot_report(it)]
     for value in values:
-        many = value[:metric.form.count] if isinstance(value, list) else [value]
-        yield from {one for one in many if isinstance(one, str)}
+        yield from {one for one in metric.form.looked_at(value) if isinstance(one, str)}
+        if doubles.has_text(metric, value):
+            yield "a text"
 
 
 def forms_in(lot):
@@ -210,13 +238,17 @@ def try_pairs(trial):
     while tried < MOST_PAIRS and (trial.is_whole or time.monotonic() < until):
         lot = Lot(trial, f"{trial.seed} {number}")
         lot.want_labels()
-        found, more = lot.differences(lot.phases(conditions.number_of), Meaning())
-        if found:
+        phases = lot.phases(conditions.number_of)
+        found, more = lot.differences(phases, Meaning())
+        found_beside, beside = lot.beside_argo(phases)
+        if found or found_beside:
+            found = found or found_beside
             raise Wrong(f"lot {number}: {len(found)} differ: {told(smallest(found))}")
-        tried, number, counts = tried + lot.pairs(), number + 1, counts + more + forms_in(lot)
+        tried, number = tried + lot.pairs(), number + 1
+        counts += more + beside + forms_in(lot)
     want_all(tried, counts)
-    phases = ", ".join(f"{counts[phase]} {phase}" for phase in PHASES)
-    return f"{tried} conditions with a value: {phases}"
+    return f"{tried} conditions with a value: " + ", ".join(
+        f"{counts[it]} {it}" for it in (*PHASES, *BESIDE_ARGO))
 
 
 # ---- mistakes that the comparison must find

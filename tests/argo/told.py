@@ -61,15 +61,17 @@ def place_of(at, lines, mark, path):
 
 
 def want_taken(trial, faults):
-    """Each row that is taken: the label and the condition of the desk's metric."""
+    """Each row that is taken: the label and the condition of the desk's metric. The note on NaN is
+    at the first one with `asInt`."""
     rows = conditions("TAKEN")
     lines = [line_of(at, row[0]) for at, row in enumerate(rows)]
+    noted = next(at for at, row in enumerate(rows) if "asInt" in row[0])
     found = tell(trial, "taken", lines)
     with faults:
         texts = {rows[it["line"] - 2][0]: it["text"] for it in found["findings"]}
         expect("conditions that are taken, but for these", texts, {})
         expect("the note on NaN", found["notes"],
-               [place_of(0, lines, METRIC, "") | {"text": NAN}])
+               [place_of(noted, lines, METRIC, "") | {"text": NAN}])
         expect("templates", len(found["templates"]), len(rows))
     for at, ((condition, suffix, wanted), made) in enumerate(zip(rows, found["templates"])):
         with faults:

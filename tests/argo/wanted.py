@@ -1,8 +1,8 @@
 """What becomes of each file of examples/argo, written by hand: TAKEN has what is made of it, and
 REFUSED what is found, each with line, column, path and text."""
 
-NAN = ("NaN without isNaN is a failure here, an Error; Argo takes comparisons with it as false: "
-       "write isNaN(result) where NaN is to count (said once, for all metrics)")
+NAN = ("NaN beside asInt is a failure here, an Error; what Argo makes of it depends on the "
+       "processor: leave asInt out where NaN is to count (said once, for all metrics)")
 # What conditions have that is refused, with what to write.
 TEXT = "a text: have what is asked give 1 or 0, and write result == 1"
 TRUTH = "a truth: have what is asked give 1 or 0, and write result == 1"
@@ -106,43 +106,42 @@ APDEX = {"web": {"url": "http://apm.internal/apdex/profile", "jsonPath": "{$.apd
 
 
 def latency(limit):
-    return [{"name": "p99.e6f", "successCondition": f"result <= {limit}", "interval": "1m",
-             "count": 10, "failureLimit": 2}]
+    return [{"name": "p99.e6nf",
+             "successCondition": f"(result <= {limit} && result != {NAN_NUMBER})",
+             "interval": "1m", "count": 10, "failureLimit": 2}]
 
 
 TAKEN = {
     "success-rate.yaml": Taken(
         {"success-rate": [
-            {"name": "success-rate.e6f", "successCondition": "result >= 950000", "interval": "5m",
+            {"name": "success-rate.e6nf", "successCondition": "result >= 950000", "interval": "5m",
              "count": 6, "failureLimit": 3}]},
         {"guestbook": {
             "steps": [weight(20), pause("10m"), weight(40), pause("10m"), weight(60), pause("10m"),
                       weight(80), pause("10m")],
             "analysis": named("success-rate", startingStep=2)}},
-        [("guestbook", "success-rate.e6f", "success-rate", "success-rate",
+        [("guestbook", "success-rate.e6nf", "success-rate", "success-rate",
           prometheus("http://prometheus.example.com:9090",
                      REQUESTS.format("guestbook-svc.default.svc.cluster.local")))],
-        nan=(11, 5), nobody=(58, 7, 20, "before setWeight 40")),
+        nobody=(58, 7, 20, "before setWeight 40")),
     "web.yaml": Taken(
         {"success-rate": [
-            {"name": "success-rate.e6f", "successCondition": "result >= 950000",
+            {"name": "success-rate.e6nf", "successCondition": "result >= 950000",
              "interval": "5m"}]},
         {"web": {"steps": [weight(20), pause()], "analysis": named("success-rate")}},
-        [("web", "success-rate.e6f", "success-rate", "success-rate",
+        [("web", "success-rate.e6nf", "success-rate", "success-rate",
           prometheus("http://prometheus.example.com:9090",
-                     REQUESTS.format("web.default.svc.cluster.local")))],
-        nan=(11, 5)),
+                     REQUESTS.format("web.default.svc.cluster.local")))]),
     "threshold-argument.yaml": Taken(
         {"latency-for-cart": latency(500000), "latency-for-search": latency(250000)},
         {"cart": {"steps": [weight(10), {"analysis": named("latency-for-cart")}, weight(50),
                             pause()]},
          "search": {"steps": [weight(10), {"analysis": named("latency-for-search")}, weight(50),
                               pause()]}},
-        [("cart", "p99.e6f", "latency-for-cart", "p99",
+        [("cart", "p99.e6nf", "latency-for-cart", "p99",
           prometheus("http://prometheus:9090", LATENCY.format("cart"))),
-         ("search", "p99.e6f", "latency-for-search", "p99",
-          prometheus("http://prometheus:9090", LATENCY.format("search")))],
-        nan=(12, 5)),
+         ("search", "p99.e6nf", "latency-for-search", "p99",
+          prometheus("http://prometheus:9090", LATENCY.format("search")))]),
     "empty-and-nan.yaml": Taken(
         {"error-share": [
             {"name": "error-share.e6nl1",
@@ -157,13 +156,12 @@ TAKEN = {
         nobody=(31, 14, 25, "before setWeight 75")),
     "web-jsonpath.yaml": Taken(
         {"judge": [
-            {"name": "score.e6", "successCondition": "result >= 92500000",
-             "failureCondition": "result < 80000000", "interval": "2m", "count": 5,
-             "inconclusiveLimit": 2}]},
+            {"name": "score.e6t", "successCondition": "result >= 92500000",
+             "failureCondition": f"(result < 80000000 && result != {NAN_NUMBER})",
+             "interval": "2m", "count": 5, "inconclusiveLimit": 2}]},
         {"billing": {"steps": [weight(5), {"analysis": named("judge")}, weight(100)]}},
-        [("billing", "score.e6", "judge", "score", JUDGE,
-          {"api-token": {"secretKeyRef": {"name": "judge-secret", "key": "token"}}})],
-        nan=(11, 5)),
+        [("billing", "score.e6t", "judge", "score", JUDGE,
+          {"api-token": {"secretKeyRef": {"name": "judge-secret", "key": "token"}}})]),
     "job.yaml": Taken(
         {"smoke": [{"name": "smoke-test", "successCondition": "result == 1"}]},
         {"shop": {"steps": [weight(1), {"analysis": named("smoke")}, weight(30), pause("1h")]}},
@@ -171,27 +169,29 @@ TAKEN = {
           {"hash": {"podTemplateHashValue": "Latest"}})]),
     "two-regions-dry-run.yaml": Taken(
         {"regions": [
-            {"name": "availability.e6p2",
+            {"name": "availability.e6np2",
              "successCondition": "(result[0] > 999000) && (result[1] > 999000)",
-             "failureCondition": "result[0] < 990000 || result[1] < 990000",
+             "failureCondition": f"(result[0] < 990000 && result[0] != {NAN_NUMBER}) || "
+                                 f"(result[1] < 990000 && result[1] != {NAN_NUMBER})",
              "interval": "1m", "count": 5, "inconclusiveLimit": 3, "consecutiveErrorLimit": 2},
-            {"name": "saturation.e6f", "failureCondition": "result > 80500000",
+            {"name": "saturation.e6nf", "failureCondition": "result > 80500000",
              "interval": "1m", "count": 5}]},
         {"checkout": {"steps": [weight(10), {"analysis": named("regions")}, weight(60),
                                 pause("30m")]}},
-        [("checkout", "availability.e6p2", "regions", "availability",
+        [("checkout", "availability.e6np2", "regions", "availability",
           prometheus("http://thanos:9090", REGIONS)),
-         ("checkout", "saturation.e6f", "regions", "saturation",
+         ("checkout", "saturation.e6nf", "regions", "saturation",
           prometheus("http://thanos:9090", 'max(container_cpu_percent{app="checkout"})'))],
-        nan=(11, 5), dry=["saturation.e6f"]),
+        dry=["saturation.e6nf"]),
     "many-digits.yaml": Taken(
         {"budget": [
-            {"name": "burn-rate.e8f", "successCondition": "result < 1440012500 && result >= 10",
+            {"name": "burn-rate.e8nf",
+             "successCondition": f"(result < 1440012500 && result != {NAN_NUMBER}) && "
+                                 "result >= 10",
              "interval": "10m", "count": 12, "failureLimit": 1}]},
         {"mail": {"steps": [weight(10), {"analysis": named("budget")}, weight(100)]}},
-        [("mail", "burn-rate.e8f", "budget", "burn-rate",
-          prometheus("http://prometheus:9090", 'slo:burn:rate1h{app="mail"}'))],
-        nan=(8, 5)),
+        [("mail", "burn-rate.e8nf", "budget", "burn-rate",
+          prometheus("http://prometheus:9090", 'slo:burn:rate1h{app="mail"}'))]),
     "datadog.yaml": Taken(
         {"loq-error-rate": [
             {"name": "error-rate.e6s",
@@ -202,28 +202,26 @@ TAKEN = {
         nobody=(32, 14, 50, "at the end")),
     "several-templates.yaml": Taken(
         {"apdex-for-profile": [
-            {"name": "apdex.e6", "successCondition": "result >= 850000", "interval": "1m",
+            {"name": "apdex.e6n", "successCondition": "result >= 850000", "interval": "1m",
              "failureLimit": 3}],
          "restarts": [
-             {"name": "restarts.e6f", "failureCondition": "result > 0", "interval": "1m",
-              "failureLimit": 0}]},
+             {"name": "restarts.e6wf", "failureCondition": "result >= 1000000",
+              "interval": "1m", "failureLimit": 0}]},
         {"profile": {"steps": [weight(20), pause("5m"), weight(50), pause("5m")],
                      "analysis": named("apdex-for-profile", "restarts", startingStep=1)}},
-        [("profile", "apdex.e6", "apdex-for-profile", "apdex", APDEX),
-         ("profile", "restarts.e6f", "restarts", "restarts",
+        [("profile", "apdex.e6n", "apdex-for-profile", "apdex", APDEX),
+         ("profile", "restarts.e6wf", "restarts", "restarts",
           prometheus("http://prometheus:9090", RESTARTS),
           {"stable-hash": {"podTemplateHashValue": "Stable"}})],
-        nan=(8, 5), nobody=(41, 14, 20, "before setWeight 50")),
+        nan=(21, 5), nobody=(41, 14, 20, "before setWeight 50")),
 }
 
 
 class Refused:
-    """A file in which something is found, and where the note on NaN stands, if there is one.
-    Nothing is warned of."""
+    """A file in which something is found. Nothing is noted or warned of."""
 
-    def __init__(self, findings, nan=None):
-        self.findings, self.warnings = findings, []
-        self.notes = [(*nan, NAN)] if nan else []
+    def __init__(self, findings):
+        self.findings, self.notes, self.warnings = findings, [], []
 
 
 def success(at, line, text):
@@ -246,7 +244,7 @@ REFUSED = {
         (29, 9, "spec.strategy.canary.analysis.dryRun",
          "expected none or an empty list (others are unsupported)\n"
          "    instead: write dryRun in the spec of the AnalysisTemplate"),
-    ], nan=(9, 5, "spec.metrics[0]")),
+    ]),
     "refused.yaml": Refused([
         success(0, 13, f"byte 11: {TEXT}"),
         success(1, 16, f"byte 11: {TRUTH}"),

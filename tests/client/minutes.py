@@ -1,6 +1,6 @@
-"""The five minutes of README.md, the session by curl of docs/API.md, and the lines of
-docs/OPERATIONS.md that put other files in a desk's place, run as they stand there: parts of
-client.py."""
+"""The five minutes of docs/TRY.md, the session by curl of docs/API.md, and the lines of
+docs/NIGHT.md and docs/OPERATIONS.md that put other files in a desk's place, run as they stand
+there: parts of client.py."""
 import json
 import os
 import pathlib
@@ -21,8 +21,8 @@ ATTEMPT = ["background run 1", "step 0 setWeight 20", "step 1 pause"]
 FIRST = ["created v1", "start v2", *ATTEMPT, "run 1 Failed", "abort run 1"]
 SECOND = ["retry v2", *(line.replace("run 1", "run 2") for line in [*ATTEMPT, *FIRST[-2:]])]
 # What the translation of Argo's first example says.
-TRANSLATED = ["template success-rate", "  success-rate.e6f", "    success: result >= 950000",
-              "service web", "measure success-rate.e6f of web by prometheus"]
+TRANSLATED = ["template success-rate", "  success-rate.e6nf", "    success: result >= 950000",
+              "service web", "measure success-rate.e6nf of web by prometheus"]
 # Waits for the line of a desk that was begun in the line before, and for a server on this port.
 WAIT = "until grep -q listening told; do sleep 0.02; done; echo listening"
 WAIT_FOR_PORT = "until (: < /dev/tcp/127.0.0.1/{}) 2> refused; do sleep 0.02; done"
@@ -84,38 +84,38 @@ def reported_in(line):
 
 def measured(run):
     """The line of the agent for the first measurement of a run, without the moment."""
-    return {"metric": "success-rate.e6f", "ordinal": 1, "phase": "Failed", "result": 940000,
+    return {"metric": "success-rate.e6nf", "ordinal": 1, "phase": "Failed", "result": 940000,
             "run": run, "service": "web"}
 
 
 def try_five_minutes(world):
-    """README.md's session by the client."""
-    place, lines, errors = run_session(world, "minutes", "README.md", "Five minutes")
-    expect("README.md, up to the agent", lines[:10],
+    """docs/TRY.md's session by the client."""
+    place, lines, errors = run_session(world, "minutes", "docs/TRY.md", "Five minutes")
+    expect("docs/TRY.md, up to the agent", lines[:10],
            ["listening", *TRANSLATED, '{"code":"ok","revision":1,"template":"success-rate"}', ADDED,
-            STARTED, "1 success-rate.e6f 1"])
-    expect("README.md: the agent", reported_in(lines[10]), measured(1))
-    expect("README.md: the history", history_in(lines[11]), FIRST)
-    expect("README.md, after the kill", lines[12:14], ["listening", STARTED])
-    expect("README.md: the agent again", reported_in(lines[14]), measured(2))
-    expect("README.md: the history", history_in(lines[15]), FIRST + SECOND)
+            STARTED, "1 success-rate.e6nf 1"])
+    expect("docs/TRY.md: the agent", reported_in(lines[10]), measured(1))
+    expect("docs/TRY.md: the history", history_in(lines[11]), FIRST)
+    expect("docs/TRY.md, after the kill", lines[12:14], ["listening", STARTED])
+    expect("docs/TRY.md: the agent again", reported_in(lines[14]), measured(2))
+    expect("docs/TRY.md: the history", history_in(lines[15]), FIRST + SECOND)
     end = len(FIRST + SECOND)
-    expect("README.md: the last lines", [line.split(" ", 1)[1] for line in lines[-end:]],
+    expect("docs/TRY.md: the last lines", [line.split(" ", 1)[1] for line in lines[-end:]],
            FIRST + SECOND)
     said = [line for line in errors.splitlines()
             if line.startswith("canary: ") and not line.startswith("canary: note: ")]
-    expect("README.md: what the client says", said, [
+    expect("docs/TRY.md: what the client says", said, [
         "canary: nobody answers there; trying again",
         "canary: pending: no answer came, so it may have acted or not; the same call again finds"
         " out"])
     world.run(["argo", "--out", "made", "examples/argo/web.yaml"], place)
     for name in ("success-rate.template.json", "web.rollout.json"):
         checked = world.run(["check", "--strict", f"made/{name}"], place)
-        want(f"README.md: check of {name}", checked, 0, "ok\n")
+        want(f"docs/TRY.md: check of {name}", checked, 0, "ok\n")
     if "web" not in (place / "desk.html").read_text(encoding="utf-8"):
-        raise Wrong("README.md: the page does not show web")
+        raise Wrong("docs/TRY.md: the page does not show web")
     if not any(line.split()[:1] == ["web"] for line in lines[16:-end]):
-        raise Wrong(f"README.md: the status does not show web: {lines[16:-end]}")
+        raise Wrong(f"docs/TRY.md: the status does not show web: {lines[16:-end]}")
 
 
 def try_session_by_curl(world):
@@ -130,16 +130,15 @@ def try_session_by_curl(world):
     return None
 
 
-def operate(desk, heading, copy="none.db"):
-    """Runs the lines of docs/OPERATIONS.md under this heading on the files of a desk that is
-    stopped."""
+def operate(desk, document, heading, copy="none.db"):
+    """Runs the lines of a document under this heading on the files of a desk that is stopped."""
     programs = desk.folder / "programs"
     if not programs.exists():
         programs.mkdir()
         (programs / "canary").symlink_to(desk.world.program)
         for name, text in SYSTEMD.items():
             install(programs / name, text=text)
-    script = "\n".join(code_of("docs/OPERATIONS.md", heading))
+    script = "\n".join(code_of(document, heading))
     for old, new in (("/var/lib/canary", desk.folder), ("/backup/desk-2026-11-24.db", copy)):
         script = script.replace(old, str(new))
     desk.world.run_words(["bash", "-c", script], desk.folder,
@@ -161,9 +160,9 @@ def try_restore_lines(world):
         shutil.copy(desk.folder / "old.db", desk.folder / "alone.db")
         before = files_of(desk)
         for name in ("none.db", "alone.db"):
-            operate(desk, "Restore", name)
+            operate(desk, "docs/NIGHT.md", "Restore", name)
             expect(f"{name}: the files are as they were", files_of(desk) == before, True)
-        operate(desk, "Restore", "old.db")
+        operate(desk, "docs/NIGHT.md", "Restore", "old.db")
         expect("all have their names", [*desk.folder.glob("new.db*")], [])
         desk.start()
         expect("the copy lacks it", desk.count("promote"), {})
@@ -175,12 +174,12 @@ def try_new_file_lines(world):
         add(desk)
         desk.kill()
         before = files_of(desk)
-        operate(desk, "A new file")
+        operate(desk, "docs/OPERATIONS.md", "A new file")
         expect("in progress: the files are as they were", files_of(desk) == before, True)
         desk.start()
         expect("an end", desk.do("promote-full", "web").status, DONE)
         desk.kill()
-        operate(desk, "A new file")
+        operate(desk, "docs/OPERATIONS.md", "A new file")
         expect("all have their names", [*desk.folder.glob("new.db*")], [])
         desk.start()
         stand = json.loads(desk.ask("get", "web").output)

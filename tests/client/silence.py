@@ -316,7 +316,19 @@ def workflow():
     return commands
 
 
-def run_workflow(desk, key, version, seconds=60):
+def inputs_of(desk, key, version, service):
+    """The variables of the workflow, as GitHub's runner fills them in."""
+    text = (OPERATIONS / "release.yml").read_text(encoding="utf-8")
+    for old, new in (("${{ inputs.service }}", service), ("${{ inputs.version }}", version),
+                     ("${{ github.run_id }}", key), ("127.0.0.1:8080", f"127.0.0.1:{desk.port}"),
+                     ("/var/lib/canary-deploy", str(desk.folder))):
+        expect(f"release.yml has {old}", old in text, True)
+        text = text.replace(old, new)
+    env = re.search(r"^    env:\n((?:      .*\n)+)", text, re.MULTILINE)[1]
+    return variables(desk, **dict(line[6:].split(": ", 1) for line in env.splitlines()))
+
+
+def run_workflow(desk, key, version, seconds=60, service="web"):
     """Runs the commands of the workflow as GitHub's runner does, up to the first that fails. Their
     statuses, but for the last one, which is always run."""
     statuses = []
@@ -325,9 +337,7 @@ def run_workflow(desk, key, version, seconds=60):
         with process_group(
                 ["bash", "--noprofile", "--norc", "-eo", "pipefail", "-c", command],
                 cwd=desk.folder, stdin=subprocess.DEVNULL, stdout=subprocess.DEVNULL,
-                stderr=subprocess.DEVNULL, env=variables(
-                    desk, KEY=key, VERSION=version, CANARY_AS="deploy",
-                    CANARY_JOURNAL=str(desk.folder / "deploy.journal"))) as job:
+                stderr=subprocess.DEVNULL, env=inputs_of(desk, key, version, service)) as job:
             statuses.append(job.wait(seconds + 60))
         if statuses[-1] != 0:
             break
@@ -371,8 +381,28 @@ def try_workflow(world):
         expect("used keys", run_workflow(desk, "1", "v2"), [DONE, REFUSED])
 
 
+def try_workflow_services(world):
+    """release.yml releases any service: each has a caller and a journal of its own, so one job does
+    not wait for another one's; and what somebody gives for a service is a word, and no command."""
+    with world.desk("workflow-services") as desk:
+        setup = Caller(desk, "setup")
+        for name in ("web", "api"):
+            setup.send({"service": {"version": "v1", "manifest": two_pauses(name)}})
+        with until_done(desk, "abort web"):
+            expect("web, aborted", run_workflow(desk, "1", "v2"), [DONE, REFUSED])
+        expect("api", run_workflow(desk, "1", "v2", service="api"), [DONE, DONE])
+        expect("promoted", desk.count("promote"), {"api": 2})
+        for name in ("api", "web"):
+            expect(f"the journal of {name}", len(desk.journal(f"{name}.journal").kept),
+                   {"api": 3, "web": 1}[name])
+        for service in ("web; touch made", "$(touch made)", "--help", "-x", "web v9", ""):
+            found = run_workflow(desk, "2", "v3", service=service)
+            expect(f"{service!r} is no service", (found, (desk.folder / "made").exists()),
+                   ([WORDS], False))
+
+
 def try_dying(world):
-    """The rows of docs/OPERATIONS.md, "If something dies", of the desk, the agent and the job: in
+    """The rows of docs/NIGHT.md, "If something dies", of the desk, the agent and the job: in
     an analysis step, in a timed pause, and with a background analysis."""
     with world.desk("dying") as desk:
         setup = add_held(desk, "step")

@@ -1,5 +1,5 @@
 #!/usr/bin/env python3
-"""Checks what docs/DECISIONS.md says, under "Safe and total", of public calls: how many of each
+"""Checks what docs/PROOFS.md says, under "Safe and total", of public calls: how many of each
 crate have a `requires`, and how many no clause at all. A public call is a `pub fn` of a crate that
 is no crate of tests.
 
@@ -12,7 +12,7 @@ import re
 import sys
 
 ROOT = pathlib.Path(__file__).resolve().parents[2]
-PAGE = "docs/DECISIONS.md"
+PAGE = "docs/PROOFS.md"
 HEAD = re.compile(r"( *)pub (?:const )?(?:unsafe )?fn (\w+)")
 OWNER = re.compile(r"impl(?:<.*?>)? (?:\w+(?:<.*>)? for )?(\w+)")
 CLAUSES = {"`requires`": re.compile(r"^\s*requires\b", re.MULTILINE),

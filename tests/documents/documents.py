@@ -11,6 +11,7 @@ is 1 if there are any.
 - names of crates and of code are there (names.py), and so are those of the tables "Where"
   (where.py), of docs/CHANGING.md (changing.py) and of the listener's page (listener.py)
 - the tables of crates have the contracts of the crates' pages (index.py)
+- each thing is said on one page (once.py)
 - the gate runs each script of tests/, and each crate has some (suites.py)"""
 import os
 import pathlib
@@ -23,6 +24,7 @@ import index
 import lib_examples
 import listener
 import names
+import once
 import suites
 import where
 from pages import Page
@@ -151,7 +153,7 @@ def faults_of(root):
     yield from faults_of_readme(pages[root / "README.md"])
     yield from faults_of_tests(root, files, pages)
     yield from names.faults_of(root, files, pages)
-    for checks in (changing, index, lib_examples, listener, suites, where):
+    for checks in (changing, index, lib_examples, listener, once, suites, where):
         yield from checks.faults_of(root)
 
 

@@ -3,7 +3,7 @@
 
 A crate's page says `**The contract that matters:**` and then the contract, whose first sentence
 stands in the table of docs/PROOFS.md ("By crate"), which this script makes, and in that of
-docs/ARCHITECTURE.md, in which the script makes all but the column "Stands on".
+docs/ARCHITECTURE.md, in which the script makes all but the column "Uses".
 
     tests/documents/index.py            checks both tables
     tests/documents/index.py --write    writes them
@@ -21,7 +21,7 @@ PROOFS, ARCHITECTURE = "docs/PROOFS.md", "docs/ARCHITECTURE.md"
 HEAD = "## By crate\n"
 FAMILIES = ["# rules", "# store", "# HTTP", "# client", "# programs", "# tests"]
 ROW = re.compile(r"^\| (canary_\w+) \| (.*) \| (.*) \|$")
-HEADS = "| Crate | Its one contract | Stands on |"
+HEADS = "| Crate | Its one contract | Uses |"
 
 
 def families_of(root):
@@ -64,17 +64,17 @@ def proofs_with(text, families, contracts):
 
 def architecture_with(text, families, contracts):
     """The text of docs/ARCHITECTURE.md with the table of these contracts, and with what its own
-    table says that each crate stands on."""
+    table says that each crate uses."""
     lines = text.split("\n")
     begin = lines.index(HEADS) + 2
     end = next(at for at in range(begin, len(lines)) if not lines[at].startswith("|"))
     rows = [ROW.match(line) for line in lines[begin:end]]
-    stands_on = {row[1]: row[3] for row in rows if row}
+    uses = {row[1]: row[3] for row in rows if row}
     table = []
     for family, crates in families.items():
         table.append(f"| **{family}** | | |")
         for crate in crates:
-            table.append(f"| {crate} | {contracts[crate]} | {stands_on.get(crate, '?')} |")
+            table.append(f"| {crate} | {contracts[crate]} | {uses.get(crate, '?')} |")
     return "\n".join(lines[:begin] + table + lines[end:])
 
 

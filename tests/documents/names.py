@@ -1,7 +1,7 @@
 """Checks the names in documents, a part of documents.py.
 
 - a crate, a module `canary_x::module` and what stands in it, `canary_x::module::name`, are there; a
-  name that begins so may also be a family of `status --prometheus`
+  name that begins so may also be a family of `status --prometheus` or of a follower's report
 - a name in backquotes that is written as code is (`is_broken`, `BookState`) stands in some source,
   script, test or example of the repository, or is one of another's (NOT_OURS)
 - the first line of each file of specs/ and proofs/ says what it is about
@@ -25,6 +25,8 @@ SOURCES = ("crates", "tests", "bench", "examples", ".ci")
 PROGRAMS = {"canary_quick"}
 # A text of `status --prometheus` with all families.
 FAMILIES = "tests/page/textfile.prom"
+# What has those of a report.
+REPORTED = "examples/operations/following.py"
 # Names of the kit, of systems, of programs by others, and names that a document makes up.
 NOT_OURS = {
     "analysisRunMetadata", "LimitFSIZE", "O_NOFOLLOW", "RENAME_NOREPLACE", "set_step_limit",
@@ -63,7 +65,9 @@ def fault_of_path(root, crate, names):
 
 def families(root):
     text = (root / FAMILIES).read_text(encoding="utf-8")
-    return set(re.findall(r"^# TYPE (\w+) gauge$", text, re.MULTILINE))
+    reported = (root / REPORTED).read_text(encoding="utf-8")
+    return {*re.findall(r"^# TYPE (\w+) gauge$", text, re.MULTILINE),
+            *re.findall(r'^    "(canary_\w+)":', reported, re.MULTILINE)}
 
 
 def faults_of_crates(root, name, page):

@@ -11,6 +11,9 @@ import checks
 MEMORY, FOR_PROOFS = 4_000_000_000, 6_000_000_000
 # The most checks at a time beside proofs.
 BESIDE = 2
+# A landing has three hours in all, and its scripts come last: so many minutes after the proofs began
+# no check begins that may wait for another landing.
+LATE = 130
 TICKS, PAGE = os.sysconf("SC_CLK_TCK"), os.sysconf("SC_PAGE_SIZE")
 
 
@@ -68,12 +71,14 @@ class Turn:
 class Lanes:
     """The checks that run, and those that wait for a turn, of which the lowest rank is first. After
     so many `minutes` by the clock none begins that may wait for another landing, and after
-    `at_most` none at all."""
+    `at_most` none at all. Both count from the end of the proofs. If these took long, none that may
+    wait begins LATE minutes after they began."""
 
     def __init__(self, rt, most, minutes, at_most, is_beside):
         self.kit_rt, self.most = rt, most or rt.processors()
         self.minutes, self.at_most = minutes, at_most
         self.is_beside, self.is_ended, self.begun = is_beside, False, None
+        self.made = time.monotonic()
         self.changed = threading.Condition()
         self.waiting, self.running, self.beside = [], [], 0.0
         if not is_beside:
@@ -127,6 +132,8 @@ class Lanes:
         with self.changed:
             self.is_beside = False
             self.begin_clock()
+            left = LATE - (self.begun - self.made) / 60
+            self.minutes = min(self.minutes, max(0, left))
             for turn in self.running:
                 turn.take_part()
             self.changed.notify_all()

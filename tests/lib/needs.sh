@@ -3,7 +3,7 @@
 
 # The tools without which nothing here runs, and those that `./check --without` may name.
 required=(rt bash python3 awk)
-optional=(cc strace sqlite3 curl pyyaml haproxy nginx openssl prometheus)
+optional=(cc strace sqlite3 curl pyyaml haproxy nginx openssl prometheus lintian)
 # Where Debian has haproxy and nginx: only root's PATH has it.
 PATH=$PATH:/usr/sbin
 
@@ -29,6 +29,7 @@ sys.exit(sys.version_info < (3, 10) or sqlite3.sqlite_version_info < (3, 37))' ;
         haproxy) haproxy -c -f <(haproxy_of_scripts) ;;
         nginx) nginx -V 2>&1 | grep -e --with-http_ssl_module ;;
         prometheus) prometheus --version && promtool --version ;;
+        lintian) lintian --version && systemd-analyze --version && strip --version ;;
         *) command -v "$1" ;;
     esac > /dev/null 2>&1 < /dev/null
 }
@@ -46,6 +47,7 @@ described() {
         haproxy) echo "haproxy 2.5 or later, built with OpenSSL" ;;
         nginx) echo "nginx with its module http_ssl" ;;
         prometheus) echo "prometheus 2, with promtool" ;;
+        lintian) echo "lintian, with systemd-analyze and binutils" ;;
         *) echo "$1" ;;
     esac
 }
@@ -59,6 +61,7 @@ packages_of() {
             awk) echo mawk ;;
             cc) printf '%s\n' gcc libc6-dev ;;
             pyyaml) echo python3-yaml ;;
+            lintian) printf '%s\n' lintian systemd binutils ;;
             *) echo "$name" ;;
         esac
     done
@@ -85,6 +88,7 @@ left_out_without() {
         prometheus) echo "prometheus: releases that a real Prometheus measures (tests/agent/run)," \
             "examples/loop (tests/proxies/run), and what promtool says of \`status --prometheus\`" \
             "and of alerts (tests/page/run)" ;;
+        lintian) echo "lintian: the packages, and the units in them (tests/package/run)" ;;
     esac
 }
 

@@ -2,7 +2,7 @@
 
 `rt ci` gives each crate one job, begins those with the longest chain of lines above them, and has
 processors wait for memory that its checks do not take. Here a chain counts by the seconds that
-docs/PROVING.md has for its crates, and the crates of the longest chains get two jobs, for which
+docs/COSTS.md has for its crates, and the crates of the longest chains get two jobs, for which
 processors are kept free. rt itself keeps what is proved, so the gate finds it."""
 import concurrent.futures
 import os
@@ -23,8 +23,8 @@ URGENT = 0.8
 
 
 def seconds_by_crate(root):
-    """The seconds that the table of docs/PROVING.md has, by crates."""
-    text = pathlib.Path(root, "docs/PROVING.md").read_text(encoding="utf-8")
+    """The seconds that the table of docs/COSTS.md has, by crates."""
+    text = pathlib.Path(root, "docs/COSTS.md").read_text(encoding="utf-8")
     return {name: int(seconds) for name, seconds in SECONDS.findall(text)}
 
 

@@ -7,10 +7,15 @@ from world import Wrong, expect
 
 # Each program with its words, and calls of it that are invalid.
 CALLS = {
-    "follow-haproxy SERVICE SOCKET BACKEND [STATE]":
-        ("", "web", "web socket", "web socket web state more"),
-    "follow-nginx SERVICE FILE [NGINX..]": ("", "web"),
-    "notify SERVICE FILE": ("", "web", "web file more"),
+    "follow-haproxy SERVICE SOCKET BACKEND [STATE] or [OPTION FILE].. --table TABLE SOCKET":
+        ("", "web", "web socket", "web socket web state more", "--table", "--table table",
+         "--table table socket more", "--state state web socket web", "--health h --table t",
+         "--other x --table t socket", "--table t --report"),
+    "follow-nginx SERVICE FILE [NGINX..] or [OPTION WORD].. --table TABLE FILE [NGINX..]":
+        ("", "web", "--table table", "--ask a:1 web file", "--state s --table t file"),
+    "notify SERVICE FILE or --table TABLE FILE":
+        ("", "web", "web file more", "--table table", "--table table file more",
+         "--health h --table table file"),
     "report SERVICE": ("", "web shop", "a b c d e f g h i j"),
     "serve-and-notify COMMAND [WORD..]": ("",),
     "watchdog SECONDS SERVICE..": ("", "120"),
@@ -37,6 +42,15 @@ def try_usage(world):
         expect(f"{name} --help, closed", closed[1:], ("", ""))
     expect("notify without a webhook", called(folder, "notify", "web file"),
            (2, "", "notify: CANARY_WEBHOOK is not set\n"))
+    for words, errors in (("--table t --report r file", "--report needs --ask\n"),
+                          ("--table t --ask nowhere file", "--ask: nowhere is no HOST:PORT\n")):
+        expect(words, called(folder, "follow-nginx", words), (2, "", errors))
+    (folder / "t").write_text("web web v1\n", encoding="ascii")
+    for name, words in (("follow-haproxy", "--table t socket"), ("notify", "--table t file")):
+        expect(f"{name}: no desk", called(folder, name, words, CANARY_DESK="nowhere",
+                                          CANARY_WEBHOOK="http://127.0.0.1:1/"),
+               (2, "", "CANARY_DESK: nowhere is no HOST:PORT\n"))
+    (folder / "t").unlink()
     expect("report without a measure", called(folder, "report", "web"),
            (5, "", "report: there is no measure on the PATH\n"))
     none = folder / "none"

@@ -87,19 +87,14 @@ def reloading(folder, ports):
         yield proxy
 
 
-class Load:
-    """So many requests a second, each on a connection of its own; and who answered them."""
+class Meanwhile:
+    """What a thread does as long as a block runs: `go_on` ends once `is_over`."""
 
-    def __init__(self, port, rate):
-        self.port, self.rate, self.is_over, self.found = port, rate, False, collections.Counter()
-        self.thread = threading.Thread(target=self.go_on, daemon=True)
+    def __init__(self):
+        self.is_over, self.thread = False, threading.Thread(target=self.go_on, daemon=True)
 
     def go_on(self):
-        begun, count = time.monotonic(), 0
-        while not self.is_over:
-            self.found[answer(self.port)] += 1
-            count += 1
-            time.sleep(max(0, begun + count / self.rate - time.monotonic()))
+        raise NotImplementedError
 
     def __enter__(self):
         self.thread.start()
@@ -108,6 +103,21 @@ class Load:
     def __exit__(self, *_):
         self.is_over = True
         self.thread.join(LONGEST)
+
+
+class Load(Meanwhile):
+    """So many requests a second, each on a connection of its own; and who answered them."""
+
+    def __init__(self, port, rate):
+        super().__init__()
+        self.port, self.rate, self.found = port, rate, collections.Counter()
+
+    def go_on(self):
+        begun, count = time.monotonic(), 0
+        while not self.is_over:
+            self.found[answer(self.port)] += 1
+            count += 1
+            time.sleep(max(0, begun + count / self.rate - time.monotonic()))
 
 
 def want_weights(row, proxy, first, second):
@@ -258,23 +268,25 @@ def try_haproxy_states(world):
 
 EVIL = "\u001b[2J\u202e"
 STATE = "1 web {} {} 127.0.0.1 2 0 {} 1 1\n"
-TRUE = (STATE.format(1, "v1", 65) + STATE.format(2, "v2", 35)).encode()
+TRUE = (STATE.format(1, "v1", 65) + STATE.format(2, "v2", 35)).encode() + b"\n"
 # What a socket that is not HAProxy's answers to each command, and what of it is said, in turn.
 # None: the follower hangs up.
 LIES = [
-    (b"", "web has no server v1: nothing is changed"),
+    (b"", "HAProxy's answer is not whole"),
+    (b"\n\n", "web has no server v1: nothing is changed"),
     (b"\xff\xfe", "UnicodeDecodeError"),
-    (STATE.format(1, "v1", EVIL).encode(), "ValueError"),
-    (TRUE + STATE.format(3, "v3" + EVIL, 50).encode(), "v3\\x1b[2J\\u202e 50 -> 0 1 web 1 v1"),
+    (TRUE[:-8], "HAProxy's answer is not whole"),
+    (STATE.format(1, "v1", EVIL).encode() + b"\n", "ValueError"),
+    (STATE.format(3, "v3" + EVIL, 50).encode() + TRUE, "v3\\x1b[2J\\u202e 50 -> 0 1 web 3 v3"),
     ("flood", "OSError: the answer has no end"),
     ("silence", "TimeoutError"),
     ("drip", None),
 ]
 
 
-def lie(client, answer, is_over):
+def lie(client, answer, is_over, asked):
     """Answers a command so."""
-    client.recv(1000)
+    asked.append(client.recv(1000))
     if isinstance(answer, bytes):
         client.sendall(answer)
     while answer in ("flood", "drip", "silence") and not is_over():
@@ -284,19 +296,20 @@ def lie(client, answer, is_over):
 
 
 @contextlib.contextmanager
-def lying(path):
+def lying(path, lies, true=TRUE):
     """A socket that answers with one lie after another: each one again until the first function
-    says to go on. The second one has those at which the other side has hung up."""
-    turn, hung_up = [0], []
+    says to go on, and at last the truth. The second one has those at which the other side has hung
+    up, the third one what it was asked."""
+    turn, hung_up, asked = [0], [], []
     with socket.socket(socket.AF_UNIX) as server:
         server.bind(str(path))
         server.listen()
 
         def answer(client, now):
-            told = LIES[now][0] if now < len(LIES) else TRUE
+            told = lies[now][0] if now < len(lies) else true
             try:
                 with client:
-                    lie(client, told, lambda: turn[0] != now)
+                    lie(client, told, lambda: turn[0] != now, asked)
             except OSError:
                 hung_up.append(told)
 
@@ -307,7 +320,7 @@ def lying(path):
 
         threading.Thread(target=serve, daemon=True).start()
         try:
-            yield lambda: turn.__setitem__(0, turn[0] + 1), lambda: hung_up
+            yield lambda: turn.__setitem__(0, turn[0] + 1), lambda: hung_up, lambda: asked
         finally:
             turn[0] = -1
             server.shutdown(socket.SHUT_RDWR)
@@ -318,7 +331,7 @@ def try_lying_proxies(world):
     nginx whose words command a terminal: the followers go on, and say it in plain text."""
     folder = world.place("lying-haproxy")
     spoken = said_after(folder, [line()])
-    with lying(folder / "socket") as (go_on, hung_up), follower(
+    with lying(folder / "socket", LIES) as (go_on, hung_up, _), follower(
             folder, spoken, "follow-haproxy", "web", folder / "socket", "web") as (started, said):
         for answer, text in LIES:
             wait_until(f"{str(answer)[:20]}: {text}", lambda text=text, answer=answer: (

@@ -37,7 +37,7 @@ def try_loop(world):
 
 
 def want_killed(world, *names):
-    """What docs/OPERATIONS.md says of these parts is seen: the loop wants it."""
+    """What docs/NIGHT.md says of these parts is seen: the loop wants it."""
     away = "20" if world.is_whole else "3"
     words = [word for name in names for word in ("--part", name)]
     _, shown = run_loop(world, f"killed-{names[0]}", "--kill-each", "--away", away, *words)

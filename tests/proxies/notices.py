@@ -15,7 +15,9 @@ from followers import (
     LONGEST, NO_LINES, NO_VERSIONS, NO_WEIGHTS, line, said_after, unheard, want_all_said)
 from parts import OPERATIONS, children_of, follower, is_alive, lasts, speaking
 from silence import variables
-from world import Caller, Late, Wrong, expect, free_port, process, rollout, wait_until
+from table_edges import wait_said
+from tables import spoken
+from world import Caller, Late, Wrong, add, expect, free_port, process, rollout, wait_until
 
 METRIC = {"name": "m", "successCondition": "result >= 95", "failureCondition": "result < 90",
           "failureLimit": 0, "inconclusiveLimit": 0}
@@ -335,10 +337,96 @@ def want_files(world):
     # on a disk that is full, as by a limit of no byte, each restart would post the same again
     folder = world.place("notify-full")
     spoken = said_after(folder, [stand()])
-    with webhook() as hook:
-        words = ["prlimit", "--fsize=0", OPERATIONS / "notify", "web", folder / "last"]
-        with process([*map(str, words)], cwd=folder, env=variables_for(spoken, hook.port),
-                     stdin=subprocess.DEVNULL, stdout=subprocess.DEVNULL,
-                     stderr=subprocess.DEVNULL) as started:
-            expect("full: it ends", started.wait(LONGEST), 1)
-        expect("full: nothing is posted", hook.come, [])
+    (folder / "table").write_text("web\n", encoding="ascii")
+    for services in (["web"], ["--table", folder / "table"]):
+        words = ["prlimit", "--fsize=0", OPERATIONS / "notify", *services, folder / "last"]
+        with webhook() as hook:
+            with process([*map(str, words)], cwd=folder, env=variables_for(spoken, hook.port),
+                         stdin=subprocess.DEVNULL, stdout=subprocess.DEVNULL,
+                         stderr=subprocess.DEVNULL) as started:
+                expect("full: it ends", started.wait(LONGEST), 1)
+            expect("full: nothing is posted", hook.come, [])
+
+
+# ---- many services
+
+
+def notifying_all(folder, around, port):
+    """The script for the services of a table."""
+    return follower(folder, variables_for(around, port), "notify", "--table", folder / "table",
+                    folder / "last")
+
+
+def try_notify_table(world):
+    """One process posts what becomes of several services, each change by one message; of what has
+    been before it starts, only what is under way; and nothing again after a restart."""
+    with world.desk("notify-table") as desk, webhook() as hook:
+        ops, others = add_judged(desk), Caller(desk, "others")
+        add(desk, "shop", "api")
+        (desk.folder / "table").write_text("# all\nweb web v1 a\nweb web v2 b\nshop\napi\n",
+                                           encoding="utf-8")
+        texts = [f"{name} v2 at 20%: waits for a promotion" for name in ("shop", "api")]
+        with notifying_all(desk.folder, variables(desk), hook.port) as (started, _):
+            want_texts("what is under way", hook, *texts)
+            expect("it has no process beside it", children_of(started), [])
+            for send, more in (
+                    (lambda: ops.send({"start": {"service": "web", "version": "v2"}}),
+                     "web v2 at 20%"),
+                    (lambda: judge(ops, 1, 92), "web v2 at 20%: held, somebody has to decide"),
+                    (lambda: others.send({"promote": {"service": "shop"}}),
+                     "shop v2 at 50%: waits for a promotion"),
+                    (lambda: ops.send({"promote": {"service": "web"}}),
+                     "web v2 at 50%: waits for a promotion"),
+                    (lambda: others.send({"abort": {"service": "api"}}), "api v2 at 0%: aborted")):
+                send()
+                texts.append(more)
+                want_texts(more, hook, *texts)
+            desk.restart()
+            want_texts("the desk was away", hook, *texts)
+        ops.send({"promote": {"service": "web"}})
+        ops.send({"start": {"service": "web", "version": "v3"}})
+        judge(ops, 2, 50)
+        with notifying_all(desk.folder, variables(desk), hook.port):
+            texts.append("web v3 at 0%: aborted by run 2")
+            want_texts("what is the last while it was dead", hook, *texts)
+        expect("its file", (desk.folder / "last").read_text(encoding="ascii").splitlines(),
+               ["web v3 at 0%: aborted by run 2", "shop v2 at 50%: waits for a promotion",
+                "api v2 at 0%: aborted"])
+
+
+# Histories of a service at the pause of step 1 that say nothing of it, or of another moment.
+NO_HISTORIES = [
+    (404, {"code": "unknown-service"}), (503, {"code": "storage"}), (200, b""), (200, []),
+    (200, {"code": "ok", "lines": []}), (200, {"lines": ["step 1 pause"]}),
+    (200, {"lines": ["2026-01-01T00:00:02Z step 2 pause"]}),
+    (200, {"lines": ["2026-01-01T00:00:02Z abort run 7"]}),
+    (200, {"lines": ["2026-01-01T00:00:02Z step 1 pause\"", "<!channel>"]})]
+
+
+def try_notify_table_words(world):
+    """A history that does not fit its service is asked for again, and holds up no other service; of
+    a long one the end counts; no word of it is posted."""
+    folder = world.place("notify-table-words")
+    (folder / "table").write_text("web\nshop\n", encoding="utf-8")
+    (folder / "last").write_text("web v1 at 100%: done\n", encoding="utf-8")
+    with webhook() as hook, spoken() as desk:
+        desk.say("web", "v1", "v2", 20)
+        desk.stands["web/history"] = NO_HISTORIES[0]
+        with notifying_all(folder, desk.variables(), hook.port) as (started, said):
+            for number, history in enumerate(NO_HISTORIES):
+                desk.stands["web/history"] = history
+                desk.say("shop", "v7", f"v{number}", 40, status="Progressing")
+                wait_until(f"{history}", lambda number=number: (
+                    f"shop v{number} at 40%" in hook.texts()), LONGEST)
+            wait_said(said, "web: it has no history that fits it: asked again")
+            expect("nothing of web", [text for text in hook.texts() if text[:3] == "web"], [])
+            lines = [f"2026-01-01T00:00:02Z {words}" for words in (
+                *["promote"] * 100_000, "step 1 pause 600s", "run 1 Successful")]
+            desk.stands["web/history"] = 200, {"code": "ok", "lines": lines, "service": "web"}
+            wait_until("a timed pause", lambda: "web v2 at 20%" in hook.texts(), LONGEST)
+            desk.stands["web/history"] = 200, {"lines": ["2026-01-01T00:00:02Z step 1 pause"]}
+            desk.say("web", "v1", "v2", 30)
+            wait_until("a pause", lambda: "web v2 at 30%: waits for a promotion" in hook.texts(),
+                       LONGEST)
+            expect("each once", len(hook.texts()), len({*hook.texts()}))
+            expect("it goes on", started.poll(), None)

@@ -165,6 +165,13 @@ class Nginx(Proxy):
             f"{user}worker_processes 1;\npid {folder}/pid;\nerror_log {self.log()} notice;\n"
             f"events {{}}\nhttp {{\n    access_log off;\n{paths}{text}}}\n", encoding="utf-8")
 
+    def is_ready(self):
+        """`nginx -t` and `nginx -T` of a follower listen for a moment, too, and so does a worker
+        that is being killed."""
+        pid = self.folder / "pid"
+        is_own = pid.is_file() and pid.read_text(encoding="ascii").strip() == str(self.process.pid)
+        return is_own and super().is_ready()
+
     def log(self):
         return self.folder / "error.log"
 

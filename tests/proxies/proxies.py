@@ -12,6 +12,8 @@ import followers  # pylint: disable=wrong-import-position
 import loops  # pylint: disable=wrong-import-position
 import notices  # pylint: disable=wrong-import-position
 import roles  # pylint: disable=wrong-import-position
+import table_edges  # pylint: disable=wrong-import-position
+import tables  # pylint: disable=wrong-import-position
 from turns import Turns, end_by_signals, parts_of  # pylint: disable=wrong-import-position
 from world import World  # pylint: disable=wrong-import-position
 
@@ -36,9 +38,26 @@ NEEDS = {
     "try_notify_away": set(),
     "try_notify_flood": set(),
     "try_notify_words": set(),
+    "try_notify_table": set(),
+    "try_notify_table_words": set(),
+    "try_table": {"haproxy"},
+    "try_table_reloads": {"haproxy"},
+    "try_table_added": {"haproxy"},
+    "try_table_uneven": {"haproxy"},
+    "try_table_thirty": {"haproxy"},
+    "try_table_nginx": {"nginx"},
+    "try_table_files": {"haproxy"},
+    "try_table_unknown": {"haproxy"},
+    "try_table_replies": {"haproxy"},
+    "try_table_desks": {"haproxy"},
+    "try_table_routers": set(),
+    "try_table_places": {"haproxy"},
+    "try_table_signals": {"haproxy", "strace"},
+    "try_table_signals_nginx": {"strace"},
+    "try_table_report": {"haproxy", "prometheus"},
     "try_usage": set(),
 }
-PARTS = parts_of(called, desks, followers, loops, notices, roles)
+PARTS = parts_of(called, desks, followers, loops, notices, roles, table_edges, tables)
 
 
 def chosen(wanted):

@@ -8,3 +8,4 @@ mod SamePlaces
 mod SameValues
 mod Suffixes
 mod Apart
+mod TextReports

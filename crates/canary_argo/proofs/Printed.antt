@@ -1,5 +1,5 @@
 -- The text of the desk's condition is read as the tokens that it is made of.
-use Rattle.std.proofs.Common.{◌≡◌, ℕ, ◌+◌, ◌-◌, ◌^◌, ℤ, Bool, true, false, not, pos, negsuc, List, [], ◌∷◌, ◌++◌, Option, Some, None, refl, sym, ap, ◌∙◌, subst, append_assoc, append-nil, arith, inl, inr}
+use Rattle.std.proofs.Common.{◌≡◌, ℕ, ◌^◌, ℤ, Bool, true, false, not, pos, negsuc, List, [], ◌∷◌, ◌++◌, Option, Some, None, refl, sym, ap, ◌∙◌, subst, append_assoc, append-nil, arith, inl, inr}
 use Rattle.std.specs.Prelude.{◌&&◌, if◌then◌else◌, option_map, codes, is_some}
 use Rattle.std.specs.List.{flat_map, list_all}
 use Rattle.std.proofs.lemmas.Bool.{false≢true, and_parts}
@@ -32,9 +32,9 @@ use Rattle.canary_argo.specs.declared.form.Shape.{Shape}
 use Rattle.canary_argo.specs.declared.translating.DeskAtom.{DeskAtom}
 use Rattle.canary_argo.specs.declared.translating.DeskAtom.TheVariants.{One as OneTest, Both, Either, All}
 use Rattle.canary_argo.specs.declared.translating.DeskTest.{DeskTest}
-use Rattle.canary_argo.specs.Reporting.{nan, infinite, minus_infinite, null, has_nan, has_infinite, has_null}
+use Rattle.canary_argo.specs.Reporting.{nan, infinite, minus_infinite, null, has_nan, has_infinite, has_null, is_plain}
 use Rattle.canary_argo.specs.Grouping.{SpellsItems}
-use Rattle.canary_argo.specs.Translating.{in_turn, constant_of, desk_test, test_text, item_text, fits, text_of, guard, is_below, guarded_by, guarded, plain_atom, least_from, least_above, edge_test, one_test, both_tests, either_test, int_asked, int_atom, function_atom, compare_atom, is_value, at_null, except_null, null_by, takes_null, with_null, value_test, default_atom, desk_value, nan_at, nan_atom, inf_at, inf_atom, joined_text, all_text, atom_words, atom_text}
+use Rattle.canary_argo.specs.Translating.{in_turn, constant_of, desk_test, test_text, item_text, fits, text_of, guard, is_below, guarded_by, guarded, float_atom, plain_atom, least_from, least_above, edge_test, one_test, both_tests, either_test, int_asked, int_atom, function_atom, compare_atom, is_value, at_null, except_null, null_by, takes_null, with_null, value_test, default_atom, desk_value, nan_at, nan_atom, inf_at, inf_atom, joined_text, all_text, atom_words, atom_text}
 use Rattle.canary_argo.specs.Tokens.{is_held}
 use Rattle.canary_argo.specs.Trees.{Tree}
 use Rattle.canary_argo.specs.Trees.Tree.{Or, And, Not, Bracket, Compare, IsNaN, IsInf}
@@ -146,16 +146,16 @@ none_by true o a e = absurd (none-some a e)
 none_by false o a e = (refl, e)
 
 -- what the desk asks for `isNaN`
-pub nan_is : (form : Form) (p : ResultPart) (a : DeskAtom) → nan_atom form p ≡ Some a → ((has_nan form.beside && not (has_null form.beside)) ≡ true) × ((x : Operand) × ((desk_value form.shape p ≡ Some x) × (a ≡ OneTest (record { operand = x; comparison = Equal; constant = nan }))))
-nan_is form p a e = let found = atom_by (has_nan form.beside && not (has_null form.beside)) (nan_at (desk_value form.shape p)) a e in (found.0, nan_made (desk_value form.shape p) a found.1)
+pub nan_is : (form : Form) (p : ResultPart) (a : DeskAtom) → nan_atom form p ≡ Some a → ((has_nan form.beside && is_plain form.beside) ≡ true) × ((x : Operand) × ((desk_value form.shape p ≡ Some x) × (a ≡ OneTest (record { operand = x; comparison = Equal; constant = nan }))))
+nan_is form p a e = let found = atom_by (has_nan form.beside && is_plain form.beside) (nan_at (desk_value form.shape p)) a e in (found.0, nan_made (desk_value form.shape p) a found.1)
 
 inf_made : (o : Option Operand) (a : DeskAtom) → inf_at o ≡ Some a → (x : Operand) × ((o ≡ Some x) × (a ≡ Either (record { operand = x; comparison = Equal; constant = infinite }) (record { operand = x; comparison = Equal; constant = minus_infinite })))
 inf_made None a e = absurd (none-some a e)
 inf_made (Some x) a e = (x, (refl, sym (same_Some (Either (record { operand = x; comparison = Equal; constant = infinite }) (record { operand = x; comparison = Equal; constant = minus_infinite })) a e)))
 
 -- and for `isInf`
-pub inf_is : (form : Form) (p : ResultPart) (a : DeskAtom) → inf_atom form p ≡ Some a → ((has_infinite form.beside && not (has_null form.beside)) ≡ true) × ((x : Operand) × ((desk_value form.shape p ≡ Some x) × (a ≡ Either (record { operand = x; comparison = Equal; constant = infinite }) (record { operand = x; comparison = Equal; constant = minus_infinite }))))
-inf_is form p a e = let found = atom_by (has_infinite form.beside && not (has_null form.beside)) (inf_at (desk_value form.shape p)) a e in (found.0, inf_made (desk_value form.shape p) a found.1)
+pub inf_is : (form : Form) (p : ResultPart) (a : DeskAtom) → inf_atom form p ≡ Some a → ((has_infinite form.beside && is_plain form.beside) ≡ true) × ((x : Operand) × ((desk_value form.shape p ≡ Some x) × (a ≡ Either (record { operand = x; comparison = Equal; constant = infinite }) (record { operand = x; comparison = Equal; constant = minus_infinite }))))
+inf_is form p a e = let found = atom_by (has_infinite form.beside && is_plain form.beside) (inf_at (desk_value form.shape p)) a e in (found.0, inf_made (desk_value form.shape p) a found.1)
 
 value_small : (shape : Shape) (p : ResultPart) (o : Operand) → desk_value shape p ≡ Some o → SmallOperand o
 value_small shape LengthPlace o e = absurd (none-some o e)
@@ -166,10 +166,14 @@ guarded_small : (b : Bool) (t : DeskTest) → IsSmall t → SmallAtom (guarded_b
 guarded_small true t h = (h, guard_small t h)
 guarded_small false t h = h
 
-plain_small : ShortConstants → (form : Form) (t : Test) (a : DeskAtom) → plain_atom form t ≡ Some a → SmallAtom a
-plain_small law form t a e =
+float_small : ShortConstants → (form : Form) (t : Test) (a : DeskAtom) → float_atom form t ≡ Some a → SmallAtom a
+float_small law form t a e =
     let (d, (found, is)) = guarded_is (has_nan form.beside) (desk_test form t) a (none_by (has_null form.beside && is_value t.look.place) (guarded (has_nan form.beside) (desk_test form t)) a e).1 in
     subst SmallAtom is (guarded_small (has_nan form.beside && is_below d.comparison) d (desk_small law form t d found))
+
+plain_small : ShortConstants → (form : Form) (t : Test) (a : DeskAtom) → plain_atom form t ≡ Some a → SmallAtom a
+plain_small law form t a e =
+    float_small law form t a (none_by (not (is_plain form.beside) && is_value t.look.place) (float_atom form t) a e).1
 
 one_small : ShortConstants → (form : Form) (x : Test) (a : DeskAtom) → one_test (desk_test form x) ≡ Some a → SmallAtom a
 one_small law form x a e =
@@ -236,7 +240,7 @@ default_small law form d t a e =
 
 function_small : ShortConstants → (f : Function) (form : Form) (t : Test) (a : DeskAtom) → function_atom f form t ≡ Some a → SmallAtom a
 function_small law Plain form t a e = plain_small law form t a e
-function_small law AsFloat form t a e = plain_small law form t a e
+function_small law AsFloat form t a e = float_small law form t a e
 function_small law AsInt form t a e =
     asked_small law form t.look.place (in_turn t.turned t.comparison) (least_from t.amount.number.whole (10 ^ t.amount.number.places)) (least_above t.amount.number.whole (10 ^ t.amount.number.places)) a (int_is form t a e).1
 function_small law (Default d) form t a e = default_small law form d t a e

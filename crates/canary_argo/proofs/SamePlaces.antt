@@ -1,6 +1,6 @@
 -- A comparison of one place: what the desk has there, and what Argo has.
 use Rattle.std.proofs.Common.{pos, negsuc, ◌≡◌, ℕ, zero, suc, ◌<◌, ℤ, Bool, true, false, not, List, [], ◌∷◌, take, Option, Some, None, refl, sym, ap, ◌∙◌, subst, arith}
-use Rattle.std.specs.Prelude.{◌&&◌, ◌==◌, ◌^◌, ◌*◌, ◌*ℤ◌, ◌≢◌, nat_lt, slice_get, length}
+use Rattle.std.specs.Prelude.{◌&&◌, ◌==◌, ◌^◌, ◌*ℤ◌, ◌≢◌, nat_lt, slice_get, length}
 use Rattle.std.specs.Ordering.{int_eq}
 use Rattle.std.proofs.lemmas.Bool.{false≢true, and_parts, ltb-true}
 use Rattle.std.proofs.lemmas.Bool.Decides.{nat_tests, Decides-int_eq, same_from_decides}
@@ -17,28 +17,33 @@ use Rattle.canary_decimal.specs.Short.{fraction_of, ShortConstants}
 use Rattle.canary_decimal.specs.declared.decimal.ShortDecimal.{ShortDecimal}
 use Rattle.std.proofs.lemmas.Int.{ints}
 use Rattle.canary_decimal.specs.declared.shown.Beside.{Beside}
-use Rattle.canary_decimal.specs.declared.shown.Beside.TheVariants.{Nothing as NothingBeside, NaN as NaNBeside, Infinite as InfiniteBeside, Null as NullBeside}
+use Rattle.canary_decimal.specs.declared.shown.Beside.TheVariants.{Nothing as NothingBeside, NaN as NaNBeside, Infinite as InfiniteBeside, Null as NullBeside, FloatText as FloatTextBeside, WholeText as WholeTextBeside}
 use Rattle.canary_argo.specs.declared.condition.ResultPart.{ResultPart}
 use Rattle.canary_argo.specs.declared.condition.ResultPart.TheVariants.{Whole, Item as ItemPlace, Length as LengthPlace}
 use Rattle.canary_argo.specs.declared.form.Shape.{Shape}
 use Rattle.canary_argo.specs.declared.form.Shape.TheVariants.{One as OneShape, First, Several as SeveralShape, Length as LengthShape}
 use Rattle.canary_argo.specs.Meaning.{Given, Measured, given_at, in_order}
-use Rattle.canary_argo.specs.Meaning.Given.{Decimal, NotANumber, Infinite, MinusInfinite, Nothing}
+use Rattle.canary_argo.specs.Meaning.Given.{Decimal, NotANumber, Infinite, MinusInfinite, Nothing, Text}
 use Rattle.canary_argo.specs.Meaning.Measured.{One, Several}
-use Rattle.canary_argo.specs.Reporting.{nan, minus_infinite, infinite, null, has_nan, has_infinite, has_null, IsApart, Stands, AllStand, IsReportedAs}
+use Rattle.canary_argo.specs.Reporting.{nan, null, has_nan, has_null, above_all, below_all, IsApart, as_read, StandsRead, AllStand, IsReportedAs}
 use Rattle.canary_argo.specs.Translating.{desk_place, turned, in_turn, length_of, constant_at}
 use Rattle.canary_argo.proofs.PrintedTests.{length_is, constant_is}
 
 -- ---- a place
 
--- what the desk has at an operand, and Argo at a place: both nothing, or a number that stands for
--- a value
+-- a value as it is reported
+abbrev pub seen_as : Beside → Option Given → Option Given
+seen_as w None = None
+seen_as w (Some g) = Some (as_read g w)
+
+-- what the desk has at an operand, and Argo at a place as it is reported: both nothing, or a number
+-- that stands for what was read
 abbrev pub IsAlike : Beside → ℕ → Option ℤ → Option Given → Type 0
 IsAlike w n None None = Unit {0}
-IsAlike w n (Some z) (Some g) = Stands w n g z
+IsAlike w n (Some z) (Some g) = StandsRead w n g z
 IsAlike w n number given = ⊥
 
-item_alike : (w : Beside) (n most : ℕ) (gs : List Given) (zs : List ℤ) (i : ℕ) → i < most → AllStand w n (take most gs) zs → IsAlike w n (slice_get zs i) (slice_get gs i)
+item_alike : (w : Beside) (n most : ℕ) (gs : List Given) (zs : List ℤ) (i : ℕ) → i < most → AllStand w n (take most gs) zs → IsAlike w n (slice_get zs i) (seen_as w (slice_get gs i))
 item_alike w n zero gs zs i less h = absurd (omega arith)
 item_alike w n (suc most) [] [] i less h = tt
 item_alike w n (suc most) [] (z ∷ zs) i less h = absurd h
@@ -51,10 +56,10 @@ abbrev IsValue : ResultPart → Type 0
 IsValue LengthPlace = ⊥
 IsValue place = Unit {0}
 
-pub place_alike : (w : Beside) (n : ℕ) (shape : Shape) (p : ResultPart) (o : Operand) (m : Measured) (v : Value) → IsValue p → desk_place shape p ≡ Some o → IsReportedAs w n shape m v → IsAlike w n (operand_value o v) (given_at p m)
+pub place_alike : (w : Beside) (n : ℕ) (shape : Shape) (p : ResultPart) (o : Operand) (m : Measured) (v : Value) → IsValue p → desk_place shape p ≡ Some o → IsReportedAs w n shape m v → IsAlike w n (operand_value o v) (seen_as w (given_at p m))
 place_alike w n shape LengthPlace o m v is e h = absurd is
 place_alike w n OneShape Whole o (One g) (WholeResult z) is e h =
-    subst (λ (k : Operand). IsAlike w n (operand_value k (WholeResult z)) (Some g)) (same_Some WholeOperand o e) h
+    subst (λ (k : Operand). IsAlike w n (operand_value k (WholeResult z)) (seen_as w (Some g))) (same_Some WholeOperand o e) h
 place_alike w n OneShape Whole o (One g) (ListResult zs) is e h = absurd h
 place_alike w n OneShape Whole o (Several gs) v is e h = absurd h
 place_alike w n OneShape (ItemPlace i) o m v is e h = absurd (none-some o e)
@@ -65,15 +70,15 @@ place_alike w n First Whole o m v is e h = absurd (none-some o e)
 place_alike w n First (ItemPlace i) o (Several (g ∷ gs)) (WholeResult z) is e h =
     let found = cond_some (i == 0) WholeOperand o e in
     let none : i ≡ 0 = grind (arith, nat_tests) in
-    subst (λ (k : Operand). IsAlike w n (operand_value k (WholeResult z)) (slice_get (g ∷ gs) i)) found.1
-    (subst (λ (j : ℕ). IsAlike w n (Some z) (slice_get (g ∷ gs) j)) (sym none) h)
+    subst (λ (k : Operand). IsAlike w n (operand_value k (WholeResult z)) (seen_as w (slice_get (g ∷ gs) i))) found.1
+    (subst (λ (j : ℕ). IsAlike w n (Some z) (seen_as w (slice_get (g ∷ gs) j))) (sym none) h)
 place_alike w n (SeveralShape most) (ItemPlace i) o (One g) v is e h = absurd h
 place_alike w n (SeveralShape most) (ItemPlace i) o (Several gs) (WholeResult z) is e h = absurd h
 place_alike w n (SeveralShape most) Whole o m v is e h = absurd (none-some o e)
 place_alike w n (SeveralShape most) (ItemPlace i) o (Several gs) (ListResult zs) is e h =
     let found = cond_some (nat_lt i most && nat_lt most 17) (ItemOperand i) o e in
     let less = ltb-true i most (and_parts (nat_lt i most) (nat_lt most 17) found.0).0 in
-    subst (λ (k : Operand). IsAlike w n (operand_value k (ListResult zs)) (slice_get gs i)) found.1 (item_alike w n most gs zs i less h)
+    subst (λ (k : Operand). IsAlike w n (operand_value k (ListResult zs)) (seen_as w (slice_get gs i))) found.1 (item_alike w n most gs zs i less h)
 place_alike w n (LengthShape most) (ItemPlace i) o (One g) v is e h = absurd h
 place_alike w n (LengthShape most) (ItemPlace i) o (Several gs) (WholeResult z) is e h = absurd h
 place_alike w n (LengthShape most) (ItemPlace i) o (Several gs) (ListResult []) is e h = absurd h
@@ -81,7 +86,7 @@ place_alike w n (LengthShape most) Whole o m v is e h = absurd (none-some o e)
 place_alike w n (LengthShape most) (ItemPlace i) o (Several gs) (ListResult (z ∷ zs)) is e h =
     let found = cond_some (nat_lt i most && nat_lt most 16) (ItemOperand (suc i)) o e in
     let less = ltb-true i most (and_parts (nat_lt i most) (nat_lt most 16) found.0).0 in
-    subst (λ (k : Operand). IsAlike w n (operand_value k (ListResult (z ∷ zs))) (slice_get gs i)) found.1 (item_alike w n most gs zs i less h.1)
+    subst (λ (k : Operand). IsAlike w n (operand_value k (ListResult (z ∷ zs))) (seen_as w (slice_get gs i))) found.1 (item_alike w n most gs zs i less h.1)
 
 -- ---- a comparison
 
@@ -103,8 +108,8 @@ Agrees w t y None None = Unit {0}
 Agrees w t y (Some z) (Some (Decimal x)) =
     ((c : Comparison) → (compares c z t ≡ compares_exactly c x y) × (compares c t z ≡ compares_exactly c y x)) × (has_nan w ≡ true → z ≢ nan)
 Agrees w t y (Some z) (Some NotANumber) = (has_nan w ≡ true) × (z ≡ nan)
-Agrees w t y (Some z) (Some Infinite) = (has_infinite w ≡ true) × (z ≡ infinite)
-Agrees w t y (Some z) (Some MinusInfinite) = (has_infinite w ≡ true) × (z ≡ minus_infinite)
+Agrees w t y (Some z) (Some Infinite) = z ≡ above_all w
+Agrees w t y (Some z) (Some MinusInfinite) = z ≡ below_all w
 Agrees w t y (Some z) (Some Nothing) = (has_null w ≡ true) × (z ≡ null)
 Agrees w t y number given = ⊥
 
@@ -113,6 +118,8 @@ apart_nan NothingBeside z h e = absurd (false≢true e)
 apart_nan NaNBeside z h e = h
 apart_nan InfiniteBeside z h e = h.0
 apart_nan NullBeside z h e = h.0
+apart_nan FloatTextBeside z h e = h
+apart_nan WholeTextBeside z h e = absurd (false≢true e)
 
 pub agrees : ComparesAsDecimals → (w : Beside) (t : ℤ) (y : Fraction) (n : ℕ) (number : Option ℤ) (given : Option Given) → IsConstant t y n → IsAlike w n number given → Agrees w t y number given
 agrees law w t y n None None constant h = tt
@@ -123,6 +130,7 @@ agrees law w t y n (Some z) (Some NotANumber) constant h = h
 agrees law w t y n (Some z) (Some Infinite) constant h = h
 agrees law w t y n (Some z) (Some MinusInfinite) constant h = h
 agrees law w t y n (Some z) (Some Nothing) constant h = h
+agrees law w t y n (Some z) (Some (Text number)) constant h = absurd h
 
 apart_pos : (n : ℕ) → pos n ≢ nan
 apart_pos n e = absurd (omega (arith, ints))
@@ -138,11 +146,11 @@ length_agrees w number t z apart e =
     let own : z *ℤ pos (10 ^ number.places) ≡ z = ap (λ (k : ℕ). z *ℤ pos (10 ^ k)) parts.0 ∙ times_one z in
     (λ c. (ap (λ (a : ℤ). compares c a t) (sym own) ∙ ap (λ (b : ℤ). compares c (z *ℤ pos (10 ^ number.places)) b) (sym whole), ap (λ (b : ℤ). compares c b z) (sym whole) ∙ ap (λ (a : ℤ). compares c (number.whole *ℤ pos (10 ^ 0)) a) (sym own)), λ _. apart)
 
-pub place_agrees : ComparesAsDecimals → ShortConstants → (w : Beside) (n : ℕ) (shape : Shape) (p : ResultPart) (number : ShortDecimal) (o : Operand) (t : ℤ) (m : Measured) (v : Value) → desk_place shape p ≡ Some o → constant_at p number n ≡ Some t → IsReportedAs w n shape m v → Agrees w t (fraction_of number) (operand_value o v) (given_at p m)
+pub place_agrees : ComparesAsDecimals → ShortConstants → (w : Beside) (n : ℕ) (shape : Shape) (p : ResultPart) (number : ShortDecimal) (o : Operand) (t : ℤ) (m : Measured) (v : Value) → desk_place shape p ≡ Some o → constant_at p number n ≡ Some t → IsReportedAs w n shape m v → Agrees w t (fraction_of number) (operand_value o v) (seen_as w (given_at p m))
 place_agrees law short w n shape Whole number o t m v e f h =
-    agrees law w t (fraction_of number) n (operand_value o v) (given_at Whole m) (constant_is short number n t f) (place_alike w n shape Whole o m v tt e h)
+    agrees law w t (fraction_of number) n (operand_value o v) (seen_as w (given_at Whole m)) (constant_is short number n t f) (place_alike w n shape Whole o m v tt e h)
 place_agrees law short w n shape (ItemPlace i) number o t m v e f h =
-    agrees law w t (fraction_of number) n (operand_value o v) (given_at (ItemPlace i) m) (constant_is short number n t f) (place_alike w n shape (ItemPlace i) o m v tt e h)
+    agrees law w t (fraction_of number) n (operand_value o v) (seen_as w (given_at (ItemPlace i) m)) (constant_is short number n t f) (place_alike w n shape (ItemPlace i) o m v tt e h)
 place_agrees law short w n OneShape LengthPlace number o t m v e f h = absurd (none-some o e)
 place_agrees law short w n First LengthPlace number o t m v e f h = absurd (none-some o e)
 place_agrees law short w n (SeveralShape most) LengthPlace number o t m v e f h = absurd (none-some o e)

@@ -7,6 +7,10 @@ use Rattle.canary_condition.specs.declared.condition.Verdict3.TheVariants.{True,
 use Rattle.canary_condition.specs.Meaning.{compares, verdict_of_test, or_of, and_of, not_of}
 use Rattle.canary_decimal.specs.Exactness.{Fraction, compares_exactly}
 use Rattle.canary_decimal.specs.Short.{fraction_of}
+use Rattle.canary_decimal.specs.declared.reading.Reading.{Reading}
+use Rattle.canary_decimal.specs.declared.reading.Reading.TheVariants.{Number, NotANumber as NotANumberRead, Infinite as InfiniteRead, MinusInfinite as MinusInfiniteRead}
+use Rattle.canary_decimal.specs.declared.text.TextNumber.{TextNumber}
+use Rattle.canary_decimal.specs.declared.text.TextNumber.TheVariants.{Whole as WholeNumber, Float as FloatNumber, Other as OtherText}
 use Rattle.canary_argo.specs.declared.condition.Function.{Function}
 use Rattle.canary_argo.specs.declared.condition.Function.TheVariants.{Plain, AsFloat, AsInt, Default}
 use Rattle.canary_argo.specs.declared.condition.ResultPart.{ResultPart}
@@ -15,13 +19,21 @@ use Rattle.canary_argo.specs.declared.condition.Test.{Test}
 use Rattle.canary_argo.specs.Trees.{Tree}
 use Rattle.canary_argo.specs.Trees.Tree.{Or, And, Not, Bracket, Compare, IsNaN, IsInf}
 
--- a value that a provider gives
+-- a value that a provider gives; of a text, what Go's ParseFloat and ParseInt make of it
 pub data Given : Type 0 where
   Decimal : (x : Fraction) → Given
   NotANumber : Given
   Infinite : Given
   MinusInfinite : Given
   Nothing : Given
+  Text : (number : TextNumber) → Given
+
+-- a value as it was read
+abbrev pub given_of : Reading → Given
+given_of (Number x) = Decimal x
+given_of NotANumberRead = NotANumber
+given_of InfiniteRead = Infinite
+given_of MinusInfiniteRead = MinusInfinite
 
 -- what was measured: one value, or a list
 pub data Measured : Type 0 where
@@ -48,7 +60,7 @@ in_order true f x y = f y x
 in_order false f x y = f x y
 
 -- What a comparison says of a value: an infinity compares to each number as 1 or -1 does to 0, and
--- nothing is a fault.
+-- nothing and a text are faults.
 abbrev pub test_value : Test → Option Given → Verdict3
 test_value t (Some (Decimal x)) =
     verdict_of_test
@@ -59,6 +71,7 @@ test_value t (Some Infinite) =
 test_value t (Some MinusInfinite) =
     verdict_of_test (in_order t.turned (compares t.comparison) (pos 0) (pos 1))
 test_value t (Some Nothing) = Fault
+test_value t (Some (Text number)) = Fault
 test_value t None = Fault
 
 -- a decimal, cut off towards 0
@@ -69,13 +82,30 @@ whole_of (negsuc n) unit = neg_ℤ (pos (suc n / unit))
 abbrev pub cut_off : Fraction → Fraction
 cut_off x = record { whole = whole_of x.whole (10 ^ x.places); places = 0 }
 
+-- what `asFloat` makes of a text: ParseFloat's number
+abbrev pub as_float : TextNumber → Option Given
+as_float (WholeNumber x) = Some (Decimal x)
+as_float (FloatNumber reading) = Some (given_of reading)
+as_float OtherText = None
+
+-- what `asInt` makes of a text: ParseInt's number, of which nothing is cut off
+abbrev pub as_int : TextNumber → Option Given
+as_int (WholeNumber x) = Some (Decimal (cut_off x))
+as_int number = None
+
 -- What a function makes of a value, or none if that is a fault. `asFloat` of a number is that
--- number, and `asInt` of what is no decimal a fault. `default` stands round the whole result alone:
--- in Argo it gives the whole result, whatever it stands round.
+-- number. `asInt` cuts off towards 0. What Argo's makes of NaN, of an infinity and of 2^63 and more
+-- depends on the processor. Here NaN is a fault, and the others stay beyond each constant, as on
+-- arm64. `default` stands round the whole result alone: in Argo it gives the whole result, whatever
+-- it stands round.
 abbrev pub applied : Function → Option Given → Option Given
 applied Plain given = given
+applied AsFloat (Some (Text number)) = as_float number
 applied AsFloat given = given
 applied AsInt (Some (Decimal x)) = Some (Decimal (cut_off x))
+applied AsInt (Some (Text number)) = as_int number
+applied AsInt (Some Infinite) = Some Infinite
+applied AsInt (Some MinusInfinite) = Some MinusInfinite
 applied AsInt given = None
 applied (Default d) (Some Nothing) = Some (Decimal (fraction_of d))
 applied (Default d) given = given
@@ -84,6 +114,7 @@ applied (Default d) given = given
 abbrev pub nan_value : Option Given → Verdict3
 nan_value (Some NotANumber) = True
 nan_value (Some Nothing) = Fault
+nan_value (Some (Text number)) = Fault
 nan_value (Some given) = False
 nan_value None = Fault
 
@@ -92,6 +123,7 @@ abbrev pub inf_value : Option Given → Verdict3
 inf_value (Some Infinite) = True
 inf_value (Some MinusInfinite) = True
 inf_value (Some Nothing) = Fault
+inf_value (Some (Text number)) = Fault
 inf_value (Some given) = False
 inf_value None = Fault
 

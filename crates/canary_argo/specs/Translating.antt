@@ -29,7 +29,7 @@ use Rattle.canary_argo.specs.declared.translating.DeskTest.{DeskTest}
 use Rattle.canary_argo.specs.Grouping.{SpellsItems}
 use Rattle.canary_condition.specs.Spelling.Level.{AtOr}
 use Rattle.canary_argo.specs.Meaning.{Measured, argo_value}
-use Rattle.canary_argo.specs.Reporting.{nan, minus_infinite, infinite, null, has_nan, has_infinite, has_null, IsReported}
+use Rattle.canary_argo.specs.Reporting.{nan, minus_infinite, infinite, null, has_nan, has_infinite, has_null, is_plain, IsBetween, IsReported}
 use Rattle.canary_argo.specs.Tokens.{IsMadeOf, is_held}
 use Rattle.canary_argo.specs.Spelling.{IsArgo}
 use Rattle.canary_argo.specs.Trees.{Tree}
@@ -113,10 +113,15 @@ is_value LengthPlace = false
 is_value place = true
 
 -- if null is reported, each value has its `default`
-abbrev pub plain_atom : Form → Test → Option DeskAtom
-plain_atom form t =
+abbrev pub float_atom : Form → Test → Option DeskAtom
+float_atom form t =
     if has_null form.beside && is_value t.look.place then None
     else guarded (has_nan form.beside) (desk_test form t)
+
+-- and if texts are, each value has its `asFloat` or `asInt`
+abbrev pub plain_atom : Form → Test → Option DeskAtom
+plain_atom form t =
+    if not (is_plain form.beside) && is_value t.look.place then None else float_atom form t
 
 -- ---- `asInt`: comparisons with whole numbers of the value that is not cut off
 
@@ -231,7 +236,7 @@ default_atom form d t =
 -- what the desk asks for one of Argo's comparisons
 abbrev pub function_atom : Function → Form → Test → Option DeskAtom
 function_atom Plain form t = plain_atom form t
-function_atom AsFloat form t = plain_atom form t
+function_atom AsFloat form t = float_atom form t
 function_atom AsInt form t = int_atom form t
 function_atom (Default d) form t = default_atom form d t
 
@@ -245,7 +250,7 @@ nan_at (Some o) = Some (OneTest (record { operand = o; comparison = Equal; const
 -- what the desk asks for `isNaN` of a place
 abbrev pub nan_atom : Form → ResultPart → Option DeskAtom
 nan_atom form place =
-    if has_nan form.beside && not (has_null form.beside) then nan_at (desk_value form.shape place)
+    if has_nan form.beside && is_plain form.beside then nan_at (desk_value form.shape place)
     else None
 
 abbrev pub inf_at : Option Operand → Option DeskAtom
@@ -257,7 +262,7 @@ inf_at (Some o) =
 -- what the desk asks for `isInf` of a place
 abbrev pub inf_atom : Form → ResultPart → Option DeskAtom
 inf_atom form place =
-    if has_infinite form.beside && not (has_null form.beside)
+    if has_infinite form.beside && is_plain form.beside
     then inf_at (desk_value form.shape place) else None
 
 -- ---- the text
@@ -339,6 +344,12 @@ abbrev pub skeleton_of : List Item → List ℕ
 skeleton_of items = flat_map skeleton_text items
 
 -- ---- what is promised
+
+-- THE LAW OF CONSTANTS: what a value is compared with lies between what is reported of the infinities
+abbrev pub ConstantsBetween : Type 0
+ConstantsBetween =
+    (place : ResultPart) (d : ShortDecimal) (places : ℕ) (t : ℤ)
+    → constant_at place d places ≡ Some t → IsBetween t
 
 -- on each result that is reported, the desk's condition says what Argo's says of what was measured
 abbrev pub SaysTheSame : Form → Tree → DeskTree → Type 0

@@ -1,7 +1,7 @@
 //! How the values of a metric are reported.
 ghost use Rattle.std.specs.Prelude.{◌≡◌, ◌≤◌, ◌++◌, OnOk, string_bytes};
 ghost use Rattle.canary_argo.specs.Labels.{shape_text, has_length, suffix_of, units_of};
-ghost use Rattle.canary_argo.specs.Reporting.{has_nan, has_infinite, has_null};
+ghost use Rattle.canary_argo.specs.Reporting.{has_nan, has_infinite, has_null, is_plain};
 ghost use Rattle.canary_decimal.specs.Endings.{beside_text, IsEnding, IsShape};
 
 use crate::condition::{Function, Item, ResultPart, Test};
@@ -60,8 +60,12 @@ pub struct Needs {
     default: bool,
     // Whether a value stands without it.
     bare: bool,
-    // Whether a value is compared as a decimal.
-    decimal: bool,
+    // Whether a value stands in no function, or in `isNaN` or `isInf`.
+    plain: bool,
+    // Whether a value stands in `asFloat`.
+    float: bool,
+    // Whether a value is cut off, by `asInt`.
+    cut: bool,
 }
 
 impl Needs {
@@ -76,13 +80,10 @@ impl Needs {
             infinite: false,
             default: false,
             bare: false,
-            decimal: false,
+            plain: false,
+            float: false,
+            cut: false,
         }
-    }
-
-    /// Whether a value is compared as a decimal, so that NaN is false in Argo's comparison.
-    pub fn compares_decimals(self) -> bool {
-        self.decimal
     }
 
     // With one more comparison.
@@ -111,12 +112,26 @@ impl Needs {
                 default: true,
                 ..self.with_number(number)
             },
-            Function::AsInt => Needs { bare: true, ..self },
-            Function::Plain | Function::AsFloat => Needs {
+            Function::AsInt => Needs {
                 bare: true,
-                decimal: true,
+                cut: true,
                 ..self
             },
+            Function::AsFloat => Needs {
+                bare: true,
+                float: true,
+                ..self
+            },
+            Function::Plain => self.with_plain(),
+        }
+    }
+
+    // With one more value in no function.
+    fn with_plain(self) -> Needs {
+        Needs {
+            bare: true,
+            plain: true,
+            ..self
         }
     }
 
@@ -144,13 +159,11 @@ impl Needs {
             Item::Compare(test) => self.with(test),
             Item::NaN(place) => Needs {
                 nan: true,
-                bare: true,
-                ..self.with_place(place)
+                ..self.with_place(place).with_plain()
             },
             Item::Inf(place) => Needs {
                 infinite: true,
-                bare: true,
-                ..self.with_place(place)
+                ..self.with_place(place).with_plain()
             },
             _ => self,
         }
@@ -176,7 +189,8 @@ impl Needs {
         Ok(self.with_items(items.as_slice()))
     }
 
-    // What is reported beside decimals.
+    // What is reported beside decimals. NaN is, unless a value stands in `asInt`: what Argo's makes
+    // of NaN depends on the processor. Texts are, if each value stands in `asFloat` or `asInt`.
     fn beside(self) -> Beside {
         if self.default {
             Beside::Null
@@ -185,7 +199,17 @@ impl Needs {
         } else if self.nan {
             Beside::NaN
         } else {
-            Beside::Nothing
+            self.beside_functions()
+        }
+    }
+
+    // The same for conditions without `default`, `isInf` and `isNaN`.
+    fn beside_functions(self) -> Beside {
+        match (self.cut, self.plain) {
+            (true, true) => Beside::Nothing,
+            (true, false) => Beside::WholeText,
+            (false, false) if self.float => Beside::FloatText,
+            _ => Beside::NaN,
         }
     }
 
@@ -222,12 +246,12 @@ impl Needs {
 }
 
 impl Form {
-    /// That of decimals alone, in the least places.
+    /// The form of a metric without conditions: decimals and NaN, with the fewest places.
     pub fn plain(shape: Shape) -> Form {
         Form {
             places: MIN_PLACES,
             shape,
-            beside: Beside::Nothing,
+            beside: Beside::NaN,
         }
     }
 
@@ -236,10 +260,11 @@ impl Form {
         has_nan(self.beside)
     }
 
-    /// Appends what a label of a metric ends in whose values are reported in this form: `.e6` for
-    /// one number in millionths, `.e6f` for the first value of a list, `.e6p2` for two of them, and
-    /// `.e6l1` for its length and the first; after the places with `n` if NaN is reported, `i` if
-    /// the infinities are, too, and `s` if also null is.
+    /// Appends the ending of a label under which values are reported in this form: `.e6` for one
+    /// number in millionths, `.e6f` for the first value of a list, `.e6p2` for two of them, and
+    /// `.e6l1` for its length and the first. A letter after the places says what else is reported:
+    /// `n` NaN; `i` NaN, and each infinity as a number of its own; `s` the same, and null; `t` NaN,
+    /// and a text as ParseFloat reads it; `w` a text as ParseInt reads it.
     pub fn suffix(self, out: &mut String) -> Result<(), Memory>
         ensures text { OnOk result (string_bytes out.new ≡ string_bytes out.old ++ suffix_of self) }
         ensures ending { OnOk result (6 ≤ self.places → self.places ≤ 18
@@ -277,6 +302,8 @@ fn beside_text(beside: Beside) -> &'static str
         Beside::NaN => "n",
         Beside::Infinite => "i",
         Beside::Null => "s",
+        Beside::FloatText => "t",
+        Beside::WholeText => "w",
     }
 }
 
@@ -284,10 +311,10 @@ fn beside_text(beside: Beside) -> &'static str
 pub(crate) fn has_nan(beside: Beside) -> bool
     ensures { result ≡ has_nan beside }
 {
-    !matches!(beside, Beside::Nothing)
+    !matches!(beside, Beside::Nothing | Beside::WholeText)
 }
 
-// Whether the infinities are reported.
+// Whether the infinities have numbers of their own.
 pub(crate) fn has_infinite(beside: Beside) -> bool
     ensures { result ≡ has_infinite beside }
 {
@@ -299,4 +326,11 @@ pub(crate) fn has_null(beside: Beside) -> bool
     ensures { result ≡ has_null beside }
 {
     matches!(beside, Beside::Null)
+}
+
+// Whether neither null nor a text is reported as a number.
+pub(crate) fn is_plain(beside: Beside) -> bool
+    ensures { result ≡ is_plain beside }
+{
+    matches!(beside, Beside::Nothing | Beside::NaN | Beside::Infinite)
 }

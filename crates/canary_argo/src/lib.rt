@@ -13,6 +13,7 @@ pub mod condition;
 pub mod fault;
 pub mod form;
 mod items;
+pub mod laws;
 mod lexer;
 mod naming;
 mod printing;

@@ -5,6 +5,7 @@ ghost use Rattle.canary_argo.specs.Translating.{length_of, constant_at, desk_tes
 ghost use Rattle.std.specs.Prelude.{◌<◌, ◌≤◌, ◌^◌, ◌*◌, ◌-◌, min, unsigned_abs};
 ghost use Rattle.canary_decimal.specs.Exactness.{signed};
 ghost use Rattle.canary_argo.specs.Translating.{guard, is_below, guarded_by, guarded, plain_atom};
+ghost use Rattle.canary_argo.specs.Translating.{float_atom};
 ghost use Rattle.canary_argo.specs.Translating.{least_from, least_above, edge_of, edge_sign};
 ghost use Rattle.canary_argo.specs.Translating.{edge_test, one_test, both_tests, either_test};
 ghost use Rattle.canary_argo.specs.Translating.{int_asked, int_atom, compare_atom};
@@ -16,7 +17,7 @@ ghost use Rattle.canary_argo.specs.Translating.{with_null, value_test, default_a
 
 use crate::condition::{Amount, Function, Item, Look, ResultPart, Test};
 use crate::fault::UnsupportedSyntax;
-use crate::form::{Form, MAX_VALUES, Shape, has_infinite, has_nan, has_null};
+use crate::form::{Form, MAX_VALUES, Shape, has_infinite, has_nan, has_null, is_plain};
 use crate::lexer::{MIN_TOO_LONG, is_held};
 use canary_condition::condition::{Comparison, Operand};
 use canary_decimal::decimal::{MAX_PLACES, ShortDecimal};
@@ -158,10 +159,20 @@ fn is_value(place: ResultPart) -> bool
     !matches!(place, ResultPart::Length)
 }
 
-// What the desk asks for a comparison that is `Plain` or `AsFloat`; none if it has no such
-// comparison, or if null is reported of the value, which then needs `Default`.
+// What the desk asks for a comparison that is `Plain`; none if it has no such comparison. None
+// also if null or texts are reported as numbers: each value then needs its function.
 fn plain_atom(form: Form, test: Test) -> Option<DeskAtom>
     ensures { result ≡ plain_atom form test }
+{
+    if !is_plain(form.beside) && is_value(test.look.place) {
+        return None;
+    }
+    float_atom(form, test)
+}
+
+// The same for one that is `AsFloat`, which reads a number in a text, but takes no null.
+fn float_atom(form: Form, test: Test) -> Option<DeskAtom>
+    ensures { result ≡ float_atom form test }
 {
     if has_null(form.beside) && is_value(test.look.place) {
         return None;
@@ -457,7 +468,8 @@ pub(crate) fn compare_atom(form: Form, test: Test) -> Option<DeskAtom>
     ensures { result ≡ compare_atom form test }
 {
     match test.look.function {
-        Function::Plain | Function::AsFloat => plain_atom(form, test),
+        Function::Plain => plain_atom(form, test),
+        Function::AsFloat => float_atom(form, test),
         Function::AsInt => int_atom(form, test),
         Function::Default(number) => default_atom(form, number, test),
     }
@@ -467,7 +479,7 @@ pub(crate) fn compare_atom(form: Form, test: Test) -> Option<DeskAtom>
 pub(crate) fn nan_atom(form: Form, place: ResultPart) -> Option<DeskAtom>
     ensures { result ≡ nan_atom form place }
 {
-    if !has_nan(form.beside) || has_null(form.beside) {
+    if !has_nan(form.beside) || !is_plain(form.beside) {
         return None;
     }
     let operand = desk_value(form.shape, place)?;
@@ -489,7 +501,7 @@ fn equal_to(operand: Operand, constant: i64) -> DeskTest
 pub(crate) fn inf_atom(form: Form, place: ResultPart) -> Option<DeskAtom>
     ensures { result ≡ inf_atom form place }
 {
-    if !has_infinite(form.beside) || has_null(form.beside) {
+    if !has_infinite(form.beside) || !is_plain(form.beside) {
         return None;
     }
     let operand = desk_value(form.shape, place)?;

@@ -86,8 +86,8 @@ const LABEL: &str = "expected 1 to 63 bytes of A-Z a-z 0-9 . _ -";
 const SUFFIXED: &str = "a name that ends as that of a translated metric: write another one";
 
 const UNCONDITIONAL: &str =
-    "without a condition Argo takes each result as Successful; here NaN, an infinity, null, a \
-    text and an empty list are failures (Error)";
+    "without a condition Argo takes each result as Successful; here null, a text and an empty \
+    list are failures (Error)";
 
 // The key of the provider, empty if there is none. If it is not asked, that is reported.
 fn kind_of<'a>(work: &mut Conversion, spot: &TemplateMetric<'a>) -> Option<&'a str> {
@@ -442,28 +442,15 @@ fn push_translation(
     text: &str,
     out: &mut Draft,
 ) {
-    let fails_nan = !form.has_nan() && compares_decimals(work, text);
     match quoted_translation(work.alloc, text, form) {
         Ok(condition) => {
-            if fails_nan {
+            if !form.has_nan() {
                 work.see_nan(spot.place);
             }
             push_key(out, key);
             out.put(condition.as_str());
         }
         Err(fault) => tell_fault(work, spot, key, text, fault),
-    }
-}
-
-// Whether a condition compares a decimal.
-fn compares_decimals(work: &mut Conversion, text: &str) -> bool {
-    match Needs::none().with_condition(work.alloc, text) {
-        Ok(needs) => needs.compares_decimals(),
-        Err(TranslationFault::Memory) => {
-            work.refuse();
-            false
-        }
-        Err(TranslationFault::Refused(_)) => false,
     }
 }
 

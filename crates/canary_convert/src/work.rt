@@ -57,14 +57,14 @@ pub(crate) struct Conversion {
     pub(crate) plan: Vec<Planned>,
     // The indices of the documents of templates that Rollouts name.
     used: Vec<usize>,
-    // The first metric whose conditions do not ask for NaN.
+    // The first metric of which NaN is no number.
     nan: Option<ManifestPlace>,
     is_refused: bool,
 }
 
 const NAN: &str =
-    "NaN without isNaN is a failure here, an Error; Argo takes comparisons with it as \
-    false: write isNaN(result) where NaN is to count (said once, for all metrics)";
+    "NaN beside asInt is a failure here, an Error; what Argo makes of it depends on the \
+    processor: leave asInt out where NaN is to count (said once, for all metrics)";
 
 const TWO_TEMPLATES: &str = " is made in two ways: of two analyses of one Rollout that fill in \
     other values, or of two templates: write two templates, or other names";
@@ -237,14 +237,14 @@ impl Conversion {
         }
     }
 
-    /// Says that the conditions there do not ask for NaN.
+    /// Says that NaN is a failure there.
     pub(crate) fn see_nan(&mut self, place: ManifestPlace) {
         if self.nan.is_none() {
             self.nan = Some(place);
         }
     }
 
-    /// Adds the note on NaN, once, if the conditions of a metric do not ask for it.
+    /// Adds the note on NaN, once, if it is a failure of a metric.
     pub(crate) fn close(&mut self) {
         if let Some(place) = self.nan {
             self.note(place, &[NAN]);

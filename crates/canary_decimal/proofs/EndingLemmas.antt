@@ -8,7 +8,7 @@ use Rattle.std.proofs.lemmas.Fmt.{decimal_digit, decimal_step}
 use Rattle.std.proofs.lemmas.List.{drop_at, get_or-drop}
 use Rattle.std.proofs.lemmas.Option.{none-some, same_Some}
 use Rattle.canary_decimal.specs.declared.shown.Beside.{Beside}
-use Rattle.canary_decimal.specs.declared.shown.Beside.TheVariants.{Nothing, NaN, Infinite, Null}
+use Rattle.canary_decimal.specs.declared.shown.Beside.TheVariants.{Nothing, NaN, Infinite, Null, FloatText, WholeText}
 use Rattle.canary_decimal.specs.declared.shown.Units.{Units}
 use Rattle.canary_decimal.specs.Spelling.{IsDigits}
 use Rattle.canary_decimal.specs.Reader.{is_digits}
@@ -36,6 +36,8 @@ beside_read n Nothing l shape h = without_letter n l shape h ∙ ap (option_map 
 beside_read n NaN l shape h = ap (option_map (units_with n NaN)) (shape_read l shape h)
 beside_read n Infinite l shape h = ap (option_map (units_with n Infinite)) (shape_read l shape h)
 beside_read n Null l shape h = ap (option_map (units_with n Null)) (shape_read l shape h)
+beside_read n FloatText l shape h = ap (option_map (units_with n FloatText)) (shape_read l shape h)
+beside_read n WholeText l shape h = ap (option_map (units_with n WholeText)) (shape_read l shape h)
 
 one_digit_read : (n c : ℕ) (rest : List ℕ) → c ≡ 48 + n → 6 ≤ n → n ≤ 9 → of_places (c ∷ rest) ≡ with_beside n rest
 one_digit_read n c rest e low high =
@@ -135,12 +137,16 @@ rest_sound : (n : ℕ) (rest : List ℕ) (u : Units) → with_beside n rest ≡ 
 rest_sound n [] u e = with_shape_sound n Nothing [] [] u refl e (shape_of []) refl e
 rest_sound n (b ∷ rest) u e =
     let plain : Option Units = with_shape n Nothing (b ∷ rest) in
-    let null : Option Units = if b == 115 then with_shape n Null rest else plain in
+    let whole : Option Units = if b == 119 then with_shape n WholeText rest else plain in
+    let float : Option Units = if b == 116 then with_shape n FloatText rest else whole in
+    let null : Option Units = if b == 115 then with_shape n Null rest else float in
     let infinite : Option Units = if b == 105 then with_shape n Infinite rest else null in
     letter_sound n 110 NaN b rest infinite u refl
     (letter_sound n 105 Infinite b rest null u refl
-    (letter_sound n 115 Null b rest plain u refl
-    (λ found. with_shape_sound n Nothing (b ∷ rest) (b ∷ rest) u refl found (shape_of (b ∷ rest)) refl found))) e
+    (letter_sound n 115 Null b rest float u refl
+    (letter_sound n 116 FloatText b rest whole u refl
+    (letter_sound n 119 WholeText b rest plain u refl
+    (λ found. with_shape_sound n Nothing (b ∷ rest) (b ∷ rest) u refl found (shape_of (b ∷ rest)) refl found))))) e
 
 -- the places, and what stands after them
 abbrev IsPlaces : List ℕ → Units → Type 0

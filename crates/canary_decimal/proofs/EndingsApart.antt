@@ -1,5 +1,5 @@
 -- A label has one ending at most: an ending has no point but its first byte.
-use Rattle.std.proofs.Common.{◌≡◌, ℕ, ◌+◌, ◌-◌, ◌<◌, ◌≤◌, Bool, true, false, not, List, [], ◌∷◌, ◌++◌, length, take, drop, get_or, refl, sym, ap, ◌∙◌, inl, inr, arith, length-append}
+use Rattle.std.proofs.Common.{◌≡◌, ℕ, ◌+◌, ◌-◌, ◌<◌, ◌≤◌, Bool, true, false, not, List, ◌∷◌, ◌++◌, length, take, drop, get_or, refl, sym, ap, ◌∙◌, inl, inr, arith, length-append}
 use Rattle.std.specs.Char.{is_ascii_digit}
 use Rattle.std.specs.Fmt.{decimal}
 use Rattle.std.specs.List.{list_all}
@@ -9,7 +9,7 @@ use Rattle.std.proofs.lemmas.List.{take_at, drop_at, get_or-drop}
 use Rattle.std.proofs.lemmas.List.Folds.{list_all_at, list_all-append}
 use Rattle.std.proofs.lemmas.Option.{same_Some}
 use Rattle.canary_decimal.specs.declared.shown.Beside.{Beside}
-use Rattle.canary_decimal.specs.declared.shown.Beside.TheVariants.{Nothing, NaN, Infinite, Null}
+use Rattle.canary_decimal.specs.declared.shown.Beside.TheVariants.{Nothing, NaN, Infinite, Null, FloatText, WholeText}
 use Rattle.canary_decimal.specs.declared.shown.Units.{Units}
 use Rattle.canary_decimal.specs.Reader.{is_either}
 use Rattle.canary_decimal.specs.Endings.{IsShape, beside_text, IsEnding, IsLabelOf, units_of}
@@ -34,6 +34,8 @@ beside_plain Nothing shape h = h
 beside_plain NaN shape h = h
 beside_plain Infinite shape h = h
 beside_plain Null shape h = h
+beside_plain FloatText shape h = h
+beside_plain WholeText shape h = h
 
 tail_plain : (u : Units) (shape : List ℕ) → u.places ≤ 18 → IsShape u.length shape → list_all is_no_point (decimal u.places ++ (beside_text u.beside ++ shape)) ≡ true
 tail_plain u shape few h =

@@ -4,7 +4,7 @@ use Rattle.std.specs.Prelude.{◌≡◌, ℕ, ◌+◌, ◌-◌, ◌==◌, nat_le
 use Rattle.std.specs.Ordering.{int_eq}
 use Rattle.std.specs.Fmt.{decimal}
 use Rattle.canary_decimal.specs.declared.shown.Beside.{Beside}
-use Rattle.canary_decimal.specs.declared.shown.Beside.TheVariants.{Nothing, NaN, Infinite, Null}
+use Rattle.canary_decimal.specs.declared.shown.Beside.TheVariants.{Nothing, NaN, Infinite, Null, FloatText, WholeText}
 use Rattle.canary_decimal.specs.declared.shown.Units.{Units}
 use Rattle.canary_decimal.specs.declared.shown.SpecialValue.{SpecialValue}
 use Rattle.canary_decimal.specs.declared.shown.SpecialValue.TheVariants.{NaN as NaNWord, MinusInfinite as MinusInfiniteWord, Null as NullWord, Infinite as InfiniteWord}
@@ -23,6 +23,8 @@ beside_text Nothing = []
 beside_text NaN = codes "n"
 beside_text Infinite = codes "i"
 beside_text Null = codes "s"
+beside_text FloatText = codes "t"
+beside_text WholeText = codes "w"
 
 -- `.e`, the places, a letter if more than decimals is reported, and the shape
 abbrev pub IsEnding : List ℕ → Units → Type 0
@@ -67,7 +69,9 @@ with_beside places (b ∷ rest) =
     if b == 110 then with_shape places NaN rest
     else (if b == 105 then with_shape places Infinite rest
     else (if b == 115 then with_shape places Null rest
-    else with_shape places Nothing (b ∷ rest)))
+    else (if b == 116 then with_shape places FloatText rest
+    else (if b == 119 then with_shape places WholeText rest
+    else with_shape places Nothing (b ∷ rest)))))
 
 abbrev pub of_one_digit : List ℕ → Option Units
 of_one_digit [] = None
@@ -114,6 +118,8 @@ word_of Nothing z = None
 word_of NaN z = nan_or z None
 word_of Infinite z = nan_or z (infinite_or z None)
 word_of Null z = nan_or z (infinite_or z (null_of z))
+word_of FloatText z = nan_or z None
+word_of WholeText z = None
 
 abbrev pub word_text : SpecialValue → List ℕ
 word_text NaNWord = codes "NaN"

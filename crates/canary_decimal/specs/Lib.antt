@@ -4,3 +4,4 @@ pub mod Reader
 pub mod Short
 pub mod Points
 pub mod Endings
+pub mod Texts

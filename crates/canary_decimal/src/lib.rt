@@ -18,3 +18,4 @@ pub mod laws;
 pub mod point;
 pub mod reading;
 pub mod shown;
+pub mod text;

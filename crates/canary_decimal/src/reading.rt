@@ -42,7 +42,7 @@ pub enum Reading {
 }
 
 // Whether each byte is a digit.
-fn are_digits(word: &[u8]) -> bool
+pub(crate) fn are_digits(word: &[u8]) -> bool
     ensures { result ≡ list_all is_ascii_digit word.now }
 {
     word.iter().all(|byte| byte.is_ascii_digit())
@@ -72,7 +72,7 @@ fn place_of(text: &[u8], first: u8, second: u8) -> usize
 }
 
 // The text up to the first of these two bytes, and from there on.
-fn split(text: &[u8], first: u8, second: u8) -> (&[u8], &[u8])
+pub(crate) fn split(text: &[u8], first: u8, second: u8) -> (&[u8], &[u8])
     ensures front { result.0.now ≡ up_to first second text.now }
     ensures back { result.1.now ≡ from first second text.now }
 {
@@ -105,7 +105,7 @@ fn zeros_and_places(exponent: &[u8]) -> Option<(usize, usize)>
 }
 
 // The same of what stands after the mantissa, whose first byte is an `e` or `E`.
-fn exponent_of(tail: &[u8]) -> Option<(usize, usize)>
+pub(crate) fn exponent_of(tail: &[u8]) -> Option<(usize, usize)>
     ensures exponent { result ≡ exponent_of tail.now }
     ensures few { IfSome result (λ r. (r.0 ≤ 9999) × (r.1 ≤ 9999)) }
 {
@@ -177,7 +177,7 @@ pub fn decimal(alloc: Global, text: &[u8]) -> Result<Option<Decimal>, Memory>
 }
 
 // Whether the text is this word.
-fn is_same(text: &[u8], word: &str) -> bool
+pub(crate) fn is_same(text: &[u8], word: &str) -> bool
     ensures { result ≡ bytes_eq text.now word.now }
 {
     text == word.as_bytes()
@@ -199,7 +199,7 @@ fn word_of(text: &[u8]) -> Option<Reading>
 }
 
 // The reading of a decimal.
-fn number(decimal: Option<Decimal>) -> Option<Reading>
+pub(crate) fn number(decimal: Option<Decimal>) -> Option<Reading>
     ensures { result ≡ option_map (λ d. Reading.Number d) decimal }
 {
     match decimal {

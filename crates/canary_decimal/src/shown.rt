@@ -2,14 +2,15 @@
 //!
 //! ```text
 //! label  := name ending
-//! ending := ".e" places ["n" | "i" | "s"] [shape]
+//! ending := ".e" places ["n" | "i" | "s" | "t" | "w"] [shape]
 //! shape  := "f" | "p" digits | "l" digits
 //! ```
 //!
-//! The places are 6 to 18. A number is in units of 10^-places. With `n` the least number stands for
-//! NaN; with `i` the next and the greatest one for the infinities, too; with `s` also the third for
-//! null. With `l` the first value of a list is the length of what was measured, which is whole. A
-//! label with no such ending is of whole numbers.
+//! The places are 6 to 18. A number is in units of 10^-places. With `n`, `i`, `s` or `t` the least
+//! number stands for NaN. With `i` or `s` the next one and the greatest one stand for the
+//! infinities, and with `s` the third for null. With `t` or `w` a text is read as a number. With
+//! `l` the first value of a list is the length of the measured list, a whole number. The numbers of
+//! a label without such an ending are whole.
 ghost use Rattle.std.specs.Prelude.{◌≡◌, ℕ, Bool, ◌<◌, ◌≤◌, List, MatchOption, option_map, drop};
 ghost use Rattle.std.specs.Prelude.{length, Some};
 ghost use Rattle.canary_decimal.specs.Endings.{by_letter, shape_of, with_shape, with_beside};
@@ -33,6 +34,10 @@ pub enum Beside {
     Infinite,
     /// These, and null, as the third.
     Null,
+    /// NaN, as the least number, and a text as the number that Go's ParseFloat reads.
+    FloatText,
+    /// A text as the number that Go's ParseInt reads.
+    WholeText,
 }
 
 /// What a number stands for that is no decimal.
@@ -163,8 +168,8 @@ fn word_of(beside: Beside, number: i64) -> Option<SpecialValue>
     ensures { result ≡ word_of beside number }
 {
     match beside {
-        Beside::Nothing => None,
-        Beside::NaN => nan_or(number, None),
+        Beside::Nothing | Beside::WholeText => None,
+        Beside::NaN | Beside::FloatText => nan_or(number, None),
         Beside::Infinite => nan_or(number, infinite_or(number, None)),
         Beside::Null => nan_or(number, infinite_or(number, null_of(number))),
     }
@@ -294,6 +299,8 @@ fn with_beside(places: usize, rest: &[u8]) -> Option<Units>
         [b'n', shape @ ..] => with_shape(places, Beside::NaN, shape),
         [b'i', shape @ ..] => with_shape(places, Beside::Infinite, shape),
         [b's', shape @ ..] => with_shape(places, Beside::Null, shape),
+        [b't', shape @ ..] => with_shape(places, Beside::FloatText, shape),
+        [b'w', shape @ ..] => with_shape(places, Beside::WholeText, shape),
         shape => with_shape(places, Beside::Nothing, shape),
     }
 }

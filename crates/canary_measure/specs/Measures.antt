@@ -4,12 +4,12 @@ use Rattle.canary_condition.specs.declared.outcome.Value.{Value}
 use Rattle.canary_condition.specs.declared.outcome.Value.TheVariants.{Whole, List as ListResult}
 use Rattle.canary_condition.specs.Results.{IsResult}
 use Rattle.canary_decimal.specs.declared.shown.Beside.{Beside}
-use Rattle.canary_argo.specs.Meaning.{Given as GivenTo, Measured as MeasuredFor}
-use Rattle.canary_argo.specs.Meaning.Given.{Nothing}
+use Rattle.canary_argo.specs.Meaning.{Given as GivenTo, Measured as MeasuredFor, given_of}
+use Rattle.canary_argo.specs.Meaning.Given.{Nothing, Text as TextTo}
 use Rattle.canary_argo.specs.Meaning.Measured.{One as OneValue, Several as SeveralValues}
-use Rattle.canary_argo.specs.Reporting.{given_of, Stands, AllStand}
+use Rattle.canary_argo.specs.Reporting.{Stands, AllStand}
 use Rattle.canary_measure.specs.declared.measured.Given.{Given}
-use Rattle.canary_measure.specs.declared.measured.Given.TheVariants.{Read, Null}
+use Rattle.canary_measure.specs.declared.measured.Given.TheVariants.{Read, Text, Null}
 use Rattle.canary_measure.specs.declared.measured.Measured.{Measured}
 use Rattle.canary_measure.specs.declared.measured.Measured.TheVariants.{One, Several}
 use Rattle.canary_measure.specs.declared.why.NotReported.{NotReported}
@@ -17,6 +17,7 @@ use Rattle.canary_measure.specs.declared.why.NotReported.{NotReported}
 -- a value as a condition looks at it
 abbrev pub seen : Given → GivenTo
 seen (Read reading) = given_of reading
+seen (Text number) = TextTo number
 seen Null = Nothing
 
 abbrev pub measured_of : Measured → MeasuredFor

@@ -2,7 +2,7 @@
 //!
 //! ```text
 //! label := name ending
-//! ending := ".e" places ["n" | "i" | "s"] [shape]
+//! ending := ".e" places ["n" | "i" | "s" | "t" | "w"] [shape]
 //! shape := "f" | "p" count | "l" count
 //! ```
 //!
@@ -70,6 +70,7 @@ fn letter_len(beside: Beside) -> usize
     match beside {
         Beside::Nothing => 0,
         Beside::NaN | Beside::Infinite | Beside::Null => 1,
+        Beside::FloatText | Beside::WholeText => 1,
     }
 }
 

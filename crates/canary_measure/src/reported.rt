@@ -144,6 +144,7 @@ fn number(form: Form, given: &Given) -> Option<i64>
 {
     match given {
         Given::Read(reading) => reporting::number_of(form, reading),
+        Given::Text(text) => reporting::text_of(form, text),
         Given::Null => reporting::null_of(form),
     }
 }

@@ -23,8 +23,10 @@ pub enum NotReported {
     TooMany,
     /// NaN, for a label without it.
     NaN,
-    /// An infinity, for a label without it.
+    /// An infinity, for a label with no ending.
     Infinite,
+    /// A text, for a label that reads no texts, or no number in this one.
+    Text,
     /// Null, for a label without it.
     Null,
     /// No whole number that fits, or several, for a label with no ending.
@@ -38,6 +40,7 @@ impl NotReported {
             Given::Read(Reading::Number(_)) => NotReported::NotWhole,
             Given::Read(Reading::NotANumber) => NotReported::NaN,
             Given::Read(_) => NotReported::Infinite,
+            Given::Text(_) => NotReported::Text,
             Given::Null => NotReported::Null,
         }
     }
@@ -53,8 +56,11 @@ impl NotReported {
             NotReported::One => "one value for a list: write result in the condition",
             NotReported::Empty => "a list with no value",
             NotReported::TooMany => "more than 16 values",
-            NotReported::NaN => "NaN: no condition has isNaN(result)",
-            NotReported::Infinite => "an infinity: no condition has isInf(result)",
+            NotReported::NaN => "NaN: a label without n has no number for it",
+            NotReported::Infinite => "an infinity: a label with no ending takes whole numbers",
+            NotReported::Text => {
+                "a text of which no number is made: write asFloat(result) at each value"
+            }
             NotReported::Null => "null: no condition has default(result, 0)",
             NotReported::NotWhole => {
                 "not one whole number that fits: a label that ends in .e6 takes decimals"

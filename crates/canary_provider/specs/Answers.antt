@@ -5,8 +5,9 @@ use Rattle.json.specs.Json.{Json, Items, no_items, item, document}
 use Rattle.json.specs.Find.{get, at, is_null, as_str, as_number, as_array}
 use Rattle.canary_decimal.specs.declared.reading.Reading.{Reading}
 use Rattle.canary_decimal.specs.Spelling.{ReadsAs}
+use Rattle.canary_decimal.specs.Texts.{number_of}
 use Rattle.canary_measure.specs.declared.measured.Given.{Given}
-use Rattle.canary_measure.specs.declared.measured.Given.TheVariants.{Read, Null}
+use Rattle.canary_measure.specs.declared.measured.Given.TheVariants.{Read, Text as TextGiven, Null}
 use Rattle.canary_measure.specs.declared.measured.Measured.{Measured}
 use Rattle.canary_measure.specs.declared.measured.Measured.TheVariants.{One, Several}
 use Rattle.canary_provider.specs.declared.values.Kind.{Kind}
@@ -27,10 +28,20 @@ abbrev pub IsReadIn : Option (List ℕ) → Given → Type 0
 IsReadIn None given = ⊥
 IsReadIn (Some text) given = IsRead text given
 
--- null is null, and a number is what its very text says
-abbrev pub IsNullOr : Bool → Option (List ℕ) → Given → Type 0
-IsNullOr true number given = given ≡ Null
-IsNullOr false number given = IsReadIn number given
+-- a text as Go's ParseFloat and ParseInt read it
+abbrev pub IsTextIn : Option (List ℕ) → Given → Type 0
+IsTextIn None given = ⊥
+IsTextIn (Some text) given = given ≡ TextGiven (number_of text)
+
+-- a number is what its very text says
+abbrev pub IsNumberOr : Option (List ℕ) → Option (List ℕ) → Given → Type 0
+IsNumberOr None text given = IsTextIn text given
+IsNumberOr (Some number) text given = IsRead number given
+
+-- null is null, and else it is a number or a text
+abbrev pub IsNullOr : Bool → Option (List ℕ) → Option (List ℕ) → Given → Type 0
+IsNullOr true number text given = given ≡ Null
+IsNullOr false number text given = IsNumberOr number text given
 
 -- the text of the member of that key
 abbrev pub text_at : List ℕ → Json → Option (List ℕ)
@@ -46,7 +57,7 @@ sample_text j = option_and_then (text_item 1) (get (codes "value") j)
 
 -- the value of an item of a list
 abbrev pub IsValue : Kind → Json → Given → Type 0
-IsValue Plain j given = IsNullOr (is_null j) (as_number j) given
+IsValue Plain j given = IsNullOr (is_null j) (as_number j) (as_str j) given
 IsValue Sample j given = IsReadIn (sample_text j) given
 
 -- the values of a list, in its order

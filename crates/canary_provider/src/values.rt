@@ -1,12 +1,13 @@
 //! The values of a reply, each by its very text.
 ghost use Rattle.std.specs.Prelude.{◌≡◌, false, option_map, IfOk, IfErr};
-ghost use Rattle.json.specs.Find.{as_array};
+ghost use Rattle.json.specs.Find.{as_array, as_str};
 ghost use Rattle.json.specs.Value.{value_view, items_view};
 ghost use Rattle.canary_provider.specs.Answers.{text_at, text_item, sample_text, is_memory};
-ghost use Rattle.canary_provider.specs.Answers.{IsRead, IsValue, AreValues, Refutes};
+ghost use Rattle.canary_provider.specs.Answers.{IsRead, IsTextIn, IsValue, AreValues, Refutes};
 
 use crate::failure::ReplyFault;
 use canary_decimal::reading::read;
+use canary_decimal::text::number_of;
 use canary_measure::measured::Given;
 use json::Value;
 use std::alloc::Global;
@@ -62,19 +63,30 @@ pub(crate) fn number<'a>(alloc: Global, text: &'a str) -> Result<Given, ReplyFau
     }
 }
 
-// What is no number.
+// What is no number and no text.
 fn other<'a>(value: &Value<'a>) -> ReplyFault<'a>
     ensures { is_memory result ≡ false }
 {
     match value {
-        Value::String(text) => ReplyFault::Text("a text, and no number", text),
         Value::Bool(_) => ReplyFault::Has("true or false, and no number"),
         Value::Array(_) => ReplyFault::Has("a list, and no number"),
         _ => ReplyFault::Has("an object, and no number"),
     }
 }
 
-/// The value that is null or a number.
+// The value that is a text.
+fn text<'a>(alloc: Global, value: &Value<'a>) -> Result<Given, ReplyFault<'a>>
+    ensures sound { IfOk result (λ given. IsTextIn (as_str (value_view value.now)) given) }
+    ensures complete { IfErr result
+        (λ fault. Refutes (IsTextIn (as_str (value_view value.now))) fault) }
+{
+    match value.as_str() {
+        Some(text) => Ok(Given::Text(number_of(alloc, text)?)),
+        None => Err(other(value)),
+    }
+}
+
+/// The value that is null, a number or a text.
 pub(crate) fn plain<'a>(alloc: Global, value: &Value<'a>) -> Result<Given, ReplyFault<'a>>
     ensures sound { IfOk result (λ given. IsValue Kind.Plain (value_view value.now) given) }
     ensures complete { IfErr result
@@ -85,7 +97,7 @@ pub(crate) fn plain<'a>(alloc: Global, value: &Value<'a>) -> Result<Given, Reply
     }
     match value.as_number() {
         Some(text) => number(alloc, text),
-        None => Err(other(value)),
+        None => text(alloc, value),
     }
 }
 

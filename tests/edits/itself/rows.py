@@ -389,6 +389,14 @@ def row_what_there_is_no_time_for_waits(tree):
     want(late.waiting, not late.waiting and sorted(late.kept) == BOTH)
 
 
+def row_long_proofs_leave_less_time(_):
+    for proofs, wanted in ((30, 20), (110, 20), (118, 12), (130, 0), (170, 0)):
+        made = lanes_after(None)
+        made.made -= 60 * proofs
+        made.take_part()
+        want(f"{proofs} minutes of proofs: {made.minutes}", abs(made.minutes - wanted) < 0.5)
+
+
 def row_turn_is_taken_from_main(tree):
     git = ["git", "-C", str(tree.root), "-c", "user.name=a", "-c", "user.email=a@b"]
 
