@@ -386,8 +386,10 @@ def try_workflow_services(world):
     not wait for another one's; and what somebody gives for a service is a word, and no command."""
     with world.desk("workflow-services") as desk:
         setup = Caller(desk, "setup")
-        for name in ("web", "api"):
-            setup.send({"service": {"version": "v1", "manifest": two_pauses(name)}})
+        # the job leaves a timed pause alone, so the abort comes in time on any machine
+        timed = rollout("web", {"setWeight": 20}, {"pause": {"duration": "600s"}})
+        for manifest in (timed, two_pauses("api")):
+            setup.send({"service": {"version": "v1", "manifest": manifest}})
         with until_done(desk, "abort web"):
             expect("web, aborted", run_workflow(desk, "1", "v2"), [DONE, REFUSED])
         expect("api", run_workflow(desk, "1", "v2", service="api"), [DONE, DONE])
