@@ -7,7 +7,7 @@ import random
 import threading
 import time
 
-from parts import HAProxy, filled
+from parts import OPERATIONS, HAProxy, filled
 from world import (
     ABORTED, ADDED, ENDED, PROMOTED, STARTED, Late, Wrong, expect, free_port, shows, two_pauses,
     wait_until,
@@ -202,7 +202,8 @@ def four_desks(world):
         folder, port = world.place("desks"), free_port()
         places = [(f"127.0.0.1:{8101 + at}", f"127.0.0.1:{desks[name].port}")
                   for at, name in enumerate(GROUPS)]
-        text = filled("desks.haproxy.cfg", ("127.0.0.1:8080", f"127.0.0.1:{port}"), *places)
+        text = filled("desks.haproxy.cfg", ("127.0.0.1:8080", f"127.0.0.1:{port}"),
+                      ("/etc/canary/added-service.lua", OPERATIONS / "added-service.lua"), *places)
         stack.enter_context(HAProxy(folder, port, text))
         yield desks, port
 
@@ -247,3 +248,73 @@ def try_desks(world):
         expect("the others are answered at once", [sender.again for sender in others], [0, 0, 0])
     for name, sender in senders.items():
         want_same_alone(world, name, sender)
+
+
+def spellings(own, other):
+    """Bodies that add a service, by what is odd about each: in some of them one reader of JSON finds
+    the name `own`, and another one `other`."""
+    plain = json.dumps({"service": {"version": "v0", "manifest": two_pauses(other)}})
+    named = f'"name": "{other}"'
+    outer = json.dumps(two_pauses(own))
+    twice = {
+        "a name": (named, f'"name": "{own}", {named}'),
+        "a name, the other way round": (named, f'{named}, "name": "{own}"'),
+        "a name, once by an escape": (named, f'"n\\u0061me": "{own}", {named}'),
+        "the metadata": ('"metadata": ', f'"metadata": {{"name": "{own}"}}, "metadata": '),
+        "the manifest": ('"manifest": ', f'"manifest": {outer}, "manifest": '),
+        "the service": ('{"service": ', f'{{"service": {{"version": "v0", "manifest": {outer}}}, '
+                        '"service": '),
+    }
+    escaped = {
+        "service": ('"service"', '"\\u0073ervice"'),
+        "manifest": ('"manifest"', '"manif\\u0065st"'),
+        "metadata": ('"metadata"', '"\\u006D\\u0065tadata"'),
+        "name": (named, f'"nam\\u0065": "{other}"'),
+        "the first letter of the name": (f'"{other}"', f'"\\u{ord(other[0]):04x}{other[1:]}"'),
+        "the hyphen": (f'"{other}"', '"' + other.replace("-", "\\u002d") + '"'),
+    }
+    beside = {
+        "a long list": f'"annotations": {{"note": {[1] * 20000}}}, ',
+        "a deep list": f'"annotations": {{"note": {"[" * 90}{"]" * 90}}}, ',
+        "a list too deep": f'"annotations": {{"note": {"[" * 110}{"]" * 110}}}, ',
+        "a name in a text": f'"annotations": {{"note": "\\"name\\": \\"{own}\\""}}, ',
+        "the end of a text escaped": '"annotations": {"note": "\\\\"}, ',
+        "numbers": '"annotations": {"note": [-0.0, 1E+5, 1e-05, true, null]}, ',
+        "the name of something else": f'"ownerReferences": [{{"name": "{own}"}}], ',
+        "a letter beyond ASCII": '"annotations": {"note": "\u00e9\\ud83d\\ude00"}, ',
+    }
+    found = {"plain": plain, "spaces": plain.replace(":", "\t:\r\n").replace("{", "{ ")}
+    changes = {**{f"twice: {row}": it for row, it in twice.items()},
+               **{f"escaped: {row}": it for row, it in escaped.items()},
+               **{f"beside it: {row}": (named, it + named) for row, it in beside.items()}}
+    for row, (old, new) in changes.items():
+        expect(f"{row}: places", plain.count(old) >= 1, True)
+        found[row] = plain.replace(old, new, 1)
+    return found
+
+
+def try_spellings(world):
+    """However the JSON of a service is spelled, no desk gets one of another group; and a service of
+    the caller's own group is added, unless a key occurs twice or its lists are too deep."""
+    with four_desks(world) as (desks, port):
+        sent = {name: 0 for name in GROUPS}
+        rows = spellings("shop-1", "pay-1")
+        for at, row in enumerate(rows):
+            for own, other in (("shop", "pay"), ("pay", "pay")):
+                body = spellings(f"{own}-{own}{at}", f"{other}-{own}{at}")[row]
+                found = ask_spelled(port, f"/callers/{own}-ops/requests/{sent[own] + 1}", body)
+                is_odd = own != other or "twice" in row or "too deep" in row
+                expect(f"{row}: {own} adds one of {other}", found, NOBODY[0] if is_odd else 200)
+                sent[own] += not is_odd
+        for name, desk in desks.items():
+            added = [it for it, in desk.rows("SELECT name FROM services ORDER BY name")]
+            expect(f"the services of {name}", [it for it in added if not it.startswith(name)], [])
+            expect(f"the count of {name}", len(added), sent[name])
+
+
+def ask_spelled(port, path, body):
+    """The status of the reply to a body that is sent as it is."""
+    connection = http.client.HTTPConnection("127.0.0.1", port, timeout=30)
+    with contextlib.closing(connection):
+        connection.request("PUT", path, body.encode())
+        return connection.getresponse().status

@@ -28,6 +28,7 @@ NEEDS = {
     "try_nginx": {"nginx"},
     "try_nginx_words": {"nginx"},
     "try_desks": {"haproxy"},
+    "try_spellings": {"haproxy"},
     "try_roles_haproxy": {"haproxy", "openssl", "curl"},
     "try_roles_nginx": {"nginx", "haproxy", "openssl", "curl"},
     "try_loop": {"haproxy", "prometheus"},
