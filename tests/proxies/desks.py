@@ -195,11 +195,11 @@ def want_same_alone(world, name, sender):
 
 
 @contextlib.contextmanager
-def four_desks(world):
+def four_desks(world, part):
     """Four desks by desks.haproxy.cfg, each by the name of its group, and HAProxy's port."""
     with contextlib.ExitStack() as stack:
-        desks = {name: stack.enter_context(world.desk(f"desk-{name}")) for name in GROUPS}
-        folder, port = world.place("desks"), free_port()
+        desks = {name: stack.enter_context(world.desk(f"{part}-{name}")) for name in GROUPS}
+        folder, port = world.place(part), free_port()
         places = [(f"127.0.0.1:{8101 + at}", f"127.0.0.1:{desks[name].port}")
                   for at, name in enumerate(GROUPS)]
         text = filled("desks.haproxy.cfg", ("127.0.0.1:8080", f"127.0.0.1:{port}"),
@@ -226,7 +226,7 @@ def try_desks(world):
     rules and by such a desk. While one desk is away, those of the other groups are answered, and
     none of them is sent again."""
     count, is_over = 2500 if world.is_whole else 250, threading.Event()
-    with four_desks(world) as (desks, port):
+    with four_desks(world, "desks") as (desks, port):
         senders = {name: Sender(Group(name, count), port) for name in GROUPS}
         others = [sender for name, sender in senders.items() if name != "pay"]
         with concurrent.futures.ThreadPoolExecutor(len(GROUPS)) as pool:
@@ -296,7 +296,7 @@ def spellings(own, other):
 def try_spellings(world):
     """However the JSON of a service is spelled, no desk gets one of another group; and a service of
     the caller's own group is added, unless a key occurs twice or its lists are too deep."""
-    with four_desks(world) as (desks, port):
+    with four_desks(world, "spelled") as (desks, port):
         sent = {name: 0 for name in GROUPS}
         rows = spellings("shop-1", "pay-1")
         for at, row in enumerate(rows):
@@ -307,7 +307,7 @@ def try_spellings(world):
                 expect(f"{row}: {own} adds one of {other}", found, NOBODY[0] if is_odd else 200)
                 sent[own] += not is_odd
         for name, desk in desks.items():
-            added = [it for it, in desk.rows("SELECT name FROM services ORDER BY name")]
+            added = [it for it, in desk.rows("SELECT name FROM service ORDER BY name")]
             expect(f"the services of {name}", [it for it in added if not it.startswith(name)], [])
             expect(f"the count of {name}", len(added), sent[name])
 
