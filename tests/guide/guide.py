@@ -12,7 +12,7 @@ import time
 
 ROOT, PROGRAM, WORK = pathlib.Path(sys.argv[1]), sys.argv[2], pathlib.Path(sys.argv[3])
 # How often the page is played: a machine that has much to do may abort the good version, too.
-TRIES = 2
+TRIES = 3
 FENCE = re.compile(r"^```(sh|text)\n(.*?)^```$", re.M | re.S)
 # The ports of the page and of its files, and the folder into which it copies the examples.
 PORTS = ("8080", "8081", "9090", "9101", "9102", "9103")
